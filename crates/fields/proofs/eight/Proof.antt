@@ -1,0 +1,37 @@
+use native.Mathlib.Omega.{arith}
+use Prim.Native.Nat.{_+_}
+use Rattle.fields.proofs.Le.{le-lt, le-split}
+use mathlib.Core.Path.{sym}
+use borrow.Author.Needs.{needs}
+use Rattle.fields.proofs.eight.Statement.{statement}
+use Rattle.fields.proofs.eight.Tie as tie
+use Rattle.fields.proofs.eight.Reads as reads
+use Rattle.fields.proofs.eight.Lts as lts
+use Rattle.fields.proofs.four.Reads as four-reads
+
+four-requires : tie.Need-four-requires
+four-requires c κs = search needs
+
+add-four : tie.Need-add-four
+add-four c = search needs
+
+four-requires-2 : tie.Need-four-requires-2
+four-requires-2 c κs = search needs
+
+mul-result : tie.Need-mul-result
+mul-result c =
+    let a = c .before .before .before .args in
+    omega (arith, c .four2 .ensures, le-lt 4 (a .s .now) (a .at + 4) (c .before .before .shared-slice-known .given))
+
+add-result : tie.Need-add-result
+add-result c =
+    let a = c .before .before .before .args in
+    let b = c .before .before .shared-slice-known .given in
+    omega (arith, c .four2 .ensures, c .before .four .ensures, le-lt 4 (a .s .now) (a .at + 4) b, le-lt 4 (a .s .now) (a .at) b)
+
+returns : tie.Need-returns
+returns c = rw (c .four2 .ensures, c .before .four .ensures) (sym (le-split 4 4 _ _))
+
+pub eight-spec : {M : Type 1} → statement M
+eight-spec =
+    tie.close (tie.spec four-requires add-four four-requires-2 mul-result add-result returns)

@@ -1,0 +1,5 @@
+pub mod Refusals
+pub mod Parse
+pub mod Answers
+pub mod Bounded
+pub mod Outcome

@@ -1,0 +1,262 @@
+// Little-endian fields at an offset of a slice: the value and the offset past it, or the refusal.
+ghost use mathlib.Core.Path.{_≡_};
+ghost use mir.Syntax.{w32, w64};
+ghost use Prim.Native.Nat.{_+_, _≤_};
+ghost use lib.ListN.{length, take, drop};
+ghost use lib.Dec.{leb};
+ghost use Rattle.fields.specs.Parse.{le, int, uint, bind, span, taken, pad, flag, u8, u16, u32, u64, i32, i64};
+ghost use Rattle.fields.specs.Bounded.{bounded};
+ghost use Rattle.fields.specs.Answers.{of-skip, of-u8, of-u16, of-u32, of-u64, of-i32, of-i64};
+
+// The refusals of document 01's table that reading gives.
+pub const SHORT_FILE: u8 = 1;
+
+pub const NAME_NOT_TEXT: u8 = 2;
+
+pub const WRONG_MARK: u8 = 3;
+
+pub const UNKNOWN_MACHINE: u8 = 4;
+
+pub const FOREIGN_REGISTER: u8 = 5;
+
+pub const UNKNOWN_OPERAND_KIND: u8 = 6;
+
+pub const UNKNOWN_OPERATION: u8 = 7;
+
+pub const WRONG_OPERAND_COUNT: u8 = 8;
+
+pub const REPEATED_BLOCK: u8 = 9;
+
+pub const LENDING_TOO_LARGE: u8 = 10;
+
+pub const SPOILED_BOOK: u8 = 13;
+
+pub enum U8Read {
+    Value(u8, usize),
+    Refused(u8),
+}
+
+pub enum U16Read {
+    Value(u16, usize),
+    Refused(u8),
+}
+
+pub enum U32Read {
+    Value(u32, usize),
+    Refused(u8),
+}
+
+pub enum U64Read {
+    Value(u64, usize),
+    Refused(u8),
+}
+
+pub enum I32Read {
+    Value(i32, usize),
+    Refused(u8),
+}
+
+pub enum I64Read {
+    Value(i64, usize),
+    Refused(u8),
+}
+
+// A part of the file that is passed over: the offset past it, or the refusal.
+pub enum Skip {
+    Past(usize),
+    Refused(u8),
+}
+
+// A number of `k` bytes.
+pub fn uint_at(s: &[u8], at: usize, k: usize) -> U64Read
+    requires { ⌜ k ≤ 8 ⌝ }
+    ensures { λ r. ⌜ of-u64 r ≡ uint k (now (s .entry)) at ⌝ }
+{
+    if s.len() < at {
+        return U64Read::Refused(SHORT_FILE);
+    }
+    if s.len() - at < k {
+        return U64Read::Refused(SHORT_FILE);
+    }
+    let mut v: u64 = 0;
+    let mut i = k;
+    while 0 < i {
+        i -= 1;
+        v = s[at + i] as u64 + 256 * v;
+    }
+    U64Read::Value(v, at + k)
+}
+
+pub fn u8_at(s: &[u8], at: usize) -> U8Read
+    ensures { λ r. ⌜ of-u8 r ≡ u8 (now (s .entry)) at ⌝ }
+{
+    match uint_at(s, at, 1) {
+        U64Read::Value(v, n) => U8Read::Value(v as u8, n),
+        U64Read::Refused(e) => U8Read::Refused(e),
+    }
+}
+
+pub fn u16_at(s: &[u8], at: usize) -> U16Read
+    ensures { λ r. ⌜ of-u16 r ≡ u16 (now (s .entry)) at ⌝ }
+{
+    match uint_at(s, at, 2) {
+        U64Read::Value(v, n) => U16Read::Value(v as u16, n),
+        U64Read::Refused(e) => U16Read::Refused(e),
+    }
+}
+
+// The number of the 2, 4 and 8 bytes from `at`: without a loop, so that each is one load.
+pub fn two(s: &[u8], at: usize) -> u64
+    requires { ⌜ at + 2 ≤ length (now s) ⌝ }
+    ensures { λ r. ⌜ r ≡ le 2 (now (s .entry)) at ⌝ }
+{
+    s[at] as u64 + 0x100 * (s[at + 1] as u64)
+}
+
+pub fn four(s: &[u8], at: usize) -> u64
+    requires { ⌜ at + 4 ≤ length (now s) ⌝ }
+    ensures { λ r. ⌜ r ≡ le 4 (now (s .entry)) at ⌝ }
+{
+    two(s, at) + 0x1_0000 * two(s, at + 2)
+}
+
+pub fn eight(s: &[u8], at: usize) -> u64
+    requires { ⌜ at + 8 ≤ length (now s) ⌝ }
+    ensures { λ r. ⌜ r ≡ le 8 (now (s .entry)) at ⌝ }
+{
+    four(s, at) + 0x1_0000_0000 * four(s, at + 4)
+}
+
+// Whether `k` bytes from `at` stand in the file.
+pub fn within(s: &[u8], at: usize, k: usize) -> bool
+    ensures { λ r. ⌜ r ≡ leb (at + k) (length (now (s .entry))) ⌝ }
+{
+    if s.len() < at {
+        return false;
+    }
+    k <= s.len() - at
+}
+
+pub fn u32_at(s: &[u8], at: usize) -> U32Read
+    ensures { λ r. ⌜ of-u32 r ≡ u32 (now (s .entry)) at ⌝ }
+{
+    if within(s, at, 4) {
+        U32Read::Value(four(s, at) as u32, at + 4)
+    } else {
+        U32Read::Refused(SHORT_FILE)
+    }
+}
+
+pub fn u64_at(s: &[u8], at: usize) -> U64Read
+    ensures { λ r. ⌜ of-u64 r ≡ u64 (now (s .entry)) at ⌝ }
+{
+    if within(s, at, 8) {
+        U64Read::Value(eight(s, at), at + 8)
+    } else {
+        U64Read::Refused(SHORT_FILE)
+    }
+}
+
+// A number of 32 bits in two's complement.
+pub fn signed32(v: u32) -> i32
+    ensures { λ r. ⌜ r ≡ int w32 v ⌝ }
+{
+    if v < 0x8000_0000 {
+        v as i32
+    } else {
+        -1 - ((0xffff_ffff - v) as i32)
+    }
+}
+
+pub fn i32_at(s: &[u8], at: usize) -> I32Read
+    ensures { λ r. ⌜ of-i32 r ≡ i32 (now (s .entry)) at ⌝ }
+{
+    match u32_at(s, at) {
+        U32Read::Value(v, n) => I32Read::Value(signed32(v), n),
+        U32Read::Refused(e) => I32Read::Refused(e),
+    }
+}
+
+pub fn signed64(v: u64) -> i64
+    ensures { λ r. ⌜ r ≡ int w64 v ⌝ }
+{
+    if v < 0x8000_0000_0000_0000 {
+        v as i64
+    } else {
+        -1 - ((0xffff_ffff_ffff_ffff - v) as i64)
+    }
+}
+
+pub fn i64_at(s: &[u8], at: usize) -> I64Read
+    ensures { λ r. ⌜ of-i64 r ≡ i64 (now (s .entry)) at ⌝ }
+{
+    match u64_at(s, at) {
+        U64Read::Value(v, n) => I64Read::Value(signed64(v), n),
+        U64Read::Refused(e) => I64Read::Refused(e),
+    }
+}
+
+// The `n` bytes from `at`.
+pub fn part_of(s: &[u8], at: usize, n: usize) -> &[u8]
+    requires { ⌜ at + n ≤ length (now s) ⌝ }
+    ensures { λ r. ⌜ now r ≡ take n (drop at (now (s .entry))) ⌝ }
+{
+    let end = at + n;
+    &s[at..end]
+}
+
+// A field of `k` bytes is passed over, after what was passed over so far.
+pub fn then_uint(s: &[u8], far: Skip, k: usize) -> Skip
+    requires { ⌜ k ≤ 8 ⌝ }
+    ensures { λ r. ⌜ of-skip r ≡ bind (of-skip far) (λ _ n. span (uint k (now (s .entry)) n)) ⌝ }
+{
+    if let Skip::Past(at) = far {
+        if within(s, at, k) {
+            Skip::Past(at + k)
+        } else {
+            Skip::Refused(SHORT_FILE)
+        }
+    } else {
+        far
+    }
+}
+
+// Whether the byte `b` is taken where the written form has at most `most`.
+fn is_taken(exact: bool, most: u8, b: u8) -> bool
+    ensures { λ r. ⌜ r ≡ taken exact most b ⌝ }
+{
+    if exact { b <= most } else { true }
+}
+
+// A byte that the written form has at most `most` of, after what was passed over so far.
+fn then_byte(s: &[u8], far: Skip, exact: bool, most: u8) -> Skip
+    ensures { λ r. ⌜ of-skip r ≡ bind (of-skip far) (λ _ n. bounded exact most (now (s .entry)) n) ⌝ }
+{
+    if let Skip::Past(at) = far {
+        if within(s, at, 1) {
+            if is_taken(exact, most, s[at]) {
+                Skip::Past(at + 1)
+            } else {
+                Skip::Refused(SPOILED_BOOK)
+            }
+        } else {
+            Skip::Refused(SHORT_FILE)
+        }
+    } else {
+        far
+    }
+}
+
+// The header's pad is passed over.
+pub fn then_pad(s: &[u8], far: Skip, exact: bool) -> Skip
+    ensures { λ r. ⌜ of-skip r ≡ bind (of-skip far) (λ _ n. span (pad exact (now (s .entry)) n)) ⌝ }
+{
+    then_byte(s, far, exact, 0)
+}
+
+// An sp reset or purge byte is passed over.
+pub fn then_flag(s: &[u8], far: Skip, exact: bool) -> Skip
+    ensures { λ r. ⌜ of-skip r ≡ bind (of-skip far) (λ _ n. span (flag exact (now (s .entry)) n)) ⌝ }
+{
+    then_byte(s, far, exact, 1)
+}

@@ -1,0 +1,68 @@
+use native.Mathlib.Omega.{arith}
+use mathlib.Core.Path.{_≡_, sym, _∙_, ap}
+use Prim.Native.Nat.{_+_, _*_}
+use Rattle.op.proofs.Packed.{low-below, known, hash-fits}
+use borrow.Author.Needs.{needs}
+use Rattle.op.proofs.guess.Statement.{statement}
+use Rattle.op.proofs.guess.Tie as tie
+use Rattle.op.proofs.guess.Reads as reads
+use Rattle.op.proofs.guess.Lts as lts
+use Rattle.fields.proofs.eight.Reads as eight-reads
+use Rattle.op.proofs.entry.Reads as entry-reads
+use Rattle.op.proofs.low.Reads as low-reads
+
+returns : tie.Need-returns
+returns c = λ h. absurd (omega arith)
+
+returns-2 : tie.Need-returns-2
+returns-2 c = λ h. absurd (omega arith)
+
+eight-requires : tie.Need-eight-requires
+eight-requires c κs = search needs
+
+low-requires : tie.Need-low-requires
+low-requires c κs = search needs
+
+mul-v : tie.Need-mul-v
+mul-v c = search needs
+
+add-v : tie.Need-add-v
+add-v c = omega (arith, c .low .ensures, low-below (c .before .eight .result) (c .before .before .before .before .before .args .n) (omega arith))
+
+add-f : tie.Need-add-f
+add-f c = search needs
+
+mul-entry : tie.Need-mul-entry
+mul-entry c =
+    let n = c .before .before .before .before .before .args .n in
+    let b = low-below (c .before .eight .result) n (omega arith) in
+    record { fits = hash-fits (c .low .result + 281474976710656 * n) (omega (arith, c .low .ensures)) }
+
+entry-requires : tie.Need-entry-requires
+entry-requires c κs = search needs
+
+returns-3 : tie.Need-returns-3
+returns-3 c = λ h.
+    let w = c .before .before in
+    let a = w .before .before .before .before in
+    known _ _ (a .before .args .n) (c .before .entry .result) (c .before .entry .ensures) (a .shared-slice-known .given) (a .before .pre) (omega arith)
+    (c .if3 .taken ∙ rw (w .low .ensures, w .before .eight .ensures))
+
+returns-4 : tie.Need-returns-4
+returns-4 c = λ h. absurd (omega arith)
+
+pub guess-spec : {M : Type 1} → statement M
+guess-spec =
+    tie.close
+    (tie.spec
+    returns
+    returns-2
+    eight-requires
+    low-requires
+    mul-v
+    add-v
+    add-f
+    mul-entry
+    entry-requires
+    returns-3
+    returns-4)

@@ -1,0 +1,55 @@
+use Rattle.fields.proofs.Steps.{steps}
+use mathlib.Core.Path.{_∙_, sym, ap}
+use Rattle.fields.specs.Answers.{of-u32, of-u64}
+use Rattle.pod.specs.Layout.{immediate}
+use borrow.Author.Needs.{needs}
+use Rattle.pod.proofs.immediate_at.Statement.{statement}
+use Rattle.pod.proofs.immediate_at.Tie as tie
+use Rattle.pod.proofs.immediate_at.Reads as reads
+use Rattle.pod.proofs.immediate_at.Lts as lts
+use Rattle.fields.proofs.u32_at.Reads as u32-at-reads
+use Rattle.fields.proofs.u64_at.Reads as u64-at-reads
+
+u64-at-requires : tie.Need-u64-at-requires
+u64-at-requires c κs = search needs
+
+enum-known-e : tie.Need-enum-known-e
+enum-known-e c = search needs
+
+enum-known-value : tie.Need-enum-known-value
+enum-known-value c = search needs
+
+u32-at-requires : tie.Need-u32-at-requires
+u32-at-requires c κs = search needs
+
+enum-known-e-2 : tie.Need-enum-known-e-2
+enum-known-e-2 c = search needs
+
+enum-known-width : tie.Need-enum-known-width
+enum-known-width c = search needs
+
+returns : tie.Need-returns
+unfolding immediate
+returns c = search (needs, steps)
+
+returns-2 : tie.Need-returns-2
+unfolding immediate
+returns-2 c = search (needs, steps)
+
+returns-3 : tie.Need-returns-3
+unfolding immediate
+returns-3 c = search (needs, steps)
+
+pub immediate-at-spec : {M : Type 1} → statement M
+immediate-at-spec =
+    tie.close
+    (tie.spec
+    u64-at-requires
+    enum-known-e
+    enum-known-value
+    u32-at-requires
+    enum-known-e-2
+    enum-known-width
+    returns
+    returns-2
+    returns-3)

@@ -1,0 +1,37 @@
+use Rattle.pod.proofs.Steps.{skips}
+use borrow.Author.Needs.{needs}
+use Rattle.pod.proofs.registers_skip.Statement.{statement}
+use Rattle.pod.proofs.registers_skip.Tie as tie
+use Rattle.pod.proofs.registers_skip.Reads as reads
+use Rattle.pod.proofs.registers_skip.Lts as lts
+use Rattle.fields.proofs.u32_at.Reads as u32-at-reads
+use Rattle.pod.proofs.registers_run.Reads as registers-run-reads
+
+u32-at-requires : tie.Need-u32-at-requires
+u32-at-requires c κs = search needs
+
+enum-known-e : tie.Need-enum-known-e
+enum-known-e c = search needs
+
+enum-known-count : tie.Need-enum-known-count
+enum-known-count c = search needs
+
+registers-run-requires : tie.Need-registers-run-requires
+registers-run-requires c κs = search needs
+
+returns : tie.Need-returns
+returns c = search (needs, skips)
+
+returns-2 : tie.Need-returns-2
+returns-2 c = search (needs, skips)
+
+pub registers-skip-spec : {M : Type 1} → statement M
+registers-skip-spec =
+    tie.close
+    (tie.spec
+    u32-at-requires
+    enum-known-e
+    enum-known-count
+    registers-run-requires
+    returns
+    returns-2)

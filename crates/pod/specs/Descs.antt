@@ -1,0 +1,103 @@
+-- An instruction by value: an operation number, a count and three operand places; and its writer.
+use Prim.Native.Nat.{ℕ, _/_, _^_}
+use mathlib.Core.List.{List, [], _∷_, _++_, map}
+use mathlib.Core.Bool.{Bool, true, false, not, _&&_, _||_}
+use lib.IntN.{pos}
+use lib.ListN.{length, getD, take, drop}
+use lib.Dec.{eqb, ltb}
+use Rattle.fields.specs.Refusals.{lending-too-large, unknown-operation, wrong-operand-count, foreign-register, unknown-operand-kind, image-full}
+use Rattle.fields.specs.Outcome.{Outcome, refused, accepted}
+use Rattle.fields.specs.Parse.{choose}
+use Rattle.op.specs.Ops.{counts}
+use Rattle.pod.specs.Values.{Instruction}
+use Rattle.pod.specs.Written.{bit, instruction-bytes}
+use Rattle.pod.specs.declared.Vip.{Vip}
+use Rattle.pod.specs.declared.RegisterDesc.{RegisterDesc}
+use Rattle.pod.specs.declared.ImmediateDesc.{ImmediateDesc}
+use Rattle.pod.specs.declared.Operand.{Operand}
+use Rattle.pod.specs.declared.Operand.the-variants.{Imm, Reg}
+use Rattle.pod.specs.declared.OperandDesc.{OperandDesc}
+use Rattle.pod.specs.declared.InstructionDesc.{InstructionDesc}
+
+abbrev pub no-register : RegisterDesc
+no-register = record { flags = 0; «combined_id» = 0; «bit_count» = pos 0; «bit_offset» = pos 0 }
+
+abbrev pub no-immediate : ImmediateDesc
+no-immediate = record { value = 0; «bit_count» = 0 }
+
+-- an operand in its place: the register fields of an immediate, and the immediate fields of a register, read as 0
+unfoldable pub operand-desc : Operand → OperandDesc
+operand-desc (Imm i) = record { kind = 0; immediate = i; register = no-register }
+operand-desc (Reg r) = record { kind = 1; immediate = no-immediate; register = r }
+
+-- an unused place: immediate 0 of width 0
+abbrev pub unused : OperandDesc
+unused = record { kind = 0; immediate = no-immediate; register = no-register }
+
+-- the operands in three places
+unfoldable pub places : List Operand → List OperandDesc
+places xs = take 3 (map operand-desc xs ++ unused ∷ unused ∷ unused ∷ [])
+
+-- an instruction by value
+unfoldable pub instruction-desc : Instruction → InstructionDesc
+instruction-desc i =
+    record {
+      op = i .op;
+      count = length (i .operands);
+      operands = places (i .operands);
+      vip = record { 0 = i .vip };
+      «sp_offset» = i .sp-offset;
+      «sp_index» = i .sp-index;
+      «sp_reset» = bit (i .sp-reset);
+    }
+
+-- The writer. The operands that count:
+abbrev pub used-operands : InstructionDesc → List OperandDesc
+used-operands d = take (d .count) (d .operands)
+
+unfoldable pub any : {A : Type 0} → (A → Bool) → List A → Bool
+any f [] = false
+any f (x ∷ xs) = f x || any f xs
+
+-- a register that no layout holds
+abbrev pub is-foreign : OperandDesc → Bool
+is-foreign d = eqb (d .kind) 1 && ltb 2 (d .register .«combined_id» / 2 ^ 56)
+
+-- a kind that no layout holds
+abbrev pub is-unknown : OperandDesc → Bool
+is-unknown d = ltb 1 (d .kind)
+
+abbrev pub desc-operand : OperandDesc → Operand
+desc-operand d = choose (eqb (d .kind) 0) (Imm (d .immediate)) (Reg (d .register))
+
+-- the instruction that a value stands for: nonzero sp reset is true
+unfoldable pub desc-instruction : InstructionDesc → Instruction
+desc-instruction d =
+    record {
+      op = d .op;
+      operands = map desc-operand (used-operands d);
+      vip = d .vip .0;
+      sp-offset = d .«sp_offset»;
+      sp-index = d .«sp_index»;
+      sp-reset = not (eqb (d .«sp_reset») 0);
+    }
+
+-- image and journal are at most this long
+abbrev pub most-lent : ℕ
+most-lent = 16777216
+
+-- what is written of an instruction value into an image of n bytes: 10, 7, 8, 5, 6, then 11
+unfoldable pub writing : ℕ → InstructionDesc → Outcome (List ℕ)
+writing n d =
+    choose (ltb most-lent n) (refused lending-too-large)
+    (choose (ltb 48 (d .op)) (refused unknown-operation)
+    (choose (not (eqb (d .count) (getD counts (d .op) 0))) (refused wrong-operand-count)
+    (choose (any is-foreign (used-operands d)) (refused foreign-register)
+    (choose (any is-unknown (used-operands d)) (refused unknown-operand-kind)
+    (choose (ltb n (length (instruction-bytes (desc-instruction d)))) (refused image-full)
+    (accepted (instruction-bytes (desc-instruction d))))))))
+
+-- the image after it: the bytes at its start, and no byte after them touched
+unfoldable pub written-over : List ℕ → Outcome (List ℕ) → List ℕ
+written-over image (accepted b) = b ++ drop (length b) image
+written-over image (refused e) = image

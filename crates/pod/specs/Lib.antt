@@ -1,0 +1,6 @@
+pub mod Values
+pub mod Blocks
+pub mod Layout
+pub mod Written
+pub mod Answers
+pub mod Descs
