@@ -221,8 +221,8 @@ pub fn then_uint(s: &[u8], far: Skip, k: usize) -> Skip
     }
 }
 
-// Whether the byte `b` is taken where the written form has at most `most`.
-fn is_taken(exact: bool, most: u8, b: u8) -> bool
+// Whether the byte `b` is taken where the written form has at most `most`: any, unless `exact`.
+pub fn is_taken(exact: bool, most: u8, b: u8) -> bool
     ensures { λ r. ⌜ r ≡ taken exact most b ⌝ }
 {
     if exact { b <= most } else { true }

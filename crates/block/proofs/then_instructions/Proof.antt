@@ -1,0 +1,55 @@
+use Rattle.fields.proofs.Chain.{far-past, far-refused}
+use Rattle.fields.proofs.Steps.{skip-on-u32, skip-off-u32}
+use borrow.Author.Needs.{needs}
+use Rattle.block.proofs.then_instructions.Statement.{statement}
+use Rattle.block.proofs.then_instructions.Tie as tie
+use Rattle.block.proofs.then_instructions.Reads as reads
+use Rattle.block.proofs.then_instructions.Lts as lts
+use Rattle.block.proofs.instructions_run.Reads as instructions-run-reads
+use Rattle.fields.proofs.u32_at.Reads as u32-at-reads
+
+enum-known-far : tie.Need-enum-known-far
+enum-known-far c = search needs
+
+u32-at-requires : tie.Need-u32-at-requires
+u32-at-requires c κs = search needs
+
+enum-known-e : tie.Need-enum-known-e
+enum-known-e c = search needs
+
+enum-known-count : tie.Need-enum-known-count
+enum-known-count c = search needs
+
+instructions-run-requires : tie.Need-instructions-run-requires
+instructions-run-requires c κs = search needs
+
+enum-told : tie.Need-enum-told
+enum-told c = search needs
+
+returns : tie.Need-returns
+returns c =
+    far-past _ (c .before .before .before .before .before .far .given .1)
+    (skip-off-u32 _ (c .before .e .given .1) (c .before .before .before .u32-at .ensures))
+
+returns-2 : tie.Need-returns-2
+returns-2 c =
+    let k = c .before in
+    far-past _ (k .before .before .before .before .before .far .given .1)
+    (skip-on-u32 _ (k .before .count .given .1) (k .before .before .before .u32-at .ensures) (c .instructions-run .ensures))
+
+returns-3 : tie.Need-returns-3
+returns-3 c = far-refused _ (c .enum-told .given .1)
+
+pub then-instructions-spec : {M : Type 1} → statement M
+then-instructions-spec =
+    tie.close
+    (tie.spec
+    enum-known-far
+    u32-at-requires
+    enum-known-e
+    enum-known-count
+    instructions-run-requires
+    enum-told
+    returns
+    returns-2
+    returns-3)

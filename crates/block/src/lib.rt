@@ -1,0 +1,79 @@
+// Blocks.
+ghost use mathlib.Core.Path.{_≡_};
+ghost use Rattle.fields.specs.Parse.{many, counted, bind, span, u64};
+ghost use Rattle.fields.specs.Answers.{of-skip};
+ghost use Rattle.pod.specs.Layout.{instruction, block};
+use fields::Skip;
+use fields::U32Read;
+use fields::U64Read;
+
+// `count` instructions.
+pub fn instructions_run(s: &[u8], at: usize, count: u32, exact: bool) -> Skip
+    ensures { λ r. ⌜ of-skip r ≡ span (many (instruction exact) count (now (s .entry)) at) ⌝ }
+{
+    let mut left = count;
+    let mut o = at;
+    while 0 < left {
+        match instruction::instruction_skip(s, o, exact) {
+            Skip::Refused(e) => return Skip::Refused(e),
+            Skip::Past(n) => o = n,
+        }
+        left -= 1;
+    }
+    Skip::Past(o)
+}
+
+// `count` vips.
+pub fn vips_run(s: &[u8], at: usize, count: u32) -> Skip
+    ensures { λ r. ⌜ of-skip r ≡ span (many u64 count (now (s .entry)) at) ⌝ }
+{
+    let mut left = count;
+    let mut o = at;
+    while 0 < left {
+        match fields::u64_at(s, o) {
+            U64Read::Refused(e) => return Skip::Refused(e),
+            U64Read::Value(_, n) => o = n,
+        }
+        left -= 1;
+    }
+    Skip::Past(o)
+}
+
+pub fn then_instructions(s: &[u8], far: Skip, exact: bool) -> Skip
+    ensures { λ r. ⌜ of-skip r ≡ bind (of-skip far) (λ _ n. span (counted (instruction exact) (now (s .entry)) n)) ⌝ }
+{
+    if let Skip::Past(at) = far {
+        match fields::u32_at(s, at) {
+            U32Read::Refused(e) => Skip::Refused(e),
+            U32Read::Value(count, a) => instructions_run(s, a, count, exact),
+        }
+    } else {
+        far
+    }
+}
+
+pub fn then_vips(s: &[u8], far: Skip) -> Skip
+    ensures { λ r. ⌜ of-skip r ≡ bind (of-skip far) (λ _ n. span (counted u64 (now (s .entry)) n)) ⌝ }
+{
+    if let Skip::Past(at) = far {
+        match fields::u32_at(s, at) {
+            U32Read::Refused(e) => Skip::Refused(e),
+            U32Read::Value(count, a) => vips_run(s, a, count),
+        }
+    } else {
+        far
+    }
+}
+
+// The block at `at` is passed over.
+pub fn block_skip(s: &[u8], at: usize, exact: bool) -> Skip
+    ensures { λ r. ⌜ of-skip r ≡ span (block exact (now (s .entry)) at) ⌝ }
+{
+    let a = fields::then_uint(s, Skip::Past(at), 8);
+    let b = fields::then_uint(s, a, 8);
+    let c = fields::then_uint(s, b, 4);
+    let d = fields::then_uint(s, c, 4);
+    let e = then_instructions(s, d, exact);
+    let f = then_vips(s, e);
+    then_vips(s, f)
+}

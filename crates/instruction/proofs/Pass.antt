@@ -1,0 +1,66 @@
+-- An instruction that is passed over where nothing is refused.
+-- Assumes nothing.
+use mathlib.Core.Path.{_≡_, refl, sym, ap, _∙_}
+use mathlib.Core.Bool.{Bool, true}
+use mathlib.Core.List.{List}
+use Prim.Native.Nat.{ℕ, _+_, _-_, _≤_, _<_}
+use native.Mathlib.Omega.{arith}
+use lib.ListN.{length, getD, take, drop}
+use borrow.Author.Tests.{lt-ltb, eq-eqb}
+use Rattle.fields.specs.Parse.{Res, ok, no, Reader, bind, choose, span, le, uint, part, many, taken, flag}
+use Rattle.fields.proofs.Le.{uint-ok, span-ok}
+use Rattle.fields.proofs.Bound.{bounded-ok, flag-is}
+use Rattle.fields.proofs.Steps.{on-check, on-part}
+use Rattle.fields.proofs.Many.{run-next}
+use Rattle.op.specs.Ops.{number, counts}
+use Rattle.op.proofs.Packed.{text-of}
+use Rattle.pod.specs.Layout.{operand, named, opcode, after, instruction}
+use Rattle.op.specs.Packed.{Known}
+use Rattle.instruction.specs.Listed.{listed}
+use Rattle.instruction.proofs.Skip.{after-skip}
+
+on-field : {A : Type 0} (k : ℕ) (s : List ℕ) (o : ℕ) (f : ℕ → ℕ → Res A) {x : Res A} → o + k ≤ length s → x ≡ f (le k s o) (o + k) → x ≡ bind (uint k s o) f
+unfolding bind
+on-field k s o f h e = rw (uint-ok k s o h) e
+
+module _ (exact : Bool) (s : List ℕ) (at n k : ℕ) (h : at + 4 + n + 4 ≤ length s) (l : k < 49) (e : n ≡ le 4 s at) (m : number (take n (drop (at + 4) s)) ≡ k) where
+  name-ok : le 4 s (at + 4 + n) ≡ getD counts k 0 → ok k (at + 4 + n + 4) ≡ named (take n (drop (at + 4) s)) s (at + 4 + n)
+  unfolding named
+  name-ok c =
+      on-check _ _ _ (text-of _ k l m)
+      (on-field 4 s (at + 4 + n) _ h
+      (rw m (on-check _ _ _ (lt-ltb _ _ l) (on-check _ _ _ (eq-eqb _ _ c) refl))))
+
+  opcode-ok : le 4 s (at + 4 + n) ≡ getD counts k 0 → ok k (at + 4 + n + 4) ≡ opcode s at
+  unfolding opcode
+  opcode-ok c = on-field 4 s at _ (omega arith) (rw (← e) (on-part n s (at + 4) _ (omega arith) (name-ok c)))
+
+  tail-ok : (o : ℕ) → o + 21 ≤ length s → taken exact 1 (getD s (o + 20) 0) ≡ true → span (many operand (getD counts k 0) s (at + 4 + n + 4)) ≡ ok tt o
+      → span (after exact k s (at + 4 + n + 4)) ≡ ok tt (o + 21)
+  unfolding bind
+  tail-ok o g t q =
+      let e : o + 8 + 8 + 4 ≡ o + 20 = omega arith in
+      let f : span (flag exact s (o + 8 + 8 + 4)) ≡ ok tt (o + 8 + 8 + 4 + 1) = sym (flag-is exact s _) ∙ bounded-ok exact 1 s _ (omega arith) (rw e t) in
+      sym (after-skip exact k s (at + 4 + n + 4))
+      ∙ rw (q, span-ok 8 s o (omega arith), span-ok 8 s (o + 8) (omega arith), span-ok 4 s (o + 8 + 8) (omega arith), f)
+      (ap (λ x. ok tt x) (omega arith))
+
+  pub quick-ok : (o : ℕ) → le 4 s (at + 4 + n) ≡ getD counts k 0 → o + 21 ≤ length s → taken exact 1 (getD s (o + 20) 0) ≡ true
+      → span (many operand (getD counts k 0) s (at + 4 + n + 4)) ≡ ok tt o → span (instruction exact s at) ≡ ok tt (o + 21)
+  unfolding instruction bind
+  quick-ok o c g t q = rw (← opcode-ok c) (tail-ok o g t q)
+
+-- one more of a run was passed over
+pub pass-next : {A : Type 0} (p : Reader A) (n : ℕ) (s : List ℕ) (o : ℕ) {q : Res Unit} → span (many p n s o) ≡ q → 0 < n → {m : ℕ}
+    → span (p s o) ≡ ok tt m → span (many p (n - 1) s m) ≡ q
+unfolding span
+pass-next {A} p n s o {q} inv h {m} e = go (p s o) refl e
+  where
+    go : (r : Res A) → p s o ≡ r → span r ≡ ok tt m → span (many p (n - 1) s m) ≡ q
+    go (ok a k) g e = let z : m ≡ k = cc in rw z (run-next p n s o inv h g)
+    go (no k) g e = let z : _≡_ {A = ℕ} 0 1 = cc in absurd (omega arith)
+
+-- a listed name's operand count comes next
+pub listed-is : (w : List ℕ) (n r : ℕ) (s : List ℕ) (o : ℕ) → Known w n r → listed r s o ≡ named w s o
+unfolding listed named bind choose
+listed-is w n r s o k = rw (text-of w (k .op) (k .listed) (k .named), k .named, k .takes, lt-ltb (k .op) 49 (k .listed), k .is-op)

@@ -1,0 +1,85 @@
+-- An instruction passed over: the quick way's answer where it has one, else the parts one after the other.
+use mathlib.Core.Path.{sym}
+use Rattle.instruction.proofs.Skip.{after-skip}
+use Rattle.pod.specs.Layout.{instruction}
+use Rattle.instruction.proofs.Steps.{skip-on-op, skip-off-op}
+use borrow.Author.Needs.{needs}
+use Rattle.instruction.proofs.instruction_skip.Statement.{statement}
+use Rattle.instruction.proofs.instruction_skip.Tie as tie
+use Rattle.instruction.proofs.instruction_skip.Reads as reads
+use Rattle.instruction.proofs.instruction_skip.Lts as lts
+use Rattle.fields.proofs.then_flag.Reads as then-flag-reads
+use Rattle.fields.proofs.then_uint.Reads as then-uint-reads
+use Rattle.instruction.proofs.op_slow.Reads as op-slow-reads
+use Rattle.instruction.proofs.operands_run.Reads as operands-run-reads
+use Rattle.instruction.proofs.quick.Reads as quick-reads
+use Rattle.op.proofs.operand_count.Reads as operand-count-reads
+
+quick-requires : tie.Need-quick-requires
+quick-requires c κs = search needs
+
+returns : tie.Need-returns
+returns c = sym (c .before .quick .ensures (c .if1 .taken))
+
+op-slow-requires : tie.Need-op-slow-requires
+op-slow-requires c κs = search needs
+
+enum-known-e : tie.Need-enum-known-e
+enum-known-e c = search needs
+
+enum-known-k : tie.Need-enum-known-k
+enum-known-k c = search needs
+
+operand-count-requires : tie.Need-operand-count-requires
+operand-count-requires c κs = search needs
+
+operands-run-requires : tie.Need-operands-run-requires
+operands-run-requires c κs = search needs
+
+then-uint-requires : tie.Need-then-uint-requires
+then-uint-requires c κs = search needs
+
+then-uint-requires-2 : tie.Need-then-uint-requires-2
+then-uint-requires-2 c κs = search needs
+
+then-uint-requires-3 : tie.Need-then-uint-requires-3
+then-uint-requires-3 c κs = search needs
+
+then-flag-requires : tie.Need-then-flag-requires
+then-flag-requires c κs = search needs
+
+returns-2 : tie.Need-returns-2
+unfolding instruction
+returns-2 c = skip-off-op _ (c .before .e .given .1) (c .before .before .before .op-slow .ensures)
+
+returns-3 : tie.Need-returns-3
+unfolding instruction
+returns-3 c =
+    let k = c .before .before .before .before .before .before in
+    skip-on-op _ (k .before .k .given .1) (k .before .before .before .op-slow .ensures)
+    (rw (
+      c .then-flag .ensures,
+      c .before .then-uint3 .ensures,
+      c .before .before .then-uint2 .ensures,
+      c .before .before .before .then-uint .ensures,
+      c .before .before .before .before .operands-run .ensures,
+      c .before .before .before .before .before .operand-count .ensures,
+    ) (after-skip _ _ _ _))
+
+pub instruction-skip-spec : {M : Type 1} → statement M
+instruction-skip-spec =
+    tie.close
+    (tie.spec
+    quick-requires
+    returns
+    op-slow-requires
+    enum-known-e
+    enum-known-k
+    operand-count-requires
+    operands-run-requires
+    then-uint-requires
+    then-uint-requires-2
+    then-uint-requires-3
+    then-flag-requires
+    returns-2
+    returns-3)

@@ -1,0 +1,76 @@
+use mathlib.Core.Path.{refl, sym, _∙_}
+use Rattle.fields.proofs.Steps.{steps, on-u32, on-part, off-part}
+use Rattle.pod.specs.Layout.{opcode}
+use native.Mathlib.Omega.{arith}
+use borrow.Author.Needs.{needs}
+use Rattle.instruction.proofs.op_slow.Statement.{statement}
+use Rattle.instruction.proofs.op_slow.Tie as tie
+use Rattle.instruction.proofs.op_slow.Reads as reads
+use Rattle.instruction.proofs.op_slow.Lts as lts
+use Rattle.fields.proofs.part_of.Reads as part-of-reads
+use Rattle.fields.proofs.u32_at.Reads as u32-at-reads
+use Rattle.instruction.proofs.named_at.Reads as named-at-reads
+
+u32-at-requires : tie.Need-u32-at-requires
+u32-at-requires c κs = search needs
+
+enum-known-e : tie.Need-enum-known-e
+enum-known-e c = search needs
+
+enum-known-size : tie.Need-enum-known-size
+enum-known-size c = search needs
+
+cast-n : tie.Need-cast-n
+cast-n c = search needs
+
+returns : tie.Need-returns
+unfolding opcode
+returns c =
+    let k = c .before in
+    on-u32 _ (k .before .size .given .1) (k .before .before .before .u32-at .ensures) (off-part _ _ _ _ (omega arith))
+
+sub-if2 : tie.Need-sub-if2
+sub-if2 c = search needs
+
+returns-2 : tie.Need-returns-2
+unfolding opcode
+returns-2 c =
+    let k = c .before .before in
+    on-u32 _ (k .before .size .given .1) (k .before .before .before .u32-at .ensures) (off-part _ _ _ _ (omega arith))
+
+part-of-requires : tie.Need-part-of-requires
+part-of-requires c κs = search needs
+
+add-named-at : tie.Need-add-named-at
+add-named-at c = search needs
+
+named-at-requires : tie.Need-named-at-requires
+named-at-requires c κs = search needs
+
+returns-3 : tie.Need-returns-3
+unfolding opcode
+returns-3 c = search (needs, steps)
+
+returns-4 : tie.Need-returns-4
+unfolding opcode
+returns-4 c =
+    let k = c .before .before .before .before in
+    on-u32 _ (k .before .size .given .1) (k .before .before .before .u32-at .ensures)
+    (on-part _ _ _ _ (omega arith) (rw (← c .before .part-of .ensures) (c .named-at .ensures)))
+
+pub op-slow-spec : {M : Type 1} → statement M
+op-slow-spec =
+    tie.close
+    (tie.spec
+    u32-at-requires
+    enum-known-e
+    enum-known-size
+    cast-n
+    returns
+    sub-if2
+    returns-2
+    part-of-requires
+    add-named-at
+    named-at-requires
+    returns-3
+    returns-4)

@@ -1,0 +1,171 @@
+// Instructions.
+ghost use mathlib.Core.Path.{_≡_};
+ghost use Prim.Native.Nat.{_<_};
+ghost use Rattle.fields.specs.Parse.{ok, many, span, part, bind};
+ghost use Rattle.fields.specs.Answers.{of-skip};
+ghost use Rattle.pod.specs.Layout.{operand, named, opcode, instruction};
+ghost use Rattle.instruction.specs.Answers.{of-op};
+ghost use Rattle.instruction.specs.Listed.{listed};
+use fields::I64Read;
+use fields::Skip;
+use fields::U8Read;
+use fields::U32Read;
+use fields::U64Read;
+use pod::OperandRead;
+
+pub enum OpRead {
+    Value(usize, usize),
+    Refused(u8),
+}
+
+// The operation with the name `name`, whose operand count stands at `at`.
+fn named_at(s: &[u8], name: &[u8], at: usize) -> OpRead
+    ensures { λ r. ⌜ of-op r ≡ named (now (name .entry)) (now (s .entry)) at ⌝ }
+{
+    if op::is_text(name) {
+        match fields::u32_at(s, at) {
+            U32Read::Refused(e) => OpRead::Refused(e),
+            U32Read::Value(count, a) => {
+                let k = op::number_of(name);
+                if k < 49 {
+                    if count == op::operand_count(k) {
+                        OpRead::Value(k, a)
+                    } else {
+                        OpRead::Refused(fields::WRONG_OPERAND_COUNT)
+                    }
+                } else {
+                    OpRead::Refused(fields::UNKNOWN_OPERATION)
+                }
+            }
+        }
+    } else {
+        OpRead::Refused(fields::NAME_NOT_TEXT)
+    }
+}
+
+// The operation with the number `code / 4`, which takes `code % 4` operands, and whose operand count stands at `at`.
+fn listed_at(s: &[u8], code: u64, at: usize) -> OpRead
+    ensures { λ r. ⌜ of-op r ≡ listed code (now (s .entry)) at ⌝ }
+{
+    match fields::u32_at(s, at) {
+        U32Read::Refused(e) => OpRead::Refused(e),
+        U32Read::Value(count, a) => {
+            if count as u64 == code % 4 {
+                OpRead::Value((code / 4) as usize, a)
+            } else {
+                OpRead::Refused(fields::WRONG_OPERAND_COUNT)
+            }
+        }
+    }
+}
+
+// The operation of the instruction at `at`, its name looked for among all.
+fn op_slow(s: &[u8], at: usize) -> OpRead
+    ensures { λ r. ⌜ of-op r ≡ opcode (now (s .entry)) at ⌝ }
+{
+    match fields::u32_at(s, at) {
+        U32Read::Refused(e) => OpRead::Refused(e),
+        U32Read::Value(size, a) => {
+            let n = size as usize;
+            if s.len() < a {
+                return OpRead::Refused(fields::SHORT_FILE);
+            }
+            if s.len() - a < n {
+                return OpRead::Refused(fields::SHORT_FILE);
+            }
+            named_at(s, fields::part_of(s, a, n), a + n)
+        }
+    }
+}
+
+// The operation of the instruction at `at`.
+pub fn op_at(s: &[u8], at: usize) -> OpRead
+    ensures { λ r. ⌜ of-op r ≡ opcode (now (s .entry)) at ⌝ }
+{
+    match fields::u32_at(s, at) {
+        U32Read::Refused(e) => OpRead::Refused(e),
+        U32Read::Value(size, a) => {
+            let n = size as usize;
+            if fields::within(s, a, 8) {
+                let code = op::guess(s, a, n);
+                if code < 256 {
+                    return listed_at(s, code, a + n);
+                }
+            }
+            op_slow(s, at)
+        }
+    }
+}
+
+// `count` operands.
+pub fn operands_run(s: &[u8], at: usize, count: u32) -> Skip
+    ensures { λ r. ⌜ of-skip r ≡ span (many operand count (now (s .entry)) at) ⌝ }
+{
+    let mut left = count;
+    let mut o = at;
+    while 0 < left {
+        match pod::operand_at(s, o) {
+            OperandRead::Refused(e) => return Skip::Refused(e),
+            OperandRead::Value(_, n) => o = n,
+        }
+        left -= 1;
+    }
+    Skip::Past(o)
+}
+
+// The offset past the instruction at `at`, or 0 where this does not tell: near the end of the file, and where it is refused.
+fn quick(s: &[u8], at: usize, exact: bool) -> usize
+    ensures { λ r. ⌜ (0 < r → span (instruction exact (now (s .entry)) at) ≡ ok tt r) ⌝ }
+{
+    if s.len() < at {
+        return 0;
+    }
+    if s.len() - at < 128 {
+        return 0;
+    }
+    let a = at + 4;
+    let n = fields::four(s, at) as usize;
+    let code = op::guess(s, a, n);
+    if 255 < code {
+        return 0;
+    }
+    let count = code % 4;
+    let b = a + n;
+    if fields::four(s, b) != count {
+        return 0;
+    }
+    let mut o = b + 4;
+    let mut left = count;
+    while 0 < left {
+        o = pod::operand_quick(s, o);
+        if o == 0 {
+            return 0;
+        }
+        left -= 1;
+    }
+    if fields::is_taken(exact, 1, s[o + 20]) {
+        o + 21
+    } else {
+        0
+    }
+}
+
+// The instruction at `at` is passed over.
+pub fn instruction_skip(s: &[u8], at: usize, exact: bool) -> Skip
+    ensures { λ r. ⌜ of-skip r ≡ span (instruction exact (now (s .entry)) at) ⌝ }
+{
+    let end = quick(s, at, exact);
+    if 0 < end {
+        return Skip::Past(end);
+    }
+    match op_slow(s, at) {
+        OpRead::Refused(e) => Skip::Refused(e),
+        OpRead::Value(k, a) => {
+            let o = operands_run(s, a, op::operand_count(k));
+            let v = fields::then_uint(s, o, 8);
+            let f = fields::then_uint(s, v, 8);
+            let i = fields::then_uint(s, f, 4);
+            fields::then_flag(s, i, exact)
+        }
+    }
+}
