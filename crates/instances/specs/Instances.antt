@@ -1,0 +1,130 @@
+-- Document 01's starred instances, as one claim about the layouts and the machine.
+use Prim.Native.Nat.{ℕ, _+_}
+use mathlib.Core.Path.{_≡_}
+use mathlib.Core.Bool.{Bool, true, false}
+use mathlib.Core.List.{List, [], _∷_, _++_, map}
+use lib.ListN.{length, take, getD}
+use lib.IntN.{pos}
+use Rattle.fields.specs.Parse.{Res, ok, no, span}
+use Rattle.fields.specs.Bytes.{zeros}
+use Rattle.fields.specs.Outcome.{Outcome, refused, accepted}
+use Rattle.pod.specs.Values.{Instruction, RoutineConvention, BasicBlock, Routine}
+use Rattle.pod.specs.Blocks.{vips}
+use Rattle.pod.specs.Layout.{register, instruction, read-file, as-it-comes}
+use Rattle.pod.specs.Written.{bytes, instruction-bytes, routine-bytes}
+use Rattle.pod.specs.declared.RegisterDesc.{RegisterDesc}
+use Rattle.pod.specs.declared.Operand.{Operand}
+use Rattle.pod.specs.declared.Operand.the-variants.{Imm, Reg}
+use Rattle.machine.specs.Edits.{create, remove}
+use Rattle.machine.specs.Machine.{Call, edit, undo, Answer, Book, Machine, start, machine-run}
+use Rattle.machine.specs.Book.{State, open-book, run}
+
+-- a header: its marks, machine and pad
+abbrev pub header-of : ℕ → ℕ → ℕ → ℕ → List ℕ
+header-of first machine pad second = bytes 4 first ++ (machine ∷ pad ∷ bytes 2 second)
+
+-- header of machine 2 and 106 zeros
+abbrev pub smallest : List ℕ
+smallest = header-of 0x4c495456 2 0 0xdead ++ zeros 106
+
+-- the same with pad 255, and with byte 60, the routine convention's purge, 7
+abbrev pub odd : List ℕ
+odd = header-of 0x4c495456 2 255 0xdead ++ (zeros 52 ++ (7 ∷ zeros 53))
+
+-- the image that an opening leaves, of n bytes
+abbrev pub image-of : ℕ → List ℕ → List ℕ
+image-of n file = open-book file (zeros n) [] .1 .image
+
+abbrev pub any-register : RegisterDesc
+any-register = record { flags = 0; «combined_id» = 0; «bit_count» = pos 64; «bit_offset» = pos 0 }
+
+abbrev pub plain : ℕ → List Operand → Instruction
+plain op operands = record { op = op; operands = operands; vip = 0; sp-offset = pos 0; sp-index = 0; sp-reset = false }
+
+-- the smallest file's routine
+abbrev pub no-convention : RoutineConvention
+no-convention =
+    record {
+      volatile-registers = [];
+      param-registers = [];
+      retval-registers = [];
+      frame-register = record { flags = 0; «combined_id» = 0; «bit_count» = pos 0; «bit_offset» = pos 0 };
+      shadow-space = 0;
+      purge-stack = false;
+    }
+
+abbrev pub smallest-routine : Routine
+smallest-routine =
+    record {
+      arch-id = 2;
+      vip = 0;
+      routine-convention = no-convention;
+      subroutine-convention = no-convention;
+      spec-subroutine-conventions = [];
+      explored-blocks = [];
+    }
+
+-- create 5, 6, 7
+abbrev pub creates : List Call
+creates = edit (create 5) ∷ edit (create 6) ∷ edit (create 7) ∷ []
+
+-- and then remove 5
+abbrev pub removes : List Call
+removes = creates ++ (edit (remove 5) ∷ [])
+
+-- and then take back
+abbrev pub takes-back : List Call
+takes-back = removes ++ (undo ∷ [])
+
+-- the last answer, and the vips of the blocks, of the machine that was started with the smallest file, image 222 and journal 116
+abbrev pub last-answer : List Answer → Answer
+last-answer [] = refused 0
+last-answer (a ∷ []) = a
+last-answer (a ∷ b ∷ bs) = last-answer (b ∷ bs)
+
+abbrev pub answer-to : List Call → Answer
+answer-to cs = last-answer (machine-run 222 116 cs (start smallest-routine) .0)
+
+abbrev pub vips-after : List Call → List ℕ
+vips-after cs = vips (machine-run 222 116 cs (start smallest-routine) .1 .now .explored-blocks)
+
+-- the same of the library's step, from the opening of the smallest file
+abbrev pub library-answer-to : List Call → Answer
+library-answer-to cs = last-answer (run cs (open-book smallest (zeros 222) (zeros 116) .1) .0)
+
+abbrev pub answered : ℕ → ℕ → Answer
+answered written used = accepted (record { written = written; used = used })
+
+pub record Instances : Type 0 where
+  -- Header of machine 2 and 106 zeros: consumed 114. Its first 113: 1. Empty: 1
+  pub smallest-read : read-file smallest ≡ ok smallest-routine 114
+  pub short : read-file (take 113 smallest) ≡ no 1
+  pub empty : read-file [] ≡ no 1
+  -- Pad 255: image byte 4 + 1 is 0. Byte 60 (purge) 7: written 1
+  pub pad : getD (image-of 114 odd) (4 + 1) 9 ≡ 0
+  pub purge-read : getD odd 60 0 ≡ 7
+  pub purge : getD (image-of 114 odd) 60 9 ≡ 1
+  -- Machine 3 with a wrong second mark: 4. First mark wrong too: 3
+  pub machine : read-file (header-of 0x4c495456 3 0 0) ≡ no 4
+  pub mark : read-file (header-of 0 3 0 0) ≡ no 3
+  -- Id 0x0200000000000000 accepted; 0x0300000000000000, file ending there: 5
+  pub own : span (register (bytes 8 0 ++ (bytes 8 0x0200000000000000 ++ bytes 8 0)) 0) ≡ ok tt 24
+  pub foreign : span (register (bytes 8 0 ++ bytes 8 0x0300000000000000) 0) ≡ no 5
+  -- nop is 32 bytes; mov register, immediate is 76
+  pub nop : length (instruction-bytes (plain 41 [])) ≡ 32
+  pub mov : length (instruction-bytes (plain 0 (Reg any-register ∷ Imm (record { value = 1; «bit_count» = 64 }) ∷ []))) ≡ 76
+  -- "nop" with count 1, then end: 8
+  pub nop-count : span (instruction as-it-comes (bytes 4 3 ++ (110 ∷ 111 ∷ 112 ∷ bytes 4 1)) 0) ≡ no 8
+  -- On the 114 bytes, image 222 and journal 116, create 5, 6, 7: length 222, used 60
+  pub created : answer-to creates ≡ answered 222 60
+  pub created-order : vips-after creates ≡ 5 ∷ 6 ∷ 7 ∷ []
+  -- Remove 5: order 7, 6, length 186, used 116
+  pub removed : answer-to removes ≡ answered 186 116
+  pub removed-order : vips-after removes ≡ 7 ∷ 6 ∷ []
+  -- Take back: 5, 6, 7, 222, 60
+  pub taken-back : answer-to takes-back ≡ answered 222 60
+  pub taken-back-order : vips-after takes-back ≡ 5 ∷ 6 ∷ 7 ∷ []
+  -- and the calls on a book answer the same
+  pub library-created : library-answer-to creates ≡ answered 222 60
+  pub library-removed : library-answer-to removes ≡ answered 186 116
+  pub library-taken-back : library-answer-to takes-back ≡ answered 222 60

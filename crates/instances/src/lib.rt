@@ -1,0 +1,1 @@
+// Document 01's starred instances, computed. No code.

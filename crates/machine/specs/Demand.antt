@@ -1,0 +1,106 @@
+-- The third demand, whole: one claim about every file, every pair of lendings whose opening is accepted, and every list of calls.
+use Prim.Native.Nat.{ℕ, zero, suc, _<_, _^_}
+use mathlib.Core.Path.{_≡_}
+use mathlib.Core.Bool.{Bool, true, false}
+use mathlib.Core.List.{List, [], _∷_, _++_}
+use lib.ListN.{length, take, getD}
+use Rattle.fields.specs.Parse.{Res, ok, no}
+use Rattle.fields.specs.Outcome.{Outcome, refused, accepted, after}
+use Rattle.pod.specs.Values.{Routine}
+use Rattle.pod.specs.Layout.{read-file}
+use Rattle.machine.specs.Edits.{Edit, create, remove, append}
+use Rattle.machine.specs.Machine.{Call, edit, undo, Answer, Book, Machine, start, size, used-by, machine-run, machine-step}
+use Rattle.machine.specs.Book.{State, in-image, open-book, run}
+
+-- a list of bytes
+abbrev pub Bytes : List ℕ → Type 0
+Bytes s = (i : ℕ) → getD s i 0 < 256
+
+-- arguments that can be handed in: a vip of 64 bits, and bytes
+abbrev pub Sendable : Call → Type 0
+Sendable (edit (create v)) = v < 2 ^ 64
+Sendable (edit (remove v)) = v < 2 ^ 64
+Sendable (edit (append v s)) = (v < 2 ^ 64) × Bytes s
+Sendable undo = Unit
+
+abbrev pub Every : {A : Type 0} → (A → Type 0) → List A → Type 0
+Every P [] = Unit
+Every P (x ∷ xs) = P x × Every P xs
+
+-- an accepted opening of a file into two lendings
+pub record Opening : Type 0 where
+  pub file : List ℕ
+  pub image : List ℕ
+  pub journal : List ℕ
+  pub book : Book
+  pub bytes : Bytes file
+  pub accepts : open-book file image journal .0 ≡ accepted book
+  -- the file's bytes, and what the machine starts from
+  pub routine : Routine
+  pub end : ℕ
+  pub reads : read-file file ≡ ok routine end
+
+-- the fresh book, and the book after a list of calls
+abbrev pub fresh : Opening → State
+fresh o = open-book (o .file) (o .image) (o .journal) .1
+
+abbrev pub after-calls : Opening → List Call → State
+after-calls o cs = run cs (fresh o) .1
+
+-- the machine after the same list: it sees the file's routine and the lent lengths
+abbrev pub machine-after : Opening → List Call → Machine
+machine-after o cs = machine-run (length (o .image)) (length (o .journal)) cs (start (o .routine)) .1
+
+-- a book's written bytes: its image up to the written length last answered
+abbrev pub written-bytes : State → List ℕ
+written-bytes s = take (s .book .written) (s .image)
+
+-- whether a call was accepted
+abbrev pub is-accepted : Answer → Bool
+is-accepted (accepted b) = true
+is-accepted (refused e) = false
+
+-- one more edit stands, one less after an accepted take back; nothing where more would be taken back than stand
+abbrev pub settle : Bool → Call → ℕ → Outcome ℕ
+settle false c n = accepted n
+settle true (edit e) n = accepted (suc n)
+settle true undo (suc n) = accepted n
+settle true undo zero = refused 0
+
+-- of n edits that stand before a list, how many stand after it: taken back are those of the list first; refused where the list takes back more
+unfoldable pub standing : List Call → List Answer → ℕ → Outcome ℕ
+standing [] answers n = accepted n
+standing (c ∷ cs) [] n = accepted n
+standing (c ∷ cs) (a ∷ answers) n = after (settle (is-accepted a) c n) (standing cs answers)
+
+-- every answer equals the machine's; the image holds the written form of the machine's routine, then zeros; the book its length and used
+pub record Follows (o : Opening) (cs : List Call) : Type 0 where
+  pub answers : run cs (fresh o) .0 ≡ machine-run (length (o .image)) (length (o .journal)) cs (start (o .routine)) .0
+  pub image : after-calls o cs .image ≡ in-image (length (o .image)) (machine-after o cs .now)
+  pub written : after-calls o cs .book .written ≡ size (machine-after o cs .now)
+  pub used : after-calls o cs .book .used ≡ used-by (machine-after o cs .pile)
+
+-- two books hold equal written bytes exactly when the machine ends in equal routines
+pub record Told-apart (o p : Opening) (cs ds : List Call) : Type 0 where
+  pub equal : written-bytes (after-calls o cs) ≡ written-bytes (after-calls p ds) → machine-after o cs .now ≡ machine-after p ds .now
+  pub unequal : machine-after o cs .now ≡ machine-after p ds .now → written-bytes (after-calls o cs) ≡ written-bytes (after-calls p ds)
+
+-- an accepted take back returns to what was before the last accepted edit not yet taken back: where an edit was accepted after the calls cs,
+-- and of the calls ds after it all accepted edits were taken back, one more take back is accepted and the book is as it was after cs
+pub record Taken-back (o : Opening) (cs : List Call) (c : Call) (ds : List Call) : Type 0 where
+  pub accepts : is-accepted (machine-step (length (o .image)) (length (o .journal)) undo (machine-after o (cs ++ (c ∷ ds))) .0) ≡ true
+  pub routine : machine-after o (cs ++ (c ∷ (ds ++ (undo ∷ [])))) .now ≡ machine-after o cs .now
+  pub image : after-calls o (cs ++ (c ∷ (ds ++ (undo ∷ [])))) .image ≡ after-calls o cs .image
+  pub book : after-calls o (cs ++ (c ∷ (ds ++ (undo ∷ [])))) .book ≡ after-calls o cs .book
+
+pub record Demand-3 : Type 0 where
+  pub follows : (o : Opening) (cs : List Call) → Every Sendable cs → Follows o cs
+  pub told-apart : (o p : Opening) (cs ds : List Call) → Every Sendable cs → Every Sendable ds → Told-apart o p cs ds
+  pub taken-back :
+      (o : Opening) (cs : List Call) (e : Edit) (ds : List Call) → Every Sendable (cs ++ (edit e ∷ ds))
+      → is-accepted (machine-step (length (o .image)) (length (o .journal)) (edit e) (machine-after o cs) .0) ≡ true
+      → standing ds
+      (machine-run (length (o .image)) (length (o .journal)) ds (machine-after o (cs ++ (edit e ∷ []))) .0)
+      0
+      ≡ accepted 0
+      → Taken-back o cs (edit e) ds

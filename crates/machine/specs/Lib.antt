@@ -1,0 +1,6 @@
+pub mod Edits
+pub mod Machine
+pub mod Journal
+pub mod Book
+pub mod Look
+pub mod Demand

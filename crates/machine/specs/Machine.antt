@@ -1,0 +1,76 @@
+-- The routine machine: it is fed the file, the calls with their arguments and the lent lengths, never a book.
+use Prim.Native.Nat.{ℕ, zero, suc, _+_}
+use mathlib.Core.Bool.{Bool, true, false}
+use mathlib.Core.List.{List, [], _∷_}
+use lib.ListN.{length}
+use lib.Dec.{leb}
+use Rattle.fields.specs.Refusals.{image-full, journal-full, nothing-to-take-back}
+use Rattle.fields.specs.Outcome.{Outcome, refused, accepted}
+use Rattle.pod.specs.Values.{Routine}
+use Rattle.pod.specs.Written.{routine-bytes}
+use Rattle.machine.specs.Edits.{Edit, edited, cost}
+
+-- the calls of demand 3's lists
+pub data Call : Type 0 where
+  edit : Edit → Call
+  undo : Call
+
+-- what a call answers when it is accepted: the new written length, and the journal bytes used. It is also all that a book holds
+pub record Book : Type 0 where
+  pub written : ℕ
+  pub used : ℕ
+
+abbrev pub Answer : Type 0
+Answer = Outcome Book
+
+-- earlier routines, the last one first, each with the cost of the edit that it was before
+abbrev pub Pile : Type 0
+Pile = List (Routine × ℕ)
+
+-- the sum of the pile's costs
+unfoldable pub used-by : Pile → ℕ
+used-by [] = 0
+used-by (p ∷ ps) = p .1 + used-by ps
+
+pub record Machine : Type 0 where
+  pub now : Routine
+  pub pile : Pile
+
+-- at the start: the routine read from the file, and an empty pile
+abbrev pub start : Routine → Machine
+start r = record { now = r; pile = [] }
+
+-- the size of a routine's written form
+abbrev pub size : Routine → ℕ
+size r = length (routine-bytes r)
+
+-- edits then check 11, 12: here by the two tests, that the new routine fits the image and the cost the journal
+unfoldable pub admitted : Bool → Bool → ℕ → Routine → Machine → Answer × Machine
+admitted false j k r m = (refused image-full, m)
+admitted true false k r m = (refused journal-full, m)
+admitted true true k r m =
+    (accepted (record { written = size r; used = used-by (m .pile) + k }), record { now = r; pile = (m .now, k) ∷ m .pile })
+
+-- image-length and journal-length are the lent lengths; k is the edit's cost
+unfoldable pub after-edit : ℕ → ℕ → ℕ → Machine → Outcome Routine → Answer × Machine
+after-edit image-length journal-length k m (refused e) = (refused e, m)
+after-edit image-length journal-length k m (accepted r) =
+    admitted (leb (size r) image-length) (leb (used-by (m .pile) + k) journal-length) k r m
+
+-- take back: the top routine returns and leaves the pile
+unfoldable pub after-undo : Machine → Pile → Answer × Machine
+after-undo m [] = (refused nothing-to-take-back, m)
+after-undo m (p ∷ ps) = (accepted (record { written = size (p .0); used = used-by ps }), record { now = p .0; pile = ps })
+
+unfoldable pub machine-step : ℕ → ℕ → Call → Machine → Answer × Machine
+machine-step image-length journal-length (edit e) m = after-edit image-length journal-length (cost e (m .now)) m (edited e (m .now))
+machine-step image-length journal-length undo m = after-undo m (m .pile)
+
+-- every call of a list in turn: the answers, and the machine after it
+unfoldable pub machine-run : ℕ → ℕ → List Call → Machine → List Answer × Machine
+machine-run image-length journal-length [] m = ([], m)
+machine-run image-length journal-length (c ∷ cs) m = (
+  machine-step image-length journal-length c m .0
+      ∷ machine-run image-length journal-length cs (machine-step image-length journal-length c m .1) .0,
+  machine-run image-length journal-length cs (machine-step image-length journal-length c m .1) .1,
+)
