@@ -1,0 +1,65 @@
+use mathlib.Core.Path.{_≡_, _∙_, sym, ap}
+use Rattle.fields.specs.Parse.{many, span}
+use Rattle.fields.specs.Answers.{of-skip}
+use Rattle.fields.proofs.Many.{run-end}
+use Rattle.block.proofs.Skip.{skip-next, skip-stop}
+use Rattle.pod.specs.Layout.{convention}
+use borrow.Author.Needs.{needs}
+use Rattle.routine.proofs.conventions_run.Statement.{statement}
+use Rattle.routine.proofs.conventions_run.Tie as tie
+use Rattle.routine.proofs.conventions_run.Reads as reads
+use Rattle.routine.proofs.conventions_run.Lts as lts
+use Rattle.convention.proofs.convention_skip.Reads as convention-skip-reads
+
+abbrev Inv-loop : tie.InvT-loop
+Inv-loop s at count exact left₀ o₀ left o = span (many (convention exact) left s o) ≡ span (many (convention exact) count s at)
+
+abbrev μ-loop : tie.MeasureT-loop
+μ-loop s at count exact left₀ o₀ left o = left
+
+loop-holds : tie.Need-loop-holds Inv-loop μ-loop
+loop-holds c = search needs
+
+convention-skip-requires : tie.Need-convention-skip-requires Inv-loop μ-loop
+convention-skip-requires c κs = search needs
+
+enum-known-e : tie.Need-enum-known-e Inv-loop μ-loop
+enum-known-e c = search needs
+
+returns : tie.Need-returns Inv-loop μ-loop
+returns c =
+    let d = c .before .before .before in
+    skip-stop (convention _) _ _ _ (d .before .before .loop .inv) (d .before .loop-test .taken) (sym (ap of-skip (c .before .e .given .1)) ∙ d .convention-skip .ensures)
+
+enum-known-n : tie.Need-enum-known-n Inv-loop μ-loop
+enum-known-n c = search needs
+
+sub-left : tie.Need-sub-left Inv-loop μ-loop
+sub-left c = search needs
+
+loop-less : tie.Need-loop-less Inv-loop μ-loop
+loop-less c = search needs
+
+loop-again : tie.Need-loop-again Inv-loop μ-loop
+loop-again c =
+    let d = c .before .before .before in
+    skip-next (convention _) _ _ _ (d .before .before .loop .inv) (d .before .loop-test .taken) (sym (ap of-skip (c .before .n .given .1)) ∙ d .convention-skip .ensures)
+
+returns-2 : tie.Need-returns-2 Inv-loop μ-loop
+returns-2 c = run-end (convention _) _ _ _ (c .before .loop .inv) (c .loop-test .left)
+
+pub conventions-run-spec : {M : Type 1} → statement M
+conventions-run-spec =
+    tie.close
+    (tie.spec
+    Inv-loop
+    μ-loop
+    loop-holds
+    convention-skip-requires
+    enum-known-e
+    returns
+    enum-known-n
+    sub-left
+    loop-less
+    loop-again
+    returns-2)

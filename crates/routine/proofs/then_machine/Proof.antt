@@ -1,0 +1,65 @@
+-- The machine byte passed over: the field's answer, and then the test of it.
+use mathlib.Core.Path.{_≡_, sym, ap, _∙_}
+use borrow.Author.Tests.{le-leb, lt-leb}
+use Rattle.fields.specs.Parse.{bind, choose}
+use Rattle.fields.proofs.Chain.{far-past, far-refused}
+use Rattle.fields.proofs.Steps.{on-u8, off-u8}
+use Rattle.routine.specs.Header.{machine-byte}
+use borrow.Author.Needs.{needs}
+use Rattle.routine.proofs.then_machine.Statement.{statement}
+use Rattle.routine.proofs.then_machine.Tie as tie
+use Rattle.routine.proofs.then_machine.Reads as reads
+use Rattle.routine.proofs.then_machine.Lts as lts
+use Rattle.fields.proofs.u8_at.Reads as u8-at-reads
+
+enum-known-far : tie.Need-enum-known-far
+enum-known-far c = search needs
+
+u8-at-requires : tie.Need-u8-at-requires
+u8-at-requires c κs = search needs
+
+enum-known-e : tie.Need-enum-known-e
+enum-known-e c = search needs
+
+enum-known-machine : tie.Need-enum-known-machine
+enum-known-machine c = search needs
+
+enum-told : tie.Need-enum-told
+enum-told c = search needs
+
+returns : tie.Need-returns
+unfolding machine-byte
+returns c =
+    far-past _ (c .before .before .before .before .before .far .given .1)
+    (off-u8 _ (c .before .e .given .1) (c .before .before .before .u8-at .ensures))
+
+returns-2 : tie.Need-returns-2
+unfolding machine-byte choose
+returns-2 c =
+    let k = c .before in
+    far-past _ (k .before .before .before .before .before .far .given .1)
+    (on-u8 _ (k .before .machine .given .1) (k .before .before .before .u8-at .ensures) (rw (le-leb _ _ (c .if1 .taken))))
+
+returns-3 : tie.Need-returns-3
+unfolding machine-byte choose
+returns-3 c =
+    let k = c .before in
+    far-past _ (k .before .before .before .before .before .far .given .1)
+    (on-u8 _ (k .before .machine .given .1) (k .before .before .before .u8-at .ensures) (rw (lt-leb _ _ (c .if1 .left))))
+
+returns-4 : tie.Need-returns-4
+returns-4 c = far-refused _ (c .enum-told .given .1)
+
+pub then-machine-spec : {M : Type 1} → statement M
+then-machine-spec =
+    tie.close
+    (tie.spec
+    enum-known-far
+    u8-at-requires
+    enum-known-e
+    enum-known-machine
+    enum-told
+    returns
+    returns-2
+    returns-3
+    returns-4)
