@@ -1,0 +1,4 @@
+pub mod Repeats
+pub mod Read
+pub mod Walks
+pub mod Rounds

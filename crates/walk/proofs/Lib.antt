@@ -1,0 +1,3 @@
+pub mod Invert
+pub mod Steps
+pub mod Same

@@ -1,0 +1,71 @@
+-- What each function of the walk finds, from what its calls found: the definitions of specs/Ends.antt, one step at a time.
+use mathlib.Core.Path.{_≡_, refl, sym, _∙_}
+use mathlib.Core.List.{List}
+use mathlib.Core.Bool.{Bool, true, false}
+use Prim.Native.Nat.{ℕ, zero, suc, _+_, _*_, _-_, _≤_, _<_}
+use native.Mathlib.Omega.{arith}
+use lib.ListN.{length}
+use lib.Dec.{leb}
+use borrow.Author.Tests.{le-leb, lt-leb, eq-eqb, ne-eqb}
+use Rattle.fields.specs.Parse.{Res, ok, no, choose, le, uint}
+use Rattle.walk.specs.Ends.{jump, word, times, operandEnd, instructionEnd, vipsEnd, blockEnd}
+
+pub jump-in : (s : List ℕ) (o k : ℕ) → o + k ≤ length s → jump s o k ≡ o + k
+unfolding jump choose
+jump-in s o k h = simp (le-leb _ _ h)
+
+pub jump-out : (s : List ℕ) (o k : ℕ) → length s < o + k → jump s o k ≡ length s
+unfolding jump choose
+jump-out s o k h = simp (lt-leb _ _ h)
+
+-- the value of a field, or 0
+abbrev pub value : Res ℕ → ℕ
+value (ok v n) = v
+value (no e) = 0
+
+pub word-is : (k : ℕ) (s : List ℕ) (o : ℕ) → value (uint k s o) ≡ word k s o
+unfolding word uint choose
+word-is k s o = go (leb (o + k) (length s))
+  where
+    go : (t : Bool) → value (choose t (ok (le k s o) (o + k)) (no 1)) ≡ choose t (le k s o) 0
+    go true = refl
+    go false = refl
+
+pub times-more : (f : ℕ → ℕ) (n o : ℕ) → 0 < n → times f n o ≡ times f (n - 1) (f o)
+unfolding times
+times-more f zero o h = absurd (omega arith)
+times-more f (suc n) o h = let e : suc n - 1 ≡ n = omega arith in rw e
+
+pub times-none : (f : ℕ → ℕ) (n o : ℕ) → n ≤ 0 → times f n o ≡ o
+unfolding times
+times-none f n o h = let e : n ≡ 0 = omega arith in rw e
+
+pub imm-end : (s : List ℕ) (o : ℕ) → word 4 s o ≡ 0 → operandEnd s o ≡ jump s (jump s o 4) 12
+unfolding operandEnd choose
+imm-end s o h = rw (eq-eqb _ _ h)
+
+pub reg-end : (s : List ℕ) (o : ℕ) → (word 4 s o ≡ 0 → ⊥) → operandEnd s o ≡ jump s (jump s o 4) 24
+unfolding operandEnd choose
+reg-end s o h = rw (ne-eqb _ _ h)
+
+-- what straight code found, part by part
+module _ (s : List ℕ) (o : ℕ) where
+  pub vips-made : {a n r : ℕ} → a ≡ jump s o 4 → n ≡ word 4 s o → r ≡ jump s a (8 * n) → r ≡ vipsEnd s o
+  unfolding vipsEnd
+  vips-made p q e = rw (e, p, q)
+
+  pub instruction-made : {a z n c b e r : ℕ} → a ≡ jump s o 4 → z ≡ word 4 s o → n ≡ jump s a z → c ≡ word 4 s n → b ≡ jump s n 4
+      → e ≡ times (operandEnd s) c b → r ≡ jump s e 21 → r ≡ instructionEnd s o
+  unfolding instructionEnd
+  instruction-made p₁ p₂ p₃ p₄ p₅ p₆ p₇ = rw (p₇, p₆, p₅, p₄, p₃, p₂, p₁)
+
+  pub block-made : {i c a e p r : ℕ} → i ≡ jump s o 24 → c ≡ word 4 s i → a ≡ jump s i 4 → e ≡ times (instructionEnd s) c a
+      → p ≡ vipsEnd s e → r ≡ vipsEnd s p → r ≡ blockEnd s o
+  unfolding blockEnd
+  block-made p₁ p₂ p₃ p₄ p₅ p₆ = rw (p₆, p₅, p₄, p₃, p₂, p₁)
+
+  pub imm-made : {a w r : ℕ} → a ≡ jump s o 4 → w ≡ word 4 s o → w ≡ 0 → r ≡ jump s a 12 → r ≡ operandEnd s o
+  imm-made p q z e = rw (e, p) (sym (imm-end s o (sym q ∙ z)))
+
+  pub reg-made : {a w r : ℕ} → a ≡ jump s o 4 → w ≡ word 4 s o → (w ≡ 0 → ⊥) → r ≡ jump s a 24 → r ≡ operandEnd s o
+  reg-made p q z e = rw (e, p) (sym (reg-end s o (λ y. z (q ∙ y))))

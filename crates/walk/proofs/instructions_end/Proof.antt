@@ -1,0 +1,47 @@
+-- The instructions left lead to the same end as all of them from the start. The measure is how many are left.
+use Prim.Native.Nat.{_-_}
+use mathlib.Core.Path.{_≡_, sym, ap, _∙_}
+use Rattle.walk.specs.Ends.{times, instructionEnd}
+use Rattle.walk.proofs.Steps.{times-more, times-none}
+use borrow.Author.Needs.{needs}
+use Rattle.walk.proofs.instructions_end.Statement.{statement}
+use Rattle.walk.proofs.instructions_end.Tie as tie
+
+abbrev Inv-loop : tie.InvT-loop
+Inv-loop s at count left₀ o₀ left o = times (instructionEnd s) left o ≡ times (instructionEnd s) count at
+
+abbrev μ-loop : tie.MeasureT-loop
+μ-loop s at count left₀ o₀ left o = left
+
+loop-holds : tie.Need-loop-holds Inv-loop μ-loop
+loop-holds c = search needs
+
+instruction-end-requires : tie.Need-instruction-end-requires Inv-loop μ-loop
+instruction-end-requires c κs = search needs
+
+sub-left : tie.Need-sub-left Inv-loop μ-loop
+sub-left c = search needs
+
+loop-less : tie.Need-loop-less Inv-loop μ-loop
+loop-less c = search needs
+
+loop-again : tie.Need-loop-again Inv-loop μ-loop
+loop-again c =
+    let l = c .before in
+    ap (times (instructionEnd _) (l .before .loop .left - 1)) (c .instruction-end .ensures) ∙ sym (times-more (instructionEnd _) _ _ (l .loop-test .taken)) ∙ l .before .loop .inv
+
+returns : tie.Need-returns Inv-loop μ-loop
+returns c = sym (times-none (instructionEnd _) _ _ (c .loop-test .left)) ∙ c .before .loop .inv
+
+pub instructions-end-spec : {M : Type 1} → statement M
+instructions-end-spec =
+    tie.close
+    (tie.spec
+    Inv-loop
+    μ-loop
+    loop-holds
+    instruction-end-requires
+    sub-left
+    loop-less
+    loop-again
+    returns)

@@ -1,0 +1,126 @@
+// The walk over blocks that were accepted before. It looks at counts, kinds and the size of a name alone, and reads no name, text or register
+// again: where a block is passed many times, that is most of the time.
+ghost use mathlib.Core.Path.{_≡_};
+ghost use Rattle.walk.specs.Ends.{word, operandEnd, times, instructionEnd, vipsEnd, blockEnd};
+use fields::U32Read;
+use fields::U64Read;
+use pod::Vip;
+
+// A block that was passed: its vip, and the offset past it.
+pub struct PassedBlock {
+    pub vip: Vip,
+    pub next: usize,
+}
+
+// `k` bytes further, and at most the end.
+fn jump(s: &[u8], at: usize, k: usize) -> usize
+    ensures { λ r. ⌜ r ≡ Rattle.walk.specs.Ends.jump (now (s .entry)) at k ⌝ }
+{
+    let len = s.len();
+    if len < at {
+        return len;
+    }
+    if len - at < k {
+        return len;
+    }
+    at + k
+}
+
+// The u32 that stands there, or 0.
+fn word32(s: &[u8], at: usize) -> u32
+    ensures { λ r. ⌜ r ≡ word 4 (now (s .entry)) at ⌝ }
+{
+    match fields::u32_at(s, at) {
+        U32Read::Value(v, _) => v,
+        U32Read::Refused(_) => 0,
+    }
+}
+
+// The u64 that stands there, or 0.
+fn word64(s: &[u8], at: usize) -> u64
+    ensures { λ r. ⌜ r ≡ word 8 (now (s .entry)) at ⌝ }
+{
+    match fields::u64_at(s, at) {
+        U64Read::Value(v, _) => v,
+        U64Read::Refused(_) => 0,
+    }
+}
+
+// The end of the operand at `at`: its kind, then an immediate of 12 bytes or a register of 24.
+pub fn operand_end(s: &[u8], at: usize) -> usize
+    ensures { λ r. ⌜ r ≡ operandEnd (now (s .entry)) at ⌝ }
+{
+    let a = jump(s, at, 4);
+    if word32(s, at) == 0 {
+        jump(s, a, 12)
+    } else {
+        jump(s, a, 24)
+    }
+}
+
+fn operands_end(s: &[u8], at: usize, count: u32) -> usize
+    ensures { λ r. ⌜ r ≡ times (operandEnd (now (s .entry))) count at ⌝ }
+{
+    let mut left = count;
+    let mut o = at;
+    while 0 < left {
+        o = operand_end(s, o);
+        left -= 1;
+    }
+    o
+}
+
+// The end of the instruction at `at`. The 21 bytes past the operands: vip 8, sp offset 8, sp index 4, sp reset 1.
+pub fn instruction_end(s: &[u8], at: usize) -> usize
+    ensures { λ r. ⌜ r ≡ instructionEnd (now (s .entry)) at ⌝ }
+{
+    let a = jump(s, at, 4);
+    let size = word32(s, at);
+    let n = jump(s, a, size as usize);
+    let count = word32(s, n);
+    let b = jump(s, n, 4);
+    let e = operands_end(s, b, count);
+    jump(s, e, 21)
+}
+
+fn instructions_end(s: &[u8], at: usize, count: u32) -> usize
+    ensures { λ r. ⌜ r ≡ times (instructionEnd (now (s .entry))) count at ⌝ }
+{
+    let mut left = count;
+    let mut o = at;
+    while 0 < left {
+        o = instruction_end(s, o);
+        left -= 1;
+    }
+    o
+}
+
+// The end of the list of vips at `at`.
+pub fn vips_end(s: &[u8], at: usize) -> usize
+    ensures { λ r. ⌜ r ≡ vipsEnd (now (s .entry)) at ⌝ }
+{
+    let a = jump(s, at, 4);
+    let count = word32(s, at);
+    jump(s, a, 8 * (count as usize))
+}
+
+// The end of the block at `at`. The 24 bytes before its lists: vip 8, sp offset 8, sp index 4, last temporary index 4.
+pub fn block_end(s: &[u8], at: usize) -> usize
+    ensures { λ r. ⌜ r ≡ blockEnd (now (s .entry)) at ⌝ }
+{
+    let i = jump(s, at, 24);
+    let count = word32(s, i);
+    let a = jump(s, i, 4);
+    let e = instructions_end(s, a, count);
+    let p = vips_end(s, e);
+    vips_end(s, p)
+}
+
+// The vip and the end of the block at `at`.
+pub fn block_at(s: &[u8], at: usize) -> PassedBlock
+    ensures { λ r. ⌜ (r .vip .0 ≡ word 8 (now (s .entry)) at) × (r .next ≡ blockEnd (now (s .entry)) at) ⌝ }
+{
+    let vip = Vip(word64(s, at));
+    let next = block_end(s, at);
+    PassedBlock { vip, next }
+}
