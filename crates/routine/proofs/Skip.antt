@@ -52,6 +52,23 @@ module _ (exact : Bool) (s : List ℕ) (o : ℕ) where
       chain (pad exact s m) _ (λ q. on (marked 2 0xdead s) q) (λ e. refl) (λ d l.
       chain-check (uint 2 s l) (λ v. eqb v 0xdead) 3 _ (λ q. q) (λ e. refl) (λ f k. refl))))
 
+-- the test after the blocks, where h says of every accepted list whether two of it share a vip
+abbrev Says : Bool → Res (List BasicBlock) → Type 0
+Says h r = (bs : List BasicBlock) (end : ℕ) → r ≡ ok bs end → h ≡ repeats (vips bs)
+
+module _ {n : ℕ} (h : Bool) where
+  pub shared : (r : Res (List BasicBlock)) → ok tt n ≡ span r → Says h r → h ≡ true
+      → no 9 ≡ span (bind r (λ bs k. bind (choose (not (repeats (vips bs))) (ok (tt {0}) k) (no 9)) (λ u m. ok bs m)))
+  unfolding span bind choose
+  shared (ok bs m) e f t = rw (sym (f bs m refl) ∙ t)
+  shared (no k) e f t = cc
+
+  pub alone : (r : Res (List BasicBlock)) → ok tt n ≡ span r → Says h r → h ≡ false
+      → ok tt n ≡ span (bind r (λ bs k. bind (choose (not (repeats (vips bs))) (ok (tt {0}) k) (no 9)) (λ u m. ok bs m)))
+  unfolding span bind choose
+  alone (ok bs m) e f t = rw (sym (f bs m refl) ∙ t) e
+  alone (no k) e f t = e
+
 -- a part whose own first part is read by itself
 pub assoc : {A B C : Type 0} (p : Res A) (g : A → ℕ → Res B) (f : B → ℕ → Res C) {x : Res Unit}
     → x ≡ span (bind p (λ a n. bind (g a n) f)) → x ≡ span (bind (bind p g) f)

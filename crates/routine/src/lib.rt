@@ -11,6 +11,7 @@ use fields::U32Read;
 use fields::U64Read;
 
 const VTIL_MAGIC_1: u64 = 0x4c49_5456;
+
 const VTIL_MAGIC_2: u64 = 0xdead;
 
 // A number of `k` bytes, at most 4, that must be `mark`, after what was passed over so far.
@@ -119,3 +120,43 @@ fn then_conventions(s: &[u8], far: Skip, exact: bool) -> Skip
     }
 }
 
+// The blocks, of which no two share a vip.
+fn blocks_skip(s: &[u8], at: usize, exact: bool) -> Skip
+    ensures { λ r. ⌜ of-skip r ≡ span (blocks exact (now (s .entry)) at) ⌝ }
+{
+    match fields::u32_at(s, at) {
+        U32Read::Refused(e) => Skip::Refused(e),
+        U32Read::Value(count, a) => match blocks_run(s, a, count, exact) {
+            Skip::Refused(e) => Skip::Refused(e),
+            Skip::Past(n) => {
+                if distinct::has_repeat(s, a, count) {
+                    Skip::Refused(fields::REPEATED_BLOCK)
+                } else {
+                    Skip::Past(n)
+                }
+            }
+        },
+    }
+}
+
+fn then_blocks(s: &[u8], far: Skip, exact: bool) -> Skip
+    ensures { λ r. ⌜ of-skip r ≡ bind (of-skip far) (λ _ n. span (blocks exact (now (s .entry)) n)) ⌝ }
+{
+    if let Skip::Past(at) = far {
+        blocks_skip(s, at, exact)
+    } else {
+        far
+    }
+}
+
+// The routine at `at` is passed over.
+pub fn routine_skip(s: &[u8], at: usize, exact: bool) -> Skip
+    ensures { λ r. ⌜ of-skip r ≡ span (routine exact (now (s .entry)) at) ⌝ }
+{
+    let a = header_skip(s, at, exact);
+    let b = fields::then_uint(s, a, 8);
+    let c = then_convention(s, b, exact);
+    let d = then_convention(s, c, exact);
+    let e = then_conventions(s, d, exact);
+    then_blocks(s, e, exact)
+}

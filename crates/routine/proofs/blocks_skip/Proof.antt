@@ -1,0 +1,78 @@
+-- The blocks passed over, and then the test of their vips, which is asked only of blocks that were accepted.
+use Rattle.routine.proofs.Skip.{shared, alone, assoc}
+use mathlib.Core.Path.{sym, ap, _∙_}
+use Rattle.fields.specs.Answers.{of-skip}
+use Rattle.pod.specs.Layout.{blocks}
+use Rattle.fields.proofs.Steps.{skip-on-u32, skip-off-u32, skip-off}
+use borrow.Author.Needs.{needs}
+use Rattle.routine.proofs.blocks_skip.Statement.{statement}
+use Rattle.routine.proofs.blocks_skip.Tie as tie
+use Rattle.routine.proofs.blocks_skip.Reads as reads
+use Rattle.routine.proofs.blocks_skip.Lts as lts
+use Rattle.distinct.proofs.has_repeat.Reads as has-repeat-reads
+use Rattle.fields.proofs.u32_at.Reads as u32-at-reads
+use Rattle.routine.proofs.blocks_run.Reads as blocks-run-reads
+
+u32-at-requires : tie.Need-u32-at-requires
+u32-at-requires c κs = search needs
+
+enum-known-e : tie.Need-enum-known-e
+enum-known-e c = search needs
+
+enum-known-count : tie.Need-enum-known-count
+enum-known-count c = search needs
+
+blocks-run-requires : tie.Need-blocks-run-requires
+blocks-run-requires c κs = search needs
+
+enum-known-e-2 : tie.Need-enum-known-e-2
+enum-known-e-2 c = search needs
+
+enum-known-n : tie.Need-enum-known-n
+enum-known-n c = search needs
+
+has-repeat-requires : tie.Need-has-repeat-requires
+has-repeat-requires c κs = search needs
+
+returns : tie.Need-returns
+unfolding blocks
+returns c = assoc _ _ _ (skip-off-u32 _ (c .before .e .given .1) (c .before .before .before .u32-at .ensures))
+
+returns-2 : tie.Need-returns-2
+unfolding blocks
+returns-2 c =
+    let k = c .before .before .before .before in
+    assoc _ _ _ (skip-on-u32 _ (k .before .count .given .1) (k .before .before .before .u32-at .ensures)
+    (skip-off _ _ (c .before .e2 .given .1) (c .before .before .before .blocks-run .ensures)))
+
+returns-3 : tie.Need-returns-3
+unfolding blocks
+returns-3 c =
+    let j = c .before .before in
+    let k = j .before .before .before .before in
+    assoc _ _ _ (skip-on-u32 _ (k .before .count .given .1) (k .before .before .before .u32-at .ensures)
+    (shared _ _ (sym (ap of-skip (j .before .n .given .1)) ∙ j .before .before .before .blocks-run .ensures) (c .before .has-repeat .ensures _) (c .if1 .taken)))
+
+returns-4 : tie.Need-returns-4
+unfolding blocks
+returns-4 c =
+    let j = c .before .before in
+    let k = j .before .before .before .before in
+    assoc _ _ _ (skip-on-u32 _ (k .before .count .given .1) (k .before .before .before .u32-at .ensures)
+    (alone _ _ (sym (ap of-skip (j .before .n .given .1)) ∙ j .before .before .before .blocks-run .ensures) (c .before .has-repeat .ensures _) (c .if1 .left)))
+
+pub blocks-skip-spec : {M : Type 1} → statement M
+blocks-skip-spec =
+    tie.close
+    (tie.spec
+    u32-at-requires
+    enum-known-e
+    enum-known-count
+    blocks-run-requires
+    enum-known-e-2
+    enum-known-n
+    has-repeat-requires
+    returns
+    returns-2
+    returns-3
+    returns-4)
