@@ -1,0 +1,3 @@
+pub mod At
+pub mod Back
+pub mod Round
