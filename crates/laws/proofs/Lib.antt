@@ -4,3 +4,4 @@ pub mod Round
 pub mod Post
 pub mod Took
 pub mod Consumed
+pub mod Layouts
