@@ -5,3 +5,6 @@ pub mod Post
 pub mod Took
 pub mod Consumed
 pub mod Layouts
+pub mod Sizes
+pub mod Place
+pub mod Local

@@ -195,17 +195,17 @@ module _ (exact : Bool) {s : List ℕ} (b : Bytes s) (o : ℕ) where
 -- lists
 module _ {A : Type 0} (exact : Bool) (p : Reader A) {P : A → Type 0} (m : A → List Mark) (w : A → List ℕ) {s : List ℕ}
     (each : (o : ℕ) → Post (p s o) (λ a n. P a × Took exact s o (m a) (w a) n)) where
-  run-took : (k o : ℕ) → o ≤ length s → Post (many p k s o) (λ xs n. (length xs ≡ k) × Each P xs × Took exact s o (many-marks m xs) (many-bytes w xs) n)
+  pub many-took : (k o : ℕ) → o ≤ length s → Post (many p k s o) (λ xs n. (length xs ≡ k) × Each P xs × Took exact s o (many-marks m xs) (many-bytes w xs) n)
   unfolding many many-marks many-bytes
-  run-took zero o h = give (refl, tt, took-none h)
-  run-took (suc k) o h =
-      step _ (each o) λ x n u. step _ (run-took k n (took-within (u .1))) λ xs e v.
+  many-took zero o h = give (refl, tt, took-none h)
+  many-took (suc k) o h =
+      step _ (each o) λ x n u. step _ (many-took k n (took-within (u .1))) λ xs e v.
       give (ap suc (v .0), (u .0, v .1), u .1 also v .2)
 
   pub counted-took : Bytes s → (o : ℕ) → Post (counted p s o) (λ xs n. List-holds P xs × Took exact s o (counted-marks m xs) (counted-bytes w xs) n)
   unfolding counted-marks counted-bytes bytes
   counted-took b o =
-      step _ (uint-took b o 4) λ k e u. so (λ xs n v. (record { count = rw (v .0) (u .0); each = v .1 }, kept (rw (← v .0) at (u .1)) also v .2)) (run-took k e (within (u .1)))
+      step _ (uint-took b o 4) λ k e u. so (λ xs n v. (record { count = rw (v .0) (u .0); each = v .1 }, kept (rw (← v .0) at (u .1)) also v .2)) (many-took k e (within (u .1)))
 
 -- of elements that are read as they stand
 module _ {A : Type 0} (p : Reader A) {P : A → Type 0} (w : A → List ℕ) {s : List ℕ} (each : (o : ℕ) → Post (p s o) (λ a n. P a × Spans s o (w a) n)) where
@@ -213,7 +213,7 @@ module _ {A : Type 0} (p : Reader A) {P : A → Type 0} (w : A → List ℕ) {s 
   marked o = so (λ a n h. (h .0, kept (h .1))) (each o)
 
   pub many-spans : (k o : ℕ) → o ≤ length s → Post (many p k s o) (λ xs n. (length xs ≡ k) × Each P xs × Spans s o (many-bytes w xs) n)
-  many-spans k o h = so (λ xs n u. (u .0, u .1, exactly (u .2))) (run-took true p _ w marked k o h)
+  many-spans k o h = so (λ xs n u. (u .0, u .1, exactly (u .2))) (many-took true p _ w marked k o h)
 
   pub counted-spans : Bytes s → (o : ℕ) → Post (counted p s o) (λ xs n. List-holds P xs × Spans s o (counted-bytes w xs) n)
   counted-spans b o = so (λ xs n u. (u .0, exactly (u .1))) (counted-took true p _ w marked b o)
