@@ -139,7 +139,7 @@ hash-fits v h =
     fold-fits (v % 4294967296) (v / 4294967296) p q
 
 -- the name at a name's place is that name
-placed : (xs : List (List ℕ)) (w : List ℕ) → place xs w < length xs → w ≡ getD xs (place xs w) []
+pub placed : (xs : List (List ℕ)) (w : List ℕ) → place xs w < length xs → w ≡ getD xs (place xs w) []
 unfolding place choose
 placed [] w h = absurd (omega arith)
 placed (x ∷ xs) w h = go (same w x) refl (placed xs w) h
@@ -172,7 +172,7 @@ each-under b [] h t i = h
 each-under b (x ∷ xs) h t zero = ltb→lt x b (fst (ltb x b) (under b xs) t)
 each-under b (x ∷ xs) h t (suc i) = each-under b xs h (snd (ltb x b) (under b xs) t) i
 
-few : (k : ℕ) → getD counts k 0 < 4
+pub few : (k : ℕ) → getD counts k 0 < 4
 unfolding counts
 few k = each-under 4 counts (omega arith) tt k
 

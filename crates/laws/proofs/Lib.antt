@@ -1,0 +1,10 @@
+pub mod At
+pub mod Back
+pub mod Round
+pub mod Post
+pub mod Took
+pub mod Consumed
+pub mod Layouts
+pub mod Sizes
+pub mod Place
+pub mod Local

@@ -1,0 +1,108 @@
+-- What a reader answers at o depends only on the bytes from o on: read from them alone, it answers the same, o bytes less far. The law of each
+-- way to make a reader, and then of each layout.
+-- Assumes nothing.
+use mathlib.Core.Path.{_≡_, refl, sym, ap, ap₂, _∙_}
+use mathlib.Core.List.{List, [], _∷_}
+use mathlib.Core.Bool.{Bool, true, false}
+use Prim.Native.Nat.{ℕ, zero, suc, _+_, _-_, _*_, _≤_, _<_, zero-le}
+use native.Mathlib.Nat.{add-zero, zero-add, add-assoc}
+use native.Mathlib.Omega.{arith}
+use lib.Dec.{leb}
+use lib.ListN.{length, getD, take, drop, length-drop}
+use lib.Seq.{getD-drop, drop-drop}
+use borrow.Author.Tests.{leb-true, leb-false, le-leb, lt-leb}
+use mir.Syntax.{Width}
+use Rattle.fields.specs.Parse.{Res, ok, no, Reader, bind, _>>=_, _>>_, done, check, choose, le, uint, int, part, many, counted, pad, flag, u32}
+use Rattle.fields.proofs.Le.{uint-ok, uint-no, uint-is}
+use Rattle.pod.specs.Layout.{header, register, immediate, operand, of-kind, named, opcode, after, instruction, convention, block, blocks, routine}
+use Rattle.laws.specs.Moved.{moved}
+use Rattle.laws.proofs.Post.{inv}
+
+pub record Local {A : Type 0} (p : Reader A) : Type 0 where
+  pub moves : (s : List ℕ) (o : ℕ) → o ≤ length s → p s o ≡ moved o (p (drop o s) 0)
+  -- it ends within the bytes
+  pub inside : (s : List ℕ) (o : ℕ) {a : A} {n : ℕ} → o ≤ length s → p s o ≡ ok a n → n ≤ length s
+
+moved-moved : {A : Type 0} (o n : ℕ) (r : Res A) → moved o (moved n r) ≡ moved (o + n) r
+unfolding moved
+moved-moved o n (ok a m) = ap (ok a) (sym (add-assoc o n m))
+moved-moved o n (no e) = refl
+
+-- from a value that was found further on, how far on it was found
+moved-ok : {A : Type 0} (o : ℕ) (r : Res A) {a : A} {n : ℕ} → moved o r ≡ ok a n → (k : ℕ) × (r ≡ ok a k) × (n ≡ o + k)
+unfolding moved
+moved-ok o (ok b k) e = (k, cc, cc)
+moved-ok o (no i) e = let z : _≡_ {A = ℕ} 0 1 = cc in absurd (omega arith)
+
+moved-no : {A : Type 0} (o : ℕ) (r : Res A) {e : ℕ} → moved o r ≡ no e → r ≡ no e
+unfolding moved
+moved-no o (ok b k) {e} q = let z : _≡_ {A = ℕ} 0 1 = cc in absurd (omega arith)
+moved-no o (no i) q = q
+
+-- where the same bytes stand from o in s as from o′ in s′, the same is read
+module _ {A : Type 0} {p : Reader A} (k : Local p) (s s′ : List ℕ) (o o′ : ℕ) (h : o ≤ length s) (h′ : o′ ≤ length s′) (e : drop o s ≡ drop o′ s′) where
+  pub elsewhere : {a : A} {n : ℕ} → p s o ≡ ok a n → p s′ o′ ≡ ok a (o′ + (n - o))
+  unfolding moved
+  elsewhere {a} {n} q =
+      let i = moved-ok o (p (drop o s) 0) (sym (k .moves s o h) ∙ q) in
+      let z : i .0 ≡ n - o = omega (arith, i .2) in
+      k .moves s′ o′ h′ ∙ ap (λ l. moved o′ (p l 0)) (sym e) ∙ ap (moved o′) (i .1) ∙ ap (λ j. ok a (o′ + j)) z
+
+  pub elsewhere-no : {c : ℕ} → p s o ≡ no c → p s′ o′ ≡ no c
+  unfolding moved
+  elsewhere-no q = k .moves s′ o′ h′ ∙ ap (λ l. moved o′ (p l 0)) (sym e) ∙ ap (moved o′) (moved-no o (p (drop o s) 0) (sym (k .moves s o h) ∙ q))
+
+module _ {A B : Type 0} (p : Reader A) (f : A → Reader B) where
+  pub local-bind : Local p → ((a : A) → Local (f a)) → Local (p >>= f)
+  unfolding bind moved
+  local-bind h k =
+      record {
+        moves = λ s o l. ap (λ r. bind r (λ a n. f a s n)) (h .moves s o l) ∙ go s o l (p (drop o s) 0) refl;
+        inside = λ s o l e. let i = inv (p s o) _ e in k (i .0) .inside s (i .1) (h .inside s o l (i .2)) (i .3);
+      }
+    where
+      go : (s : List ℕ) (o : ℕ) → o ≤ length s → (r : Res A) → p (drop o s) 0 ≡ r → bind (moved o r) (λ a n. f a s n) ≡ moved o (bind r (λ a n. f a (drop o s) n))
+      go s o l (ok a n) e =
+          let w = h .inside (drop o s) 0 zero-le e in
+          k a .moves s (o + n) (omega (arith, length-drop o s)) ∙ sym (moved-moved o n (f a (drop (o + n) s) 0))
+          ∙ ap (moved o) (ap (λ t. moved n (f a t 0)) (sym (drop-drop n o s)) ∙ sym (k a .moves (drop o s) n w))
+      go s o l (no c) e = refl
+
+pub local-done : {A : Type 0} (a : A) → Local (done a)
+unfolding moved
+local-done a = record { moves = λ s o l. ap (ok a) (sym (add-zero o)); inside = λ s o {b} {n} l e. let z : o ≡ n = cc in rw (← z) l }
+
+pub local-no : {A : Type 0} (e : ℕ) → Local {A = A} (λ s o. no e)
+unfolding moved
+local-no e = record { moves = λ s o l. refl; inside = λ s o l q. let z : _≡_ {A = ℕ} 0 1 = cc in absurd (omega arith) }
+
+pub local-choose : {A : Type 0} (t : Bool) (p q : Reader A) → Local p → Local q → Local (λ s o. choose t (p s o) (q s o))
+unfolding choose
+local-choose true p q h k = h
+local-choose false p q h k = k
+
+pub local-check : (e : ℕ) (t : Bool) → Local (check e t)
+local-check e t = local-choose t _ _ (local-done tt) (local-no e)
+
+le-drop : (k : ℕ) (s : List ℕ) (o i : ℕ) → le k (drop o s) i ≡ le k s (o + i)
+unfolding le
+le-drop zero s o i = refl
+le-drop (suc k) s o i = ap₂ (λ x y. x + 256 * y) (getD-drop o s i 0) (le-drop k s o (i + 1) ∙ ap (le k s) (sym (add-assoc o i 1)))
+
+pub local-uint : (k : ℕ) → Local (uint k)
+unfolding moved
+local-uint k =
+    record {
+      moves = λ s o l. go s o l (leb (o + k) (length s)) refl;
+      inside = λ s o l e. omega (arith, uint-is k s o e .1, uint-is k s o e .2);
+    }
+  where
+    go : (s : List ℕ) (o : ℕ) → o ≤ length s → (t : Bool) → leb (o + k) (length s) ≡ t → uint k s o ≡ moved o (uint k (drop o s) 0)
+    go s o l true q =
+        let h = leb-true (o + k) (length s) q in
+        uint-ok k s o h
+        ∙ ap₂ (λ v n. ok v n) (sym (le-drop k s o 0 ∙ ap (le k s) (add-zero o))) (ap (λ n. o + n) (sym (zero-add k)))
+        ∙ ap (moved o) (sym (uint-ok k (drop o s) 0 (omega (arith, length-drop o s))))
+    go s o l false q =
+        let h = leb-false (o + k) (length s) q in
+        uint-no k s o h ∙ ap (moved o) (sym (uint-no k (drop o s) 0 (omega (arith, length-drop o s))))

@@ -1,0 +1,219 @@
+-- The bytes that a value was read from, against its written form: the written form is what the marks make of them, and is they themselves where
+-- reading was exact. The law of each way to make a reader.
+-- Assumes nothing.
+use mathlib.Core.Path.{_≡_, refl, sym, ap, ap₂, _∙_}
+use mathlib.Core.List.{List, [], _∷_, _++_, append-assoc}
+use mathlib.Core.Bool.{Bool, true, false, not}
+use Prim.Native.Nat.{ℕ, zero, suc, _+_, _-_, _*_, _/_, _%_, _^_, _≤_, _<_}
+use native.Mathlib.Nat.{add-zero}
+use native.Mathlib.Numerals.{add-one}
+use native.Mathlib.Omega.{arith}
+use lib.Dec.{leb, eqb}
+use lib.ListN.{length, getD, take, drop, length-append, length-take, length-drop, length-replicate, replicate-append-replicate, take-append-drop}
+use lib.Seq.{drop-cons, take-at}
+use lib.IntN.{ℤ}
+use borrow.Author.Tests.{leb-true, eqb-true, eqb-false, eq-eqb, ne-eqb}
+use mir.Syntax.{Width}
+use mir.Val.{Fits, SFits, ofZ, toZ, bits}
+use mir.ValLaws.{ofZ-toZ, toZ-fits}
+use Rattle.fields.specs.Parse.{Res, ok, no, Reader, bind, choose, done, _>>=_, le, uint, int, part, many, counted, taken, pad, flag}
+use Rattle.fields.proofs.Le.{Bytes, uint-is, le-lt}
+use Rattle.pod.specs.Written.{bytes, bit, many-bytes, counted-bytes}
+use Rattle.laws.specs.Holds.{Each, List-holds}
+use Rattle.laws.specs.Normal.{Mark, keep, normalise, keeps, last-flag, many-marks, counted-marks}
+use Rattle.laws.specs.Normal as N
+use Rattle.laws.proofs.At.{At, fits, join, none, Spans, within, _then_}
+use Rattle.laws.proofs.Back.{length-bytes}
+use Rattle.laws.proofs.Post.{Post, give, step, test, either, never, so}
+
+-- the bytes `found` stand from o to n
+pub record Took (exact : Bool) (s : List ℕ) (o : ℕ) (m : List Mark) (l : List ℕ) (n : ℕ) : Type 0 where
+  pub found : List ℕ
+  pub stands : Spans s o found n
+  pub marked : length m ≡ length found
+  pub normal : normalise m found ≡ l
+  pub same : exact ≡ true → found ≡ l
+
+-- read exactly, they are the written form
+pub exactly : {s : List ℕ} {o n : ℕ} {m : List Mark} {l : List ℕ} → Took true s o m l n → Spans s o l n
+exactly {s} {o} {n} t = rw (t .same refl) at (t .stands)
+
+normal-keeps : (l : List ℕ) → normalise (keeps (length l)) l ≡ l
+unfolding normalise
+normal-keeps [] = refl
+normal-keeps (x ∷ l) = ap (λ r. x ∷ r) (normal-keeps l)
+
+normal-append : (m k : List Mark) (a b : List ℕ) → length m ≡ length a → normalise (m ++ k) (a ++ b) ≡ normalise m a ++ normalise k b
+unfolding normalise
+normal-append [] k [] b e = refl
+normal-append [] k (x ∷ a) b e = absurd (omega arith)
+normal-append (y ∷ m) k [] b e = absurd (omega arith)
+normal-append (y ∷ m) k (x ∷ a) b e = ap (λ r. N.normal y x ∷ r) (normal-append m k a b (omega arith))
+
+length-normalise : (m : List Mark) (a : List ℕ) → length m ≡ length a → length (normalise m a) ≡ length a
+unfolding normalise
+length-normalise [] [] e = refl
+length-normalise [] (x ∷ a) e = absurd (omega arith)
+length-normalise (y ∷ m) [] e = absurd (omega arith)
+length-normalise (y ∷ m) (x ∷ a) e = ap suc (length-normalise m a (omega arith))
+
+module _ {exact : Bool} {s : List ℕ} where
+  module _ {o n : ℕ} {m : List Mark} {l : List ℕ} (t : Took exact s o m l n) where
+    -- its size
+    pub took-to : n ≡ o + length l
+    took-to = t .stands .to ∙ ap (λ k. o + k) (sym (length-normalise m (t .found) (t .marked)) ∙ ap length (t .normal))
+
+    pub took-within : n ≤ length s
+    took-within = within (t .stands)
+
+    pub took-normal : l ≡ normalise m (take (n - o) (drop o s))
+    took-normal =
+        let e : length (t .found) ≡ n - o = omega (arith, t .stands .to) in
+        sym (rw (t .stands .at .is, take-at (t .found) (t .stands .at .rest) (n - o) e) (t .normal))
+
+  pub took-none : {o : ℕ} → o ≤ length s → Took exact s o [] [] o
+  unfolding normalise
+  took-none {o} h = record { found = []; stands = record { at = none h; to = sym (add-zero o) }; marked = refl; normal = refl; same = λ e. refl }
+
+  -- as they stand
+  pub kept : {o n : ℕ} {l : List ℕ} → Spans s o l n → Took exact s o (keeps (length l)) l n
+  kept {o} {n} {l} h = record { found = l; stands = h; marked = length-replicate (length l) keep; normal = normal-keeps l; same = λ e. refl }
+
+  infixr 20 _also_
+  pub _also_ : {o e n : ℕ} {m k : List Mark} {a b : List ℕ} → Took exact s o m a e → Took exact s e k b n → Took exact s o (m ++ k) (a ++ b) n
+  _also_ {o} {e} {n} {m} {k} {a} {b} t u =
+      record {
+        found = t .found ++ u .found;
+        stands = t .stands then u .stands;
+        marked = length-append m k ∙ ap₂ (λ i j. i + j) (t .marked) (u .marked) ∙ sym (length-append (t .found) (u .found));
+        normal = normal-append m k (t .found) (u .found) (t .marked) ∙ ap₂ (λ i j. i ++ j) (t .normal) (u .normal);
+        same = λ q. ap₂ (λ i j. i ++ j) (t .same q) (u .same q);
+      }
+
+-- with a flag as the last byte
+pub record Flagged (exact : Bool) (s : List ℕ) (o : ℕ) (l : List ℕ) (n : ℕ) : Type 0 where
+  pub took : Took exact s o (last-flag l) l n
+  pub some : 0 < length l
+
+last-flag-append : (a b : List ℕ) → 0 < length b → last-flag (a ++ b) ≡ keeps (length a) ++ last-flag b
+unfolding last-flag
+last-flag-append a b h =
+    let e : length (a ++ b) - 1 ≡ length a + (length b - 1) = rw (length-append a b) (omega arith) in
+    rw (e, ← replicate-append-replicate (length a) (length b - 1) keep) (append-assoc (keeps (length a)) (keeps (length b - 1)) (N.flag ∷ []))
+
+infixr 20 _ahead_
+pub _ahead_ : {exact : Bool} {s : List ℕ} {o e n : ℕ} {a b : List ℕ} → Spans s o a e → Flagged exact s e b n → Flagged exact s o (a ++ b) n
+_ahead_ {exact} {s} {o} {e} {n} {a} {b} h t =
+    record { took = rw (last-flag-append a b (t .some)) (kept h also (t .took)); some = rw (length-append a b) (omega (arith, t .some)) }
+
+bytes-le : (k : ℕ) (s : List ℕ) (o : ℕ) → Bytes s → o + k ≤ length s → drop o s ≡ bytes k (le k s o) ++ drop (o + k) s
+unfolding bytes le
+bytes-le zero s o b h = ap (λ i. drop i s) (sym (add-zero o))
+bytes-le (suc k) s o b h =
+    let x = getD s o 0 in
+    let r = le k s (o + 1) in
+    let f = b o in
+    let e₁ : (x + 256 * r) % 256 ≡ x = omega arith in
+    let e₂ : (x + 256 * r) / 256 ≡ r = omega arith in
+    let e₃ : o + suc k ≡ o + 1 + k = omega arith in
+    drop-cons s o 0 (omega arith) ∙ rw (e₁, e₂, e₃, ← add-one o) (ap (λ l. x ∷ l) (bytes-le k s (o + 1) b (omega arith)))
+
+module _ {s : List ℕ} (b : Bytes s) (o : ℕ) where
+  pub uint-took : (k : ℕ) → Post (uint k s o) (λ v n. (v < 2 ^ (8 * k)) × Spans s o (bytes k v) n)
+  uint-took k = record { when = λ v n e. go v n (uint-is k s o e) }
+    where
+      go : (v n : ℕ) → (v ≡ le k s o) × (n ≡ o + k) × (o + k ≤ length s) → (v < 2 ^ (8 * k)) × Spans s o (bytes k v) n
+      go v n i = (
+        rw (i .0) (le-lt k s o b),
+        record {
+          at = record { rest = drop (o + k) s; is = rw (i .0) (bytes-le k s o b (i .2)); within = omega (arith, i .2) };
+          to = omega (arith, i .1, length-bytes k v);
+        },
+      )
+
+  -- v was read as a signed number at width w
+  signed : (w : Width) (k v n : ℕ) → bits w ≡ 8 * k → v < 2 ^ (8 * k) → Spans s o (bytes k v) n → SFits w (int w v) × Spans s o (bytes k (ofZ w (int w v))) n
+  unfolding int
+  signed w k v n g h t =
+      let f : Fits w v = record { fits = rw g h } in
+      (toZ-fits w v f, rw (ofZ-toZ w v f) t)
+
+  pub int-took : (w : Width) (k : ℕ) → bits w ≡ 8 * k → Post ((uint k >>= λ v. done (int w v)) s o) (λ z n. SFits w z × Spans s o (bytes k (ofZ w z)) n)
+  int-took w k g = step _ (uint-took k) λ v n u. give (signed w k v n g (u .0) (u .1))
+
+pub part-took : {s : List ℕ} (o k : ℕ) → Post (part k s o) (λ l n. (length l ≡ k) × Spans s o l n)
+unfolding part
+part-took {s} o k =
+    either (leb (o + k) (length s)) (λ q.
+    let h = leb-true (o + k) (length s) q in
+    let e : length (take k (drop o s)) ≡ k = simp (length-take, length-drop) (omega arith) in
+    give (e, record { at = record { rest = drop k (drop o s); is = sym (take-append-drop k (drop o s)); within = omega arith }; to = rw e })) (λ q. never 1)
+
+-- a byte that is taken where the written form has at most `most`
+taken-most : (exact : Bool) (most v : ℕ) → taken exact most v ≡ true → exact ≡ true → v ≤ most
+unfolding taken choose
+taken-most true most v h e = leb-true v most h
+taken-most false most v h e = let z : _≡_ {A = ℕ} 0 1 = cc in absurd (omega arith)
+
+flag-byte : (v : ℕ) → v ≤ 1 → v ≡ bit (not (eqb v 0))
+flag-byte zero h = refl
+flag-byte (suc zero) h = refl
+flag-byte (suc (suc v)) h = absurd (omega arith)
+
+small-bit : (t : Bool) → bit t ≡ bit t % 256
+small-bit true = refl
+small-bit false = refl
+
+module _ (exact : Bool) {s : List ℕ} (b : Bytes s) (o : ℕ) where
+  pub pad-took : Post (pad exact s o) (λ x n. Took exact s o (N.pad ∷ []) (bytes 1 0) n)
+  unfolding pad normalise bytes
+  pad-took =
+      step _ (uint-took b o 1) λ v n u. test _ _ _ _ λ q. give (record {
+        found = bytes 1 v;
+        stands = u .1;
+        marked = refl;
+        normal = refl;
+        same = λ e. let z : v ≡ 0 = omega (arith, taken-most exact 0 v q e) in ap (bytes 1) z;
+      })
+
+  pub flag-took : Post (flag exact s o) (λ x n. Flagged exact s o (bytes 1 (bit x)) n)
+  unfolding flag normalise bytes last-flag
+  flag-took =
+      step _ (uint-took b o 1) λ v n u. test _ _ _ _ λ q.
+      let w : v % 256 ≡ v = omega (arith, u .0) in
+      give (record {
+        took = record {
+          found = bytes 1 v;
+          stands = u .1;
+          marked = refl;
+          normal = ap (λ l. l ∷ []) (ap (λ i. bit (not (eqb i 0))) w ∙ small-bit (not (eqb v 0)));
+          same = λ e. ap (bytes 1) (flag-byte v (taken-most exact 1 v q e));
+        };
+        some = omega arith;
+      })
+
+-- lists
+module _ {A : Type 0} (exact : Bool) (p : Reader A) {P : A → Type 0} (m : A → List Mark) (w : A → List ℕ) {s : List ℕ}
+    (each : (o : ℕ) → Post (p s o) (λ a n. P a × Took exact s o (m a) (w a) n)) where
+  pub many-took : (k o : ℕ) → o ≤ length s → Post (many p k s o) (λ xs n. (length xs ≡ k) × Each P xs × Took exact s o (many-marks m xs) (many-bytes w xs) n)
+  unfolding many many-marks many-bytes
+  many-took zero o h = give (refl, tt, took-none h)
+  many-took (suc k) o h =
+      step _ (each o) λ x n u. step _ (many-took k n (took-within (u .1))) λ xs e v.
+      give (ap suc (v .0), (u .0, v .1), u .1 also v .2)
+
+  pub counted-took : Bytes s → (o : ℕ) → Post (counted p s o) (λ xs n. List-holds P xs × Took exact s o (counted-marks m xs) (counted-bytes w xs) n)
+  unfolding counted-marks counted-bytes bytes
+  counted-took b o =
+      step _ (uint-took b o 4) λ k e u. so (λ xs n v. (record { count = rw (v .0) (u .0); each = v .1 }, kept (rw (← v .0) at (u .1)) also v .2)) (many-took k e (within (u .1)))
+
+-- of elements that are read as they stand
+module _ {A : Type 0} (p : Reader A) {P : A → Type 0} (w : A → List ℕ) {s : List ℕ} (each : (o : ℕ) → Post (p s o) (λ a n. P a × Spans s o (w a) n)) where
+  marked : (o : ℕ) → Post (p s o) (λ a n. P a × Took true s o (keeps (length (w a))) (w a) n)
+  marked o = so (λ a n h. (h .0, kept (h .1))) (each o)
+
+  pub many-spans : (k o : ℕ) → o ≤ length s → Post (many p k s o) (λ xs n. (length xs ≡ k) × Each P xs × Spans s o (many-bytes w xs) n)
+  many-spans k o h = so (λ xs n u. (u .0, u .1, exactly (u .2))) (many-took true p _ w marked k o h)
+
+  pub counted-spans : Bytes s → (o : ℕ) → Post (counted p s o) (λ xs n. List-holds P xs × Spans s o (counted-bytes w xs) n)
+  counted-spans b o = so (λ xs n u. (u .0, exactly (u .1))) (counted-took true p _ w marked b o)
