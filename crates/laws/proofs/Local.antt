@@ -4,15 +4,15 @@
 use mathlib.Core.Path.{_≡_, refl, sym, ap, ap₂, _∙_}
 use mathlib.Core.List.{List, [], _∷_}
 use mathlib.Core.Bool.{Bool, true, false}
-use Prim.Native.Nat.{ℕ, zero, suc, _+_, _-_, _*_, _≤_, _<_, zero-le}
+use Prim.Native.Nat.{ℕ, zero, suc, _+_, _-_, _*_, _≤_, zero-le}
 use native.Mathlib.Nat.{add-zero, zero-add, add-assoc}
 use native.Mathlib.Omega.{arith}
 use lib.Dec.{leb}
-use lib.ListN.{length, getD, take, drop, length-drop}
+use lib.ListN.{length, take, drop, length-drop}
 use lib.Seq.{getD-drop, drop-drop}
 use borrow.Author.Tests.{leb-true, leb-false, le-leb, lt-leb}
 use mir.Syntax.{Width}
-use Rattle.fields.specs.Parse.{Res, ok, no, Reader, bind, _>>=_, _>>_, done, check, choose, le, uint, int, part, many, counted, pad, flag, u32}
+use Rattle.fields.specs.Parse.{Res, ok, no, Reader, bind, _>>=_, done, check, choose, le, uint, int, part, many, counted, pad, flag, u32}
 use Rattle.fields.proofs.Le.{uint-ok, uint-no, uint-is}
 use Rattle.pod.specs.Layout.{header, register, immediate, operand, of-kind, named, opcode, after, instruction, convention, block, blocks, routine}
 use Rattle.laws.specs.Moved.{moved}

@@ -8,7 +8,7 @@ use native.Mathlib.Nat.{le-of-suc-le-suc}
 use native.Mathlib.Omega.{arith}
 use lib.ListN.{getD, length, take, drop}
 use lib.Seq.{split-at}
-use Rattle.fields.specs.Parse.{Res, ok, no, Reader, bind, many, counted, u32, span}
+use Rattle.fields.specs.Parse.{ok, Reader, bind, many, counted, u32, span}
 use Rattle.fields.proofs.Le.{Bytes}
 use Rattle.pod.specs.Written.{many-bytes}
 use Rattle.laws.specs.Normal.{Mark}
