@@ -100,3 +100,7 @@ module _ {A : Type 0} {p : Bool → Reader A} {H : A → Type 0} {m : A → List
 
     pub found-end : f .end ≡ f .start + length (w (getD xs i d))
     found-end = read-to k exact b (f .is)
+
+    -- and it is read from there
+    pub found-at : p exact s (o + length (many-bytes w (take i xs))) ≡ ok (getD xs i d) (o + length (many-bytes w (take i xs)) + length (w (getD xs i d)))
+    found-at = rw (← found-start, ← found-end) (f .is)
