@@ -75,6 +75,10 @@ block-size b = simp (length-append, block-head-size, counted-size instruction-by
 pub block-least : (b : BasicBlock) → 36 ≤ length (block-bytes b)
 block-least b = omega (arith, block-size b)
 
+pub block-empty : (b : BasicBlock) → b .instructions ≡ [] → b .prev-vip ≡ [] → b .next-vip ≡ [] → length (block-bytes b) ≡ 36
+unfolding many-bytes
+block-empty b e f g = block-size b ∙ rw (e, f, g)
+
 pub routine-head-size : (r : Routine)
     → length (routine-head-bytes r)
     ≡ 20 + length (convention-bytes (r .routine-convention)) + length (convention-bytes (r .subroutine-convention))
