@@ -6,6 +6,7 @@ use libc::STDOUT_FILENO;
 
 // The counts: 0 accepted, 1 to 9 the refusals, then these two.
 const RECORDS: usize = 10;
+
 const DIFFERENCES: usize = 11;
 
 fn wide(x: u8) -> u64 {

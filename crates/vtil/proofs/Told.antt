@@ -27,10 +27,10 @@ ends s b {n} h = go (read-file s) refl h
     go (ok a m) e h = let z : n ≡ m = cc in rw z (read-within routine-layout false b e)
     go (no k) e h = let z : _≡_ {A = ℕ} 0 1 = cc in absurd (omega arith)
 
-pub told-ok : {A : Type 0} (r : Res A) {n : ℕ} → n < 2 ^ 63 → ok tt n ≡ span r → toZ w64 n ≡ told r
+pub told-ok : {A : Type 0} (r : Res A) {n : ℕ} → ok tt n ≡ span r → pos n ≡ told r
 unfolding span told
-told-ok (ok a m) {n} l h = let z : n ≡ m = cc in toZ-pos w64 n l ∙ ap pos z
-told-ok (no k) l h = cc
+told-ok (ok a m) {n} h = let z : n ≡ m = cc in ap pos z
+told-ok (no k) h = cc
 
 minus : (e : ℕ) → e < 2 ^ 63 → pos 0 -ℤ toZ w64 e ≡ negℤ (pos e)
 minus e h = ap (λ z. pos 0 -ℤ z) (toZ-pos w64 e h) ∙ +ℤ-idl (negℤ (pos e))

@@ -1,6 +1,8 @@
 -- The file check: the walk's answer as a signed number.
 use mathlib.Core.Path.{sym, ap, _∙_}
 use native.Mathlib.Omega.{arith}
+use mir.Syntax.{w64}
+use mir.ValLaws.{toZ-ofZ}
 use Rattle.fields.specs.Answers.{of-skip}
 use Rattle.vtil.proofs.Told.{ends, told-ok, told-no, minus-fits, within-limit, over-limit}
 use borrow.Author.Needs.{needs}
@@ -9,6 +11,7 @@ use Rattle.vtil.proofs.vtil_check.Tie as tie
 use Rattle.vtil.proofs.vtil_check.Reads as reads
 use Rattle.vtil.proofs.vtil_check.Lts as lts
 use Rattle.routine.proofs.routine_skip.Reads as routine-skip-reads
+use Rattle.vtil.proofs.signed.Reads as signed-reads
 
 cast-result : tie.Need-cast-result
 cast-result c = search needs
@@ -25,25 +28,25 @@ routine-skip-requires c κs = search needs
 enum-known-n : tie.Need-enum-known-n
 enum-known-n c = search needs
 
-cast-result-2 : tie.Need-cast-result-2
-cast-result-2 c =
+signed-requires : tie.Need-signed-requires
+signed-requires c κs =
     let w = c .before .before .before in
-    record { sfits = omega (arith, ends _ (w .before .before .shared-slice-known .given) (sym (ap of-skip (c .before .n .given .1)) ∙ w .routine-skip .ensures)) }
+    omega (arith, ends _ (w .before .before .shared-slice-known .given) (sym (ap of-skip (c .before .n .given .1)) ∙ w .routine-skip .ensures))
 
 enum-known-e : tie.Need-enum-known-e
 enum-known-e c = search needs
 
-cast-result-3 : tie.Need-cast-result-3
-cast-result-3 c = search needs
+cast-result-2 : tie.Need-cast-result-2
+cast-result-2 c = search needs
 
 sub-result-2 : tie.Need-sub-result-2
 sub-result-2 c = minus-fits (c .before .e .given .0 .0) (omega arith)
 
 returns-2 : tie.Need-returns-2
 returns-2 c =
-    let w = c .before .before .before in
-    let h = sym (ap of-skip (c .before .n .given .1)) ∙ w .routine-skip .ensures in
-    told-ok _ (omega (arith, ends _ (w .before .before .shared-slice-known .given) h)) h ∙ within-limit _ (w .before .if1 .left)
+    let k = c .before in
+    let w = k .before .before .before in
+    toZ-ofZ w64 _ (record { sfits = c .signed .ok }) ∙ c .signed .ensures ∙ told-ok _ (sym (ap of-skip (k .before .n .given .1)) ∙ w .routine-skip .ensures) ∙ within-limit _ (w .before .if1 .left)
 
 returns-3 : tie.Need-returns-3
 returns-3 c =
@@ -59,9 +62,9 @@ vtil-check-spec =
     returns
     routine-skip-requires
     enum-known-n
-    cast-result-2
+    signed-requires
     enum-known-e
-    cast-result-3
+    cast-result-2
     sub-result-2
     returns-2
     returns-3)
