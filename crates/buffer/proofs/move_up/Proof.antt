@@ -12,7 +12,7 @@ use Rattle.buffer.proofs.move_up.Lts as lts
 use Rattle.buffer.proofs.move_some.Reads as move-some-reads
 
 abbrev Inv-loop : tie.InvT-loop
-Inv-loop a₀ from to n room₀ i₀ a room i = (i ≤ n) × ((length room ≡ 1024) × ((length a ≡ length a₀) × (a ≡ moved (from + i) (to + i) (n - i) a₀)))
+Inv-loop a₀ from to n room₀ i₀ a room i = (i ≤ n) × ((length room ≡ 512) × ((length a ≡ length a₀) × (a ≡ moved (from + i) (to + i) (n - i) a₀)))
 
 abbrev μ-loop : tie.MeasureT-loop
 μ-loop a₀ from to n room₀ i₀ a room i = i
