@@ -7,15 +7,15 @@ use Prim.Native.Nat.{ℕ, zero, suc, _+_, _*_, _/_, _%_, _^_, _≤_, _<_}
 use native.Mathlib.Nat.{add-zero}
 use native.Mathlib.Omega.{arith}
 use lib.Dec.{leb}
-use lib.ListN.{length, drop, take, length-append}
+use lib.ListN.{length, length-append}
 use lib.Seq.{take-at}
 use lib.Pow.{pow-add}
 use lib.IntN.{ℤ}
 use borrow.Author.Tests.{le-leb}
 use mir.Syntax.{Width}
-use mir.Val.{ofZ, toZ, SFits, bits}
+use mir.Val.{ofZ, SFits, bits}
 use mir.ValLaws.{toZ-ofZ, ofZ-fits}
-use Rattle.fields.specs.Parse.{Res, ok, no, Reader, bind, _>>=_, _>>_, done, check, choose, le, uint, int, part, many, counted, taken, pad, flag}
+use Rattle.fields.specs.Parse.{ok, Reader, bind, _>>=_, _>>_, done, check, choose, le, uint, int, part, many, counted, taken, pad, flag}
 use Rattle.fields.proofs.Le.{uint-ok}
 use Rattle.pod.specs.Written.{bytes, bit, many-bytes, counted-bytes}
 use Rattle.laws.specs.Holds.{Each, List-holds}

@@ -1,29 +1,27 @@
 -- What is read is a value that the layout holds, and its written form is the bytes that were consumed, as `Took` says: each layout field by field.
 -- Assumes nothing.
-use mathlib.Core.Path.{_≡_, refl, sym, ap, _∙_}
-use mathlib.Core.List.{List, [], _∷_, _++_}
-use mathlib.Core.Bool.{Bool, true, false, not}
-use Prim.Native.Nat.{ℕ, _+_, _*_, _^_, _<_, _≤_}
+use mathlib.Core.Path.{_≡_, refl, subst}
+use mathlib.Core.List.{List, [], _++_}
+use mathlib.Core.Bool.{Bool}
+use Prim.Native.Nat.{ℕ, _<_}
 use native.Mathlib.Omega.{arith}
 use lib.Dec.{eqb}
 use lib.ListN.{length, getD}
 use borrow.Author.Tests.{leb-true, eqb-true, ltb-true, not-true}
 use mir.Syntax.{w32, w64}
-use Rattle.fields.specs.Parse.{Res, ok, no, bind, choose, uint, u64}
+use Rattle.fields.specs.Parse.{u64}
 use Rattle.fields.proofs.Le.{Bytes}
 use Rattle.op.specs.Ops.{names, counts, number}
 use Rattle.op.proofs.Same.{names-many}
 use Rattle.op.proofs.Packed.{placed}
-use Rattle.pod.specs.Values.{Instruction, RoutineConvention, BasicBlock, Routine}
 use Rattle.pod.specs.Blocks.{vips, repeats}
 use Rattle.pod.specs.Layout.{header, register, immediate, operand, named, opcode, after, instruction, convention, block, blocks, routine}
-use Rattle.pod.specs.Written.{bytes, many-bytes, counted-bytes, header-bytes, register-bytes, immediate-bytes, operand-bytes, name-bytes, instruction-bytes, convention-bytes, block-head-bytes, block-bytes, routine-head-bytes, routine-bytes}
-use Rattle.pod.specs.declared.Operand.the-variants.{Imm, Reg}
-use Rattle.laws.specs.Holds.{Header-holds, Register-holds, Immediate-holds, Operand-holds, Instruction-holds, Convention-holds, Block-holds, Blocks-holds, Routine-holds, Vip-holds}
+use Rattle.pod.specs.Written.{bytes, counted-bytes, header-bytes, register-bytes, immediate-bytes, operand-bytes, name-bytes, instruction-bytes, convention-bytes, block-head-bytes, block-bytes, routine-head-bytes, routine-bytes}
+use Rattle.laws.specs.Holds.{Header-holds, Register-holds, Immediate-holds, Operand-holds, Instruction-holds, Convention-holds, Block-holds, Blocks-holds, Routine-holds}
 use Rattle.laws.specs.Normal.{counted-marks, header-marks, instruction-marks, convention-marks, block-marks, routine-marks}
 use Rattle.laws.proofs.At.{Spans, within, _then_}
-use Rattle.laws.proofs.Post.{Post, give, step, test, either, never, so}
-use Rattle.laws.proofs.Took.{Took, Flagged, kept, _also_, _ahead_, uint-took, int-took, part-took, pad-took, flag-took, counted-took, many-spans, counted-spans}
+use Rattle.laws.proofs.Post.{Post, give, step, test, either, never}
+use Rattle.laws.proofs.Took.{Took, kept, _also_, _ahead_, uint-took, int-took, part-took, pad-took, flag-took, counted-took, many-spans, counted-spans}
 
 module _ {s : List ℕ} (b : Bytes s) (o : ℕ) where
   pub register-took : Post (register s o) (λ r n. Register-holds r × Spans s o (register-bytes r) n)
@@ -76,7 +74,7 @@ opcode-took {s} b o =
     give (record {
       listed = h;
       m = n₂;
-      name = mathlib.Core.Path.subst (λ x. Spans s o (bytes 4 (length x) ++ x) n₂) e (size-name then u₂ .1);
+      name = subst (λ x. Spans s o (bytes 4 (length x) ++ x) n₂) e (size-name then u₂ .1);
       count = rw (eqb-true c (getD counts (number w) 0) q) at (u₃ .1);
     })
 

@@ -4,6 +4,7 @@ pub mod Round
 pub mod Post
 pub mod Took
 pub mod Consumed
+pub mod Octets
 pub mod Layouts
 pub mod Sizes
 pub mod Place

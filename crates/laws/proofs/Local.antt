@@ -4,15 +4,15 @@
 use mathlib.Core.Path.{_≡_, refl, sym, ap, ap₂, _∙_}
 use mathlib.Core.List.{List, [], _∷_}
 use mathlib.Core.Bool.{Bool, true, false}
-use Prim.Native.Nat.{ℕ, zero, suc, _+_, _-_, _*_, _≤_, _<_, zero-le}
+use Prim.Native.Nat.{ℕ, zero, suc, _+_, _-_, _*_, _≤_, zero-le}
 use native.Mathlib.Nat.{add-zero, zero-add, add-assoc}
 use native.Mathlib.Omega.{arith}
 use lib.Dec.{leb}
-use lib.ListN.{length, getD, take, drop, length-drop}
+use lib.ListN.{length, take, drop, length-drop}
 use lib.Seq.{getD-drop, drop-drop}
 use borrow.Author.Tests.{leb-true, leb-false, le-leb, lt-leb}
 use mir.Syntax.{Width}
-use Rattle.fields.specs.Parse.{Res, ok, no, Reader, bind, _>>=_, _>>_, done, check, choose, le, uint, int, part, many, counted, pad, flag, u32}
+use Rattle.fields.specs.Parse.{Res, ok, no, Reader, bind, _>>=_, done, check, choose, le, uint, int, part, many, counted, pad, flag, u32}
 use Rattle.fields.proofs.Le.{uint-ok, uint-no, uint-is}
 use Rattle.pod.specs.Layout.{header, register, immediate, operand, of-kind, named, opcode, after, instruction, convention, block, blocks, routine}
 use Rattle.laws.specs.Moved.{moved}
@@ -70,7 +70,7 @@ module _ {A B : Type 0} (p : Reader A) (f : A → Reader B) where
 
 pub local-done : {A : Type 0} (a : A) → Local (done a)
 unfolding moved
-local-done a = record { moves = λ s o l. ap (ok a) (sym (add-zero o)); inside = λ s o {b} {n} l e. let z : o ≡ n = cc in rw (← z) l }
+local-done a = record { moves = λ s o l. ap (ok a) (sym (add-zero o)); inside = λ s o {a = b} {n} l e. let z : o ≡ n = cc in rw (← z) l }
 
 pub local-no : {A : Type 0} (e : ℕ) → Local {A = A} (λ s o. no e)
 unfolding moved
@@ -106,3 +106,103 @@ local-uint k =
     go s o l false q =
         let h = leb-false (o + k) (length s) q in
         uint-no k s o h ∙ ap (moved o) (sym (uint-no k (drop o s) 0 (omega (arith, length-drop o s))))
+
+pub local-part : (k : ℕ) → Local (part k)
+unfolding part choose moved
+local-part k =
+    record { moves = λ s o l. go s o l (leb (o + k) (length s)) refl; inside = λ s o l e. ends s o (leb (o + k) (length s)) refl e }
+  where
+    ends : (s : List ℕ) (o : ℕ) (t : Bool) → leb (o + k) (length s) ≡ t → {a : List ℕ} {n : ℕ} → choose t (ok (take k (drop o s)) (o + k)) (no 1) ≡ ok a n → n ≤ length s
+    ends s o true q {a} {n} e = let z : n ≡ o + k = cc in rw z (leb-true (o + k) (length s) q)
+    ends s o false q e = let z : _≡_ {A = ℕ} 0 1 = cc in absurd (omega arith)
+
+    go : (s : List ℕ) (o : ℕ) → o ≤ length s → (t : Bool) → leb (o + k) (length s) ≡ t
+        → choose (leb (o + k) (length s)) (ok (take k (drop o s)) (o + k)) (no 1)
+        ≡ moved o (choose (leb (0 + k) (length (drop o s))) (ok (take k (drop o s)) (0 + k)) (no 1))
+    go s o l true q =
+        let h = leb-true (o + k) (length s) q in
+        rw (q, le-leb (0 + k) (length (drop o s)) (omega (arith, length-drop o s))) (ap (λ n. ok (take k (drop o s)) (o + n)) (sym (zero-add k)))
+    go s o l false q =
+        let h = leb-false (o + k) (length s) q in
+        rw (q, lt-leb (0 + k) (length (drop o s)) (omega (arith, length-drop o s)))
+
+pub local-int : (w : Width) (k : ℕ) → Local (uint k >>= λ v. done (int w v))
+local-int w k = local-bind _ _ (local-uint k) λ v. local-done _
+
+pub local-pad : (exact : Bool) → Local (pad exact)
+unfolding pad
+local-pad exact = local-bind _ _ (local-uint 1) λ b. local-bind _ _ (local-check _ _) λ t. local-done _
+
+pub local-flag : (exact : Bool) → Local (flag exact)
+unfolding flag
+local-flag exact = local-bind _ _ (local-uint 1) λ b. local-bind _ _ (local-check _ _) λ t. local-done _
+
+pub local-many : {A : Type 0} (p : Reader A) → Local p → (n : ℕ) → Local (many p n)
+unfolding many
+local-many p h zero = local-done []
+local-many p h (suc n) = local-bind p _ h λ x. local-bind (many p n) _ (local-many p h n) λ xs. local-done (x ∷ xs)
+
+pub local-counted : {A : Type 0} (p : Reader A) → Local p → Local (counted p)
+local-counted p h = local-bind u32 (many p) (local-uint 4) (local-many p h)
+
+pub local-register : Local register
+unfolding register
+local-register =
+    local-bind _ _ (local-uint 8) λ flags. local-bind _ _ (local-uint 8) λ id. local-bind _ _ (local-check _ _) λ t.
+    local-bind _ _ (local-int _ 4) λ width. local-bind _ _ (local-int _ 4) λ offset. local-done _
+
+pub local-immediate : Local immediate
+unfolding immediate
+local-immediate = local-bind _ _ (local-uint 8) λ value. local-bind _ _ (local-uint 4) λ width. local-done _
+
+pub local-operand : Local operand
+unfolding operand
+local-operand =
+    local-bind u32 of-kind (local-uint 4) λ k.
+    local-choose _ _ _ (local-bind _ _ local-immediate λ i. local-done _)
+    (local-choose _ _ _ (local-bind _ _ local-register λ r. local-done _) (local-no 6))
+
+pub local-opcode : Local opcode
+unfolding opcode named
+local-opcode =
+    local-bind _ _ (local-uint 4) λ size. local-bind _ _ (local-part size) λ name. local-bind _ _ (local-check _ _) λ t.
+    local-bind _ _ (local-uint 4) λ count. local-bind _ _ (local-check _ _) λ t. local-bind _ _ (local-check _ _) λ t. local-done _
+
+module _ (exact : Bool) where
+  pub local-header : Local (header exact)
+  unfolding header
+  local-header =
+      local-bind _ _ (local-uint 4) λ first. local-bind _ _ (local-check _ _) λ t. local-bind _ _ (local-uint 1) λ machine.
+      local-bind _ _ (local-check _ _) λ t. local-bind _ _ (local-pad exact) λ x. local-bind _ _ (local-uint 2) λ second.
+      local-bind _ _ (local-check _ _) λ t. local-done _
+
+  pub local-instruction : Local (instruction exact)
+  unfolding instruction after
+  local-instruction =
+      local-bind _ _ local-opcode λ op. local-bind _ _ (local-many operand local-operand _) λ xs. local-bind _ _ (local-uint 8) λ vip.
+      local-bind _ _ (local-int _ 8) λ sp. local-bind _ _ (local-uint 4) λ index. local-bind _ _ (local-flag exact) λ reset. local-done _
+
+  pub local-convention : Local (convention exact)
+  unfolding convention
+  local-convention =
+      local-bind _ _ (local-counted register local-register) λ volatile. local-bind _ _ (local-counted register local-register) λ param.
+      local-bind _ _ (local-counted register local-register) λ retval. local-bind _ _ local-register λ frame.
+      local-bind _ _ (local-uint 8) λ shadow. local-bind _ _ (local-flag exact) λ purge. local-done _
+
+  pub local-block : Local (block exact)
+  unfolding block
+  local-block =
+      local-bind _ _ (local-uint 8) λ vip. local-bind _ _ (local-int _ 8) λ sp. local-bind _ _ (local-uint 4) λ index.
+      local-bind _ _ (local-uint 4) λ temporary. local-bind _ _ (local-counted (instruction exact) local-instruction) λ is.
+      local-bind _ _ (local-counted (uint 8) (local-uint 8)) λ prev. local-bind _ _ (local-counted (uint 8) (local-uint 8)) λ next. local-done _
+
+  pub local-blocks : Local (blocks exact)
+  unfolding blocks
+  local-blocks = local-bind _ _ (local-counted (block exact) local-block) λ bs. local-bind _ _ (local-check _ _) λ t. local-done _
+
+  pub local-routine : Local (routine exact)
+  unfolding routine
+  local-routine =
+      local-bind _ _ local-header λ machine. local-bind _ _ (local-uint 8) λ entry. local-bind _ _ local-convention λ own.
+      local-bind _ _ local-convention λ sub. local-bind _ _ (local-counted (convention exact) local-convention) λ special.
+      local-bind _ _ local-blocks λ bs. local-done _

@@ -8,7 +8,7 @@ use native.Mathlib.Nat.{le-of-suc-le-suc}
 use native.Mathlib.Omega.{arith}
 use lib.ListN.{getD, length, take, drop}
 use lib.Seq.{split-at}
-use Rattle.fields.specs.Parse.{Res, ok, no, Reader, bind, many, counted, u32, span}
+use Rattle.fields.specs.Parse.{ok, Reader, bind, many, counted, u32, span}
 use Rattle.fields.proofs.Le.{Bytes}
 use Rattle.pod.specs.Written.{many-bytes}
 use Rattle.laws.specs.Normal.{Mark}
@@ -100,3 +100,7 @@ module _ {A : Type 0} {p : Bool → Reader A} {H : A → Type 0} {m : A → List
 
     pub found-end : f .end ≡ f .start + length (w (getD xs i d))
     found-end = read-to k exact b (f .is)
+
+    -- and it is read from there
+    pub found-at : p exact s (o + length (many-bytes w (take i xs))) ≡ ok (getD xs i d) (o + length (many-bytes w (take i xs)) + length (w (getD xs i d)))
+    found-at = rw (← found-start, ← found-end) (f .is)

@@ -1,26 +1,26 @@
 -- What is written of a value that a layout holds is read back, and all of it: each layout field by field.
 -- Assumes nothing.
 use mathlib.Core.Path.{_≡_, refl, sym, ap, _∙_}
-use mathlib.Core.List.{List, [], _∷_, _++_, append-assoc, append-nil}
-use mathlib.Core.Bool.{Bool, true, false, not}
-use Prim.Native.Nat.{ℕ, _<_, _^_}
+use mathlib.Core.List.{List, [], _++_, append-assoc}
+use mathlib.Core.Bool.{Bool, true, not}
+use Prim.Native.Nat.{ℕ, _<_}
 use native.Mathlib.Omega.{arith}
 use lib.ListN.{length, getD}
 use borrow.Author.Tests.{le-leb, lt-ltb, eq-eqb}
 use mir.Syntax.{w32, w64}
-use Rattle.fields.specs.Parse.{ok, uint, many, counted, bind, choose, u32, u64}
+use Rattle.fields.specs.Parse.{ok, choose, u64}
 use Rattle.op.specs.Ops.{names, counts, number}
 use Rattle.op.specs.Text.{is-text}
 use Rattle.op.proofs.Same.{short}
 use Rattle.op.proofs.Packed.{listed-number, listed-text, few}
 use Rattle.pod.specs.Values.{Instruction, RoutineConvention, BasicBlock, Routine}
 use Rattle.pod.specs.Layout.{header, register, immediate, operand, of-kind, named, opcode, after, instruction, convention, block, blocks, routine}
-use Rattle.pod.specs.Written.{bytes, bit, many-bytes, counted-bytes, header-bytes, register-bytes, immediate-bytes, operand-bytes, name-bytes, instruction-bytes, convention-bytes, block-head-bytes, block-bytes, routine-head-bytes, routine-bytes}
+use Rattle.pod.specs.Written.{bytes, counted-bytes, header-bytes, register-bytes, immediate-bytes, operand-bytes, name-bytes, instruction-bytes, convention-bytes, block-head-bytes, block-bytes, routine-head-bytes, routine-bytes}
 use Rattle.pod.specs.declared.RegisterDesc.{RegisterDesc}
 use Rattle.pod.specs.declared.ImmediateDesc.{ImmediateDesc}
 use Rattle.pod.specs.declared.Operand.{Operand}
 use Rattle.pod.specs.declared.Operand.the-variants.{Imm, Reg}
-use Rattle.laws.specs.Holds.{Header-holds, Register-holds, Immediate-holds, Operand-holds, Instruction-holds, Convention-holds, Block-holds, Blocks-holds, Routine-holds, Vip-holds}
+use Rattle.laws.specs.Holds.{Header-holds, Register-holds, Immediate-holds, Operand-holds, Instruction-holds, Convention-holds, Block-holds, Blocks-holds, Routine-holds}
 use Rattle.laws.proofs.Back.{Reads, same-bytes, seq, last, pass, done-reads, uint-reads, int-reads, part-reads, pad-reads, flag-reads, many-reads, counted-reads}
 
 pub header-reads : (exact : Bool) (m : ℕ) → Header-holds m → Reads (header exact) m (header-bytes m)

@@ -1,8 +1,8 @@
 -- How long each written form is, as document 01 says: by adding up the fields.
 -- Assumes nothing.
-use mathlib.Core.Path.{_≡_, refl, sym, ap, _∙_}
-use mathlib.Core.List.{List, [], _∷_, _++_}
-use Prim.Native.Nat.{ℕ, zero, suc, _+_, _*_, _≤_}
+use mathlib.Core.Path.{_≡_, refl, ap, _∙_}
+use mathlib.Core.List.{List, [], _∷_}
+use Prim.Native.Nat.{ℕ, _+_, _*_, _≤_}
 use native.Mathlib.Omega.{arith}
 use lib.ListN.{length, getD, length-append}
 use Rattle.op.specs.Ops.{names}
@@ -74,6 +74,10 @@ block-size b = simp (length-append, block-head-size, counted-size instruction-by
 
 pub block-least : (b : BasicBlock) → 36 ≤ length (block-bytes b)
 block-least b = omega (arith, block-size b)
+
+pub block-empty : (b : BasicBlock) → b .instructions ≡ [] → b .prev-vip ≡ [] → b .next-vip ≡ [] → length (block-bytes b) ≡ 36
+unfolding many-bytes
+block-empty b e f g = block-size b ∙ rw (e, f, g)
 
 pub routine-head-size : (r : Routine)
     → length (routine-head-bytes r)

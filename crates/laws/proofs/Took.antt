@@ -11,18 +11,17 @@ use native.Mathlib.Omega.{arith}
 use lib.Dec.{leb, eqb}
 use lib.ListN.{length, getD, take, drop, length-append, length-take, length-drop, length-replicate, replicate-append-replicate, take-append-drop}
 use lib.Seq.{drop-cons, take-at}
-use lib.IntN.{ℤ}
-use borrow.Author.Tests.{leb-true, eqb-true, eqb-false, eq-eqb, ne-eqb}
+use borrow.Author.Tests.{leb-true}
 use mir.Syntax.{Width}
-use mir.Val.{Fits, SFits, ofZ, toZ, bits}
+use mir.Val.{Fits, SFits, ofZ, bits}
 use mir.ValLaws.{ofZ-toZ, toZ-fits}
-use Rattle.fields.specs.Parse.{Res, ok, no, Reader, bind, choose, done, _>>=_, le, uint, int, part, many, counted, taken, pad, flag}
+use Rattle.fields.specs.Parse.{Reader, choose, done, _>>=_, le, uint, int, part, many, counted, taken, pad, flag}
 use Rattle.fields.proofs.Le.{Bytes, uint-is, le-lt}
 use Rattle.pod.specs.Written.{bytes, bit, many-bytes, counted-bytes}
 use Rattle.laws.specs.Holds.{Each, List-holds}
 use Rattle.laws.specs.Normal.{Mark, keep, normalise, keeps, last-flag, many-marks, counted-marks}
 use Rattle.laws.specs.Normal as N
-use Rattle.laws.proofs.At.{At, fits, join, none, Spans, within, _then_}
+use Rattle.laws.proofs.At.{fits, none, Spans, within, _then_}
 use Rattle.laws.proofs.Back.{length-bytes}
 use Rattle.laws.proofs.Post.{Post, give, step, test, either, never, so}
 

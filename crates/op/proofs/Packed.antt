@@ -99,7 +99,7 @@ module _ (k : ℕ) (h : k < 49) where
   pub listed-text : is-text (getD names k []) ≡ true
   listed-text = T-true (is-text (getD names k [])) (fst (is-text (getD names k [])) (bytes (getD names k [])) rest)
 
-  listed-bytes : Bytes (getD names k [])
+  pub listed-bytes : Bytes (getD names k [])
   listed-bytes = of-bytes (getD names k []) (snd (is-text (getD names k [])) (bytes (getD names k [])) rest)
 
   pub key-below : key (getD names k []) < 2 ^ 56
