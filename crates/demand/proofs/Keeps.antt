@@ -103,8 +103,8 @@ weight-at r i bs h = omega (arith, size-blocks r bs, total-remove weight i bs h)
 pub weight-append : (i : Instruction) (b : BasicBlock) → weight (append-to i b) ≡ weight b + length (instruction-bytes i)
 weight-append i b =
     let e : length (many-bytes instruction-bytes (b .instructions ++ (i ∷ []))) ≡ length (many-bytes instruction-bytes (b .instructions)) + length (instruction-bytes i)
-        = many-total instruction-bytes (b .instructions ++ (i ∷ [])) ∙ total-snoc (λ x. length (instruction-bytes x)) (b .instructions) i
-            ∙ ap (λ n. n + length (instruction-bytes i)) (sym (many-total instruction-bytes (b .instructions))) in
+    = many-total instruction-bytes (b .instructions ++ (i ∷ [])) ∙ total-snoc (λ x. length (instruction-bytes x)) (b .instructions) i
+    ∙ ap (λ n. n + length (instruction-bytes i)) (sym (many-total instruction-bytes (b .instructions))) in
     omega (arith, block-size (append-to i b), block-size b)
 
 module _ (r : Routine) where
@@ -201,7 +201,7 @@ keeps (append v s) r r′ f h d n =
     let w = found v bs (d .there) .within in
     let m : size (with-blocks (change-at i g bs) r) ≤ most-lent = rw (d .is) at n in
     let k : weight (g (block-at i bs)) ≤ most-lent =
-        omega (arith, size-blocks r (change-at i g bs), total-change weight i g bs w, total-remove weight i bs w) in
+    omega (arith, size-blocks r (change-at i g bs), total-change weight i g bs w, total-remove weight i bs w) in
     rw (d .is)
     (made r (change-at i g bs) h
     (each-change Block-holds i g bs (h .blocks .listed .each) w
