@@ -3,3 +3,5 @@ pub mod Keeps
 pub mod Undo
 pub mod Simulation
 pub mod Openings
+pub mod Piles
+pub mod Theorem
