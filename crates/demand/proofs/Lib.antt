@@ -4,4 +4,5 @@ pub mod Undo
 pub mod Simulation
 pub mod Openings
 pub mod Piles
+pub mod Refusals
 pub mod Theorem

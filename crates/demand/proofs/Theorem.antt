@@ -13,9 +13,10 @@ use Rattle.laws.proofs.Layouts.{routine-layout, injective}
 use Rattle.machine.specs.Edits.{Edit, cost}
 use Rattle.machine.specs.Machine.{Call, edit, undo, Machine, start, size, used-by, machine-step, machine-run}
 use Rattle.machine.specs.Book.{in-image, run}
-use Rattle.machine.specs.Demand.{Sendable, Every, Opening, fresh, after-calls, machine-after, written-bytes, is-accepted, standing, Follows, Told-apart, Taken-back, Demand-3}
+use Rattle.machine.specs.Demand.{Sendable, Every, Opening, fresh, after-calls, machine-after, written-bytes, is-accepted, standing, Sound, Follows, Told-apart, Taken-back, Demand-3}
 use Rattle.demand.proofs.Simulation.{Sim, linked-used, take-image, run-sim}
 use Rattle.demand.proofs.Openings.{small, journal-small, fresh-sim}
+use Rattle.demand.proofs.Refusals.{run-sound}
 use Rattle.demand.proofs.Piles.{run-append, edit-pile, undo-pile, bare, run-above}
 
 module _ (o : Opening) (cs : List Call) (f : Every Sendable cs) where
@@ -41,6 +42,9 @@ module _ (o : Opening) (cs : List Call) (f : Every Sendable cs) where
   -- the written bytes are the written form of the machine's routine
   written-is : written-bytes (after-calls o cs) ≡ routine-bytes (machine-after o cs .now)
   written-is = ap₂ take (follows .written) (follows .image) ∙ take-image N J (small o) (journal-small o) (machine-after o cs .now)
+
+  pub never-spoiled : Every Sound (run cs (fresh o) .0)
+  never-spoiled = rw (follows .answers) (run-sound N J cs (start (o .routine)))
 
 pub told-apart : (o p : Opening) (cs ds : List Call) → Every Sendable cs → Every Sendable ds → Told-apart o p cs ds
 told-apart o p cs ds f g =
@@ -105,4 +109,4 @@ taken-back o cs e ds f a s =
     }
 
 pub demand-3 : Demand-3
-demand-3 = record { follows = follows; told-apart = told-apart; taken-back = taken-back }
+demand-3 = record { follows = follows; never-spoiled = never-spoiled; told-apart = told-apart; taken-back = taken-back }
