@@ -19,7 +19,7 @@ use Rattle.laws.proofs.Layouts.{routine-layout, read-holds}
 use Rattle.machine.specs.Machine.{Book, size, start}
 use Rattle.machine.specs.Book.{State, in-image, unopened, opened, lent, open-book}
 use Rattle.machine.specs.Demand.{Bytes, Opening, fresh}
-use Rattle.demand.proofs.Simulation.{Sim, state-of}
+use Rattle.machine.proofs.Simulation.{Sim, state-of}
 
 -- what an accepted opening says of the file and the lendings
 pub record Opens (file image journal : List ℕ) : Type 0 where

@@ -14,7 +14,7 @@ use Rattle.machine.specs.Edits.{Edit, cost}
 use Rattle.machine.specs.Machine.{Call, edit, undo, Machine, start, size, used-by, machine-step, machine-run}
 use Rattle.machine.specs.Book.{in-image, run}
 use Rattle.machine.specs.Demand.{Sendable, Every, Opening, fresh, after-calls, machine-after, written-bytes, is-accepted, standing, Sound, Follows, Told-apart, Taken-back, Demand-3}
-use Rattle.demand.proofs.Simulation.{Sim, linked-used, take-image, run-sim}
+use Rattle.machine.proofs.Simulation.{Sim, linked-used, take-image, run-sim}
 use Rattle.demand.proofs.Openings.{small, journal-small, fresh-sim}
 use Rattle.demand.proofs.Refusals.{run-sound}
 use Rattle.demand.proofs.Piles.{run-append, edit-pile, undo-pile, bare, run-above}

@@ -21,13 +21,13 @@ use Rattle.pod.specs.Written.{routine-bytes}
 use Rattle.pod.specs.Descs.{most-lent}
 use Rattle.laws.specs.Holds.{Routine-holds}
 use Rattle.laws.proofs.Layouts.{routine-layout, read-all}
 use Rattle.machine.specs.Edits.{Edit, create, remove, append, edited, cost}
 use Rattle.machine.specs.Machine.{Call, edit, undo, Answer, Book, Pile, used-by, Machine, size, admitted, after-edit, after-undo, machine-step, machine-run}
 use Rattle.machine.specs.Journal.{entry, undone}
 use Rattle.machine.specs.Book.{State, in-image, whole, held, stored, edit-step, restored, undo-step, acted, step, run}
 use Rattle.machine.specs.Demand.{Sendable, Every}
-use Rattle.demand.proofs.Keeps.{Did, did, keeps}
-use Rattle.demand.proofs.Undo.{entry-cost, leads-back}
+use Rattle.machine.proofs.Keeps.{Did, did, keeps}
+use Rattle.machine.proofs.Undo.{entry-cost, leads-back}
 
 -- Bytes put over the zeros after j, and zeros put back
 drop-zeros : (k n : ℕ) → drop k (zeros n) ≡ zeros (n - k)

@@ -20,10 +20,10 @@ use Rattle.pod.specs.Descs.{most-lent}
 use Rattle.laws.specs.Holds.{Each, Instruction-holds, Block-holds, Routine-holds}
 use Rattle.laws.proofs.Layouts.{instruction-layout, read-holds, read-to, read-within}
 use Rattle.laws.proofs.Sizes.{instruction-size, block-size, block-least, block-empty, routine-size}
 use Rattle.machine.specs.Edits.{Edit, create, remove, append, present, place, empty-block, block-at, remove-at, change-at, append-to, with-blocks, appended, edited}
 use Rattle.machine.specs.Machine.{Call, edit, size}
 use Rattle.machine.specs.Demand.{Bytes, Sendable}
-use Rattle.demand.proofs.Lists.{total, total-snoc, total-least, many-total, total-remove, total-change, each-snoc, each-at, each-remove, each-change, length-remove, one, one-same, one-other, Found, found, absent-count, once-count, count-once}
+use Rattle.machine.proofs.Lists.{total, total-snoc, total-least, many-total, total-remove, total-change, each-snoc, each-at, each-remove, each-change, length-remove, one, one-same, one-other, Found, found, absent-count, once-count, count-once}
 
 -- What an accepted edit did
 pub record Appended (v : ℕ) (s : List ℕ) (r r′ : Routine) : Type 0 where
