@@ -4,6 +4,7 @@ use mathlib.Core.Path.{_≡_}
 use mathlib.Core.Bool.{Bool, true, false}
 use mathlib.Core.List.{List, [], _∷_, _++_}
 use lib.ListN.{length, take, getD}
+use Rattle.fields.specs.Refusals.{lending-too-large, spoiled-book}
 use Rattle.fields.specs.Parse.{Res, ok, no}
 use Rattle.fields.specs.Outcome.{Outcome, refused, accepted, after}
 use Rattle.pod.specs.Values.{Routine}
@@ -73,6 +74,11 @@ standing [] answers n = accepted n
 standing (c ∷ cs) [] n = accepted n
 standing (c ∷ cs) (a ∷ answers) n = after (settle (is-accepted a) c n) (standing cs answers)
 
+-- an answer is neither 10 nor 13
+abbrev pub Sound : {A : Type 0} → Outcome A → Type 0
+Sound (accepted a) = Unit
+Sound (refused e) = (e ≡ lending-too-large → ⊥) × (e ≡ spoiled-book → ⊥)
+
 -- every answer equals the machine's; the image holds the written form of the machine's routine, then zeros; the book its length and used
 pub record Follows (o : Opening) (cs : List Call) : Type 0 where
   pub answers : run cs (fresh o) .0 ≡ machine-run (length (o .image)) (length (o .journal)) cs (start (o .routine)) .0
@@ -95,6 +101,8 @@ pub record Taken-back (o : Opening) (cs : List Call) (c : Call) (ds : List Call)
 
 pub record Demand-3 : Type 0 where
   pub follows : (o : Opening) (cs : List Call) → Every Sendable cs → Follows o cs
+  -- the machine gives neither 10 nor 13, so in these lists no call does
+  pub never-spoiled : (o : Opening) (cs : List Call) → Every Sendable cs → Every Sound (run cs (fresh o) .0)
   pub told-apart : (o p : Opening) (cs ds : List Call) → Every Sendable cs → Every Sendable ds → Told-apart o p cs ds
   pub taken-back :
       (o : Opening) (cs : List Call) (e : Edit) (ds : List Call) → Every Sendable (cs ++ (edit e ∷ ds))

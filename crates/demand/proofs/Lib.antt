@@ -1,0 +1,4 @@
+pub mod Openings
+pub mod Piles
+pub mod Refusals
+pub mod Theorem

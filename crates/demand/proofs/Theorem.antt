@@ -1,0 +1,112 @@
+-- The third demand, whole. Answers, image and book from the invariant at the list's end; books told apart since a written form is of one routine;
+-- taking back from what stays on the pile.
+-- Assumes nothing.
+use mathlib.Core.Path.{_≡_, refl, sym, ap, ap₂, _∙_}
+use mathlib.Core.Bool.{Bool, true, false}
+use mathlib.Core.List.{List, [], _∷_, _++_}
+use Prim.Native.Nat.{ℕ}
+use lib.ListN.{length, take}
+use Rattle.fields.specs.Outcome.{accepted}
+use Rattle.pod.specs.Values.{Routine}
+use Rattle.pod.specs.Written.{routine-bytes}
+use Rattle.laws.proofs.Layouts.{routine-layout, injective}
+use Rattle.machine.specs.Edits.{Edit, cost}
+use Rattle.machine.specs.Machine.{Call, edit, undo, Machine, start, size, used-by, machine-step, machine-run}
+use Rattle.machine.specs.Book.{in-image, run}
+use Rattle.machine.specs.Demand.{Sendable, Every, Opening, fresh, after-calls, machine-after, written-bytes, is-accepted, standing, Sound, Follows, Told-apart, Taken-back, Demand-3}
+use Rattle.machine.proofs.Simulation.{Sim, linked-used, take-image, run-sim}
+use Rattle.demand.proofs.Openings.{small, journal-small, fresh-sim}
+use Rattle.demand.proofs.Refusals.{run-sound}
+use Rattle.demand.proofs.Piles.{run-append, edit-pile, undo-pile, bare, run-above}
+
+module _ (o : Opening) (cs : List Call) (f : Every Sendable cs) where
+  abbrev N : ℕ
+  N = length (o .image)
+
+  abbrev J : ℕ
+  J = length (o .journal)
+
+  simulated : (run cs (fresh o) .0 ≡ machine-run N J cs (start (o .routine)) .0) × Sim N J (machine-after o cs) (after-calls o cs)
+  simulated = run-sim N J (small o) (journal-small o) cs (start (o .routine)) (fresh o) f (fresh-sim o)
+
+  pub follows : Follows o cs
+  follows =
+      let s = simulated .1 in
+      record {
+        answers = simulated .0;
+        image = ap (λ x. x .image) (s .is);
+        written = ap (λ x. x .book .written) (s .is);
+        used = ap (λ x. x .book .used) (s .is) ∙ sym (linked-used N (machine-after o cs .now) (machine-after o cs .pile) (s .j) (s .link));
+      }
+
+  -- the written bytes are the written form of the machine's routine
+  written-is : written-bytes (after-calls o cs) ≡ routine-bytes (machine-after o cs .now)
+  written-is = ap₂ take (follows .written) (follows .image) ∙ take-image N J (small o) (journal-small o) (machine-after o cs .now)
+
+  pub never-spoiled : Every Sound (run cs (fresh o) .0)
+  never-spoiled = rw (follows .answers) (run-sound N J cs (start (o .routine)))
+
+pub told-apart : (o p : Opening) (cs ds : List Call) → Every Sendable cs → Every Sendable ds → Told-apart o p cs ds
+told-apart o p cs ds f g =
+    record {
+      equal = λ e. injective routine-layout (machine-after o cs .now) (machine-after p ds .now) (simulated o cs f .1 .holds) (simulated p ds g .1 .holds)
+          (sym (written-is o cs f) ∙ e ∙ written-is p ds g);
+      unequal = λ e. written-is o cs f ∙ ap routine-bytes e ∙ sym (written-is p ds g);
+    }
+
+-- parts of a list
+module _ {A : Type 0} (P : A → Type 0) where
+  every-left : (xs ys : List A) → Every P (xs ++ ys) → Every P xs
+  every-left [] ys e = tt
+  every-left (x ∷ xs) ys e = (e .0, every-left xs ys (e .1))
+
+  every-right : (xs ys : List A) → Every P (xs ++ ys) → Every P ys
+  every-right [] ys e = e
+  every-right (x ∷ xs) ys e = every-right xs ys (e .1)
+
+  every-append : (xs ys : List A) → Every P xs → Every P ys → Every P (xs ++ ys)
+  every-append [] ys e g = g
+  every-append (x ∷ xs) ys e g = (e .0, every-append xs ys (e .1) g)
+
+-- after an accepted edit, a list that takes back all its own edits, and one more take back, the machine is as it was
+module _ (N J : ℕ) (m : Machine) (e : Edit) (ds : List Call) (a : is-accepted (machine-step N J (edit e) m .0) ≡ true)
+    (s : standing ds (machine-run N J ds (machine-step N J (edit e) m .1) .0) 0 ≡ accepted 0) where
+  abbrev last : Machine
+  last = machine-run N J ds (machine-step N J (edit e) m .1) .1
+
+  pub returns : (is-accepted (machine-step N J undo last .0) ≡ true) × (machine-step N J undo last .1 ≡ m)
+  returns =
+      undo-pile N J last (m .now, cost e (m .now)) (m .pile)
+      (bare (run-above N J ((m .now, cost e (m .now)) ∷ m .pile) ds (machine-step N J (edit e) m .1) 0 0 (record { top = []; is = edit-pile N J e m a; many = refl }) s))
+
+pub taken-back : (o : Opening) (cs : List Call) (e : Edit) (ds : List Call) → Every Sendable (cs ++ (edit e ∷ ds))
+    → is-accepted (machine-step (length (o .image)) (length (o .journal)) (edit e) (machine-after o cs) .0) ≡ true
+    → standing ds (machine-run (length (o .image)) (length (o .journal)) ds (machine-after o (cs ++ (edit e ∷ []))) .0) 0 ≡ accepted 0
+    → Taken-back o cs (edit e) ds
+unfolding machine-run
+taken-back o cs e ds f a s =
+    let N = length (o .image) in
+    let J = length (o .journal) in
+    let m = machine-after o cs in
+    let long = cs ++ (edit e ∷ (ds ++ (undo ∷ []))) in
+    let first : machine-after o (cs ++ (edit e ∷ [])) ≡ machine-step N J (edit e) m .1 = run-append N J cs (edit e ∷ []) (start (o .routine)) in
+    let before : machine-after o (cs ++ (edit e ∷ ds)) ≡ machine-run N J ds (machine-step N J (edit e) m .1) .1
+    = run-append N J cs (edit e ∷ ds) (start (o .routine)) in
+    let r = returns N J m e ds a (rw first at s) in
+    let same : machine-after o long ≡ m
+    = run-append N J cs (edit e ∷ (ds ++ (undo ∷ []))) (start (o .routine)) ∙ run-append N J ds (undo ∷ []) (machine-step N J (edit e) m .1) ∙ r .1 in
+    let sent : Every Sendable ds = every-right Sendable cs (edit e ∷ ds) f .1 in
+    let fl = follows o long (every-append Sendable cs (edit e ∷ (ds ++ (undo ∷ []))) (every-left Sendable cs (edit e ∷ ds) f)
+    (every-right Sendable cs (edit e ∷ ds) f .0, every-append Sendable ds (undo ∷ []) sent (tt, tt))) in
+    let fc = follows o cs (every-left Sendable cs (edit e ∷ ds) f) in
+    let w : after-calls o long .book .written ≡ after-calls o cs .book .written = fl .written ∙ ap (λ x. size (x .now)) same ∙ sym (fc .written) in
+    let u : after-calls o long .book .used ≡ after-calls o cs .book .used = fl .used ∙ ap (λ x. used-by (x .pile)) same ∙ sym (fc .used) in
+    record {
+      accepts = ap (λ x. is-accepted (machine-step N J undo x .0)) before ∙ r .0;
+      routine = ap (λ x. x .now) same;
+      image = fl .image ∙ ap (λ x. in-image N (x .now)) same ∙ sym (fc .image);
+      book = λ i. record { written = w i; used = u i };
+    }
+
+pub demand-3 : Demand-3
+demand-3 = record { follows = follows; never-spoiled = never-spoiled; told-apart = told-apart; taken-back = taken-back }

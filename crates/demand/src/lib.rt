@@ -1,0 +1,1 @@
+// The third demand, proved of the fold of the steps. No code.

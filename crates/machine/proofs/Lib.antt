@@ -1,0 +1,4 @@
+pub mod Lists
+pub mod Keeps
+pub mod Undo
+pub mod Simulation
