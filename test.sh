@@ -1,5 +1,7 @@
 #!/usr/bin/env bash
-# Proves every crate from nothing, tries every must-fail edit and runs every program. The last line is the verdict.
+# The tests: those of the C side, then every crate proved from nothing, every edit that the prover must refuse, and every program run. The last line
+# is the verdict.
 set -eu
 cd "$(dirname "$0")"
+host/tests/tests.sh
 exec rt ci
