@@ -89,7 +89,7 @@ module _ (P : BasicBlock → Type 0) where
   each-change (suc i) g (b ∷ bs) e h p = (e .0, each-change i g bs (e .1) (le-of-suc-le-suc h) p)
 
 -- lengths
-length-but-last : {A : Type 0} (x : A) (xs : List A) → length (but-last x xs) ≡ length xs
+pub length-but-last : {A : Type 0} (x : A) (xs : List A) → length (but-last x xs) ≡ length xs
 unfolding but-last
 length-but-last x [] = refl
 length-but-last x (y ∷ ys) = ap suc (length-but-last y ys)
