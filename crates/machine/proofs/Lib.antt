@@ -1,5 +1,6 @@
 pub mod Lists
 pub mod Keeps
 pub mod Undo
+pub mod Held
 pub mod Simulation
 pub mod Parts
