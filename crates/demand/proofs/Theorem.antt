@@ -2,12 +2,11 @@
 -- taking back from what stays on the pile.
 -- Assumes nothing.
 use mathlib.Core.Path.{_≡_, refl, sym, ap, ap₂, _∙_}
-use mathlib.Core.Bool.{Bool, true, false}
+use mathlib.Core.Bool.{true}
 use mathlib.Core.List.{List, [], _∷_, _++_}
 use Prim.Native.Nat.{ℕ}
 use lib.ListN.{length, take}
 use Rattle.fields.specs.Outcome.{accepted}
-use Rattle.pod.specs.Values.{Routine}
 use Rattle.pod.specs.Written.{routine-bytes}
 use Rattle.laws.proofs.Layouts.{routine-layout, injective}
 use Rattle.machine.specs.Edits.{Edit, cost}

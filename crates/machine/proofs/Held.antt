@@ -8,16 +8,13 @@ use Prim.Native.Nat.{ℕ, zero, suc, _-_, _≤_}
 use native.Mathlib.Omega.{arith}
 use lib.ListN.{length, take, drop, length-append, length-replicate, take-append-drop}
 use lib.Seq.{length-take-le, take-append-seam, drop-append-seam}
-use lib.Dec.{leb}
 use borrow.Author.Tests.{le-leb, leb-true}
 use Rattle.fields.specs.Parse.{Res, ok, no, choose}
 use Rattle.fields.specs.Bytes.{zeros}
 use Rattle.fields.specs.Outcome.{Outcome, refused, accepted}
 use Rattle.fields.proofs.Le.{Bytes}
-use Rattle.op.specs.Ops.{same}
 use Rattle.op.proofs.Same.{same-yes, same-eq}
 use Rattle.pod.specs.Values.{Routine}
-use Rattle.pod.specs.Layout.{read-file}
 use Rattle.pod.specs.Written.{routine-bytes}
 use Rattle.pod.specs.Descs.{most-lent}
 use Rattle.laws.specs.Holds.{Routine-holds}

@@ -4,3 +4,4 @@ pub mod Undo
 pub mod Held
 pub mod Simulation
 pub mod Parts
+pub mod Calls

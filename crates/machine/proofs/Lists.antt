@@ -14,7 +14,7 @@ use Rattle.pod.specs.Values.{BasicBlock}
 use Rattle.pod.specs.Blocks.{vips, has, repeats}
 use Rattle.pod.specs.Written.{many-bytes}
 use Rattle.laws.specs.Holds.{Each}
-use Rattle.machine.specs.Edits.{present, place, empty-block, block-at, last-of, but-last, remove-at, insert-at, change-at}
+use Rattle.machine.specs.Edits.{present, place, block-at, last-of, but-last, remove-at, insert-at, change-at}
 
 -- a sum over a list
 unfoldable pub total : {A : Type 0} → (A → ℕ) → List A → ℕ

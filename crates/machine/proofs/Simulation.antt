@@ -10,21 +10,17 @@ use native.Mathlib.Omega.{arith}
 use lib.ListN.{length, take, drop, length-append, length-replicate, replicate-append-replicate}
 use lib.Seq.{take-append-seam, drop-append-add, drop-append-seam}
 use lib.Dec.{leb, eqb}
-use borrow.Author.Tests.{eq-eqb, ne-eqb, le-leb, leb-true}
+use borrow.Author.Tests.{eq-eqb, ne-eqb, leb-true}
 use Rattle.fields.specs.Parse.{choose}
 use Rattle.fields.specs.Bytes.{zeros, put}
 use Rattle.fields.specs.Outcome.{Outcome, refused, accepted}
-use Rattle.op.proofs.Same.{same-yes}
 use Rattle.pod.specs.Values.{Routine}
-use Rattle.pod.specs.Layout.{read-file}
-use Rattle.pod.specs.Written.{routine-bytes}
 use Rattle.pod.specs.Descs.{most-lent}
 use Rattle.laws.specs.Holds.{Routine-holds}
-use Rattle.laws.proofs.Layouts.{routine-layout, read-all}
 use Rattle.machine.specs.Edits.{Edit, create, remove, append, edited, cost}
-use Rattle.machine.specs.Machine.{Call, edit, undo, Answer, Book, Pile, used-by, Machine, size, admitted, after-edit, after-undo, machine-step, machine-run}
+use Rattle.machine.specs.Machine.{Call, edit, undo, Answer, Pile, used-by, Machine, size, admitted, after-edit, after-undo, machine-step, machine-run}
 use Rattle.machine.specs.Journal.{entry, undone}
-use Rattle.machine.specs.Book.{State, in-image, whole, held, stored, edit-step, restored, undo-step, acted, step, run}
+use Rattle.machine.specs.Book.{State, in-image, held, stored, edit-step, restored, undo-step, acted, step, run}
 use Rattle.machine.specs.Demand.{Sendable, Every}
 use Rattle.machine.proofs.Held.{length-image, good-held}
 use Rattle.machine.proofs.Keeps.{Did, did, keeps}
