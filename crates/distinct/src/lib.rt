@@ -1,5 +1,6 @@
 // Whether two blocks share a vip: document 01's refusal 9. The blocks were accepted before, the file is only read, and the memory is 64,000
-// bytes of stack: n blocks take at most n / 8000 + 3 walks over them, whatever their vips; where the vips ascend it is one walk.
+// bytes of stack. n blocks take at most n / 8000 + 3 walks, whatever their vips and their order, and one where the vips ascend; no contract
+// says this.
 ghost use mathlib.Core.Path.{_≡_};
 ghost use mathlib.Core.Bool.{Bool, true, false};
 ghost use mathlib.Core.List.{List};

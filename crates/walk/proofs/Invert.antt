@@ -3,7 +3,7 @@ use mathlib.Core.Path.{_≡_, refl}
 use mathlib.Core.Bool.{Bool, true, false}
 use Prim.Native.Nat.{ℕ}
 use native.Mathlib.Omega.{arith}
-use Rattle.fields.specs.Parse.{Res, ok, no, bind, choose, span}
+use Rattle.fields.specs.Parse.{Res, ok, no, bind, choose}
 
 -- a value came of both parts
 pub inv : {A B : Type 0} (q : Res A) (f : A → ℕ → Res B) {b : B} {n : ℕ} → bind q f ≡ ok b n
@@ -18,12 +18,6 @@ pub inv-check : {B : Type 0} (t : Bool) (o k : ℕ) (f : Unit {0} → ℕ → Re
 unfolding bind choose
 inv-check true o k f e = (refl, e)
 inv-check false o k f e = let z : _≡_ {A = ℕ} 0 1 = cc in absurd (omega arith)
-
--- what was passed over has a value
-pub inv-span : {A : Type 0} (q : Res A) {n : ℕ} → span q ≡ ok tt n → (a : A) × (q ≡ ok a n)
-unfolding span
-inv-span (ok a m) {n} e = let z : m ≡ n = cc in (a, rw z)
-inv-span (no k) e = let z : _≡_ {A = ℕ} 0 1 = cc in absurd (omega arith)
 
 -- two names of one answer
 pub inv-ok : {A : Type 0} {a b : A} {m n : ℕ} → ok a m ≡ ok b n → (a ≡ b) × (m ≡ n)

@@ -10,7 +10,7 @@ use lib.Dec.{leb, eqb}
 use lib.IntN.{ℤ}
 use mir.Syntax.{Width, w32, w64}
 use borrow.Author.Tests.{leb-true, eqb-true, eqb-false}
-use Rattle.fields.specs.Parse.{Res, ok, no, Reader, bind, choose, uint, int, part, many, counted, flag, u64}
+use Rattle.fields.specs.Parse.{ok, no, Reader, bind, choose, uint, int, part, many, counted, flag, u64}
 use Rattle.fields.proofs.Le.{uint-is}
 use Rattle.op.specs.Ops.{number, counts}
 use Rattle.pod.specs.Layout.{register, immediate, operand, named, opcode, after, instruction, block}

@@ -1,8 +1,8 @@
 -- What each function of the walk finds, from what its calls found: the definitions of specs/Ends.antt, one step at a time.
-use mathlib.Core.Path.{_≡_, refl, sym, _∙_}
+use mathlib.Core.Path.{_≡_, refl, sym, ap, _∙_}
 use mathlib.Core.List.{List}
 use mathlib.Core.Bool.{Bool, true, false}
-use Prim.Native.Nat.{ℕ, zero, suc, _+_, _*_, _-_, _≤_, _<_}
+use Prim.Native.Nat.{ℕ, suc, _+_, _*_, _-_, _≤_, _<_}
 use native.Mathlib.Omega.{arith}
 use lib.ListN.{length}
 use lib.Dec.{leb}
@@ -31,14 +31,17 @@ word-is k s o = go (leb (o + k) (length s))
     go true = refl
     go false = refl
 
-pub times-more : (f : ℕ → ℕ) (n o : ℕ) → 0 < n → times f n o ≡ times f (n - 1) (f o)
-unfolding times
-times-more f zero o h = absurd (omega arith)
-times-more f (suc n) o h = let e : suc n - 1 ≡ n = omega arith in rw e
+-- a loop that counts down: what is left leads to q, as the whole does
+module _ (f : ℕ → ℕ) (n o : ℕ) {q : ℕ} (leads : times f n o ≡ q) where
+  -- one more was passed
+  pub times-next : 0 < n → {m : ℕ} → m ≡ f o → times f (n - 1) m ≡ q
+  unfolding times
+  times-next h g = let e : n ≡ suc (n - 1) = omega arith in rw g (sym (ap (λ k. times f k o) e) ∙ leads)
 
-pub times-none : (f : ℕ → ℕ) (n o : ℕ) → n ≤ 0 → times f n o ≡ o
-unfolding times
-times-none f n o h = let e : n ≡ 0 = omega arith in rw e
+  -- none is left
+  pub times-end : n ≤ 0 → o ≡ q
+  unfolding times
+  times-end h = let e : n ≡ 0 = omega arith in rw e at leads
 
 pub imm-end : (s : List ℕ) (o : ℕ) → word 4 s o ≡ 0 → operandEnd s o ≡ jump s (jump s o 4) 12
 unfolding operandEnd choose

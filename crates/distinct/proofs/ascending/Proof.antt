@@ -1,5 +1,4 @@
 -- The vips passed stand once and lie below `floor` (`Ascends`). The measure is the number of blocks left.
-use Prim.Native.Nat.{_-_}
 use Rattle.sorting.proofs.Order.{false-true}
 use Rattle.distinct.specs.Walked.{vipsFrom}
 use Rattle.distinct.proofs.Walks.{Ascends, asc-start, asc-more, asc-end}

@@ -1,5 +1,4 @@
 -- Of the vips passed the buffer has all from lo to below hi, and nothing but vips (`Gathering`). The measure is the number of blocks left.
-use Prim.Native.Nat.{_-_}
 use native.Mathlib.Omega.{arith}
 use mathlib.Core.Logic.{inl, inr}
 use Rattle.distinct.specs.Walked.{vipsFrom}

@@ -1,5 +1,4 @@
 -- Each way out has its own reason: too few blocks, ascending vips, the highest number twice, or the passes.
-use Prim.Native.Nat.{_-_}
 use native.Mathlib.Omega.{arith}
 use mathlib.Core.Path.{sym}
 use lib.Seq.{length-take-le}

@@ -1,5 +1,4 @@
 -- How often the highest number was passed (`Tops`). The measure is the number of blocks left.
-use Prim.Native.Nat.{_-_}
 use native.Mathlib.Omega.{arith}
 use Rattle.distinct.specs.Walked.{vipsFrom}
 use Rattle.distinct.proofs.Walks.{Tops, tops-other, tops-first, tops-twice, tops-end}

@@ -1,8 +1,7 @@
 -- The operands left lead to the same end as all of them from the start. The measure is how many are left.
-use Prim.Native.Nat.{_-_}
-use mathlib.Core.Path.{_≡_, sym, ap, _∙_}
+use mathlib.Core.Path.{_≡_}
 use Rattle.walk.specs.Ends.{times, operandEnd}
-use Rattle.walk.proofs.Steps.{times-more, times-none}
+use Rattle.walk.proofs.Steps.{times-next, times-end}
 use borrow.Author.Needs.{needs}
 use Rattle.walk.proofs.operands_end.Statement.{statement}
 use Rattle.walk.proofs.operands_end.Tie as tie
@@ -28,10 +27,10 @@ loop-less c = search needs
 loop-again : tie.Need-loop-again Inv-loop μ-loop
 loop-again c =
     let l = c .before in
-    ap (times (operandEnd _) (l .before .loop .left - 1)) (c .operand-end .ensures) ∙ sym (times-more (operandEnd _) _ _ (l .loop-test .taken)) ∙ l .before .loop .inv
+    times-next _ _ _ (l .before .loop .inv) (l .loop-test .taken) (c .operand-end .ensures)
 
 returns : tie.Need-returns Inv-loop μ-loop
-returns c = sym (times-none (operandEnd _) _ _ (c .loop-test .left)) ∙ c .before .loop .inv
+returns c = times-end _ _ _ (c .before .loop .inv) (c .loop-test .left)
 
 pub operands-end-spec : {M : Type 1} → statement M
 operands-end-spec =

@@ -1,0 +1,67 @@
+//! Times: the best of several runs, the two sides in turn, so that both meet the same machine.
+
+use std::time::{Duration, Instant};
+
+const RUNS: usize = 9;
+
+/// No more runs are begun once they took this long together.
+const PATIENCE: Duration = Duration::from_secs(4);
+
+/// How long `work` takes. What it hands back is dropped after the clock has stopped.
+pub fn time<T>(work: impl FnOnce() -> T) -> Duration {
+    let start = Instant::now();
+    let kept = std::hint::black_box(work());
+    let took = start.elapsed();
+    drop(kept);
+    took
+}
+
+pub fn best_of_both(mut rust: impl FnMut() -> Duration, mut library: impl FnMut() -> Duration) -> (Duration, Duration) {
+    let start = Instant::now();
+    let (mut best_rust, mut best_library) = (rust(), library());
+    for _ in 1..RUNS {
+        if start.elapsed() > PATIENCE {
+            break;
+        }
+        best_rust = best_rust.min(rust());
+        best_library = best_library.min(library());
+    }
+    (best_rust, best_library)
+}
+
+fn shown(time: Duration) -> String {
+    let nanos = time.as_nanos() as f64;
+    match nanos {
+        n if n < 1e4 => format!("{n:.0} ns"),
+        n if n < 1e7 => format!("{:.1} us", n / 1e3),
+        n if n < 1e10 => format!("{:.1} ms", n / 1e6),
+        n => format!("{:.1} s", n / 1e9),
+    }
+}
+
+fn rate(bytes: usize, time: Duration) -> String {
+    format!("{:.0} MB/s", bytes as f64 / 1e6 / time.as_secs_f64())
+}
+
+/// A line: both times, both rates, and how many times longer the left side takes.
+pub fn print(name: &str, bytes: usize, (left, right): (Duration, Duration)) {
+    let ratio = left.as_secs_f64() / right.as_secs_f64();
+    println!(
+        "{name:<44}{:>11}{:>12}{:>11}{:>12}{ratio:>9.2}",
+        shown(left),
+        rate(bytes, left),
+        shown(right),
+        rate(bytes, right)
+    );
+}
+
+/// A line on what only one side has.
+#[cfg(feature = "edit")]
+pub fn print_one_side(name: &str, left: Option<Duration>, right: Option<Duration>) {
+    let show = |side: Option<Duration>| side.map_or("-".to_string(), shown);
+    println!("{name:<44}{:>11}{:>12}{:>11}", show(left), "", show(right));
+}
+
+pub fn heading(title: &str, left: &str, right: &str) {
+    println!("\n{title:<44}{left:>23}{right:>23}    ratio");
+}

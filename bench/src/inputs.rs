@@ -1,0 +1,63 @@
+//! The routines that are measured. Each is the same on every machine.
+
+use oracle::blocks::{empty_blocks, rearrange, set_block_count, Order};
+use oracle::draft::{minimal_routine, Draft};
+use oracle::rng::Rng;
+
+const SEED: u64 = 1;
+const INSTRUCTIONS_A_BLOCK: usize = 25;
+
+fn put_block(file: &mut Vec<u8>, vip: u64, instructions: usize, rng: &mut Rng) {
+    file.extend(vip.to_le_bytes());
+    file.extend([0; 16]);
+    file.extend((instructions as u32).to_le_bytes());
+    let mut draft = Draft::default();
+    for _ in 0..instructions {
+        draft.instruction(rng);
+    }
+    file.extend(draft.bytes);
+    file.extend([0; 8]);
+}
+
+/// Blocks of 25 instructions over all operations, their vips rising, as many as stay below `size` bytes.
+#[cfg(feature = "edit")]
+pub fn with_size(size: usize) -> Vec<u8> {
+    let mut rng = Rng::new(SEED);
+    let mut file = minimal_routine();
+    let mut blocks = 0;
+    loop {
+        let before = file.len();
+        put_block(&mut file, vip_of(blocks), INSTRUCTIONS_A_BLOCK, &mut rng);
+        if file.len() > size {
+            file.truncate(before);
+            break;
+        }
+        blocks += 1;
+    }
+    set_block_count(&mut file, blocks);
+    file
+}
+
+/// 100,000 instructions in 4,000 blocks, some 8 MB.
+pub fn instructions() -> Vec<u8> {
+    const BLOCKS: usize = 4_000;
+    let mut rng = Rng::new(SEED);
+    let mut file = minimal_routine();
+    for i in 0..BLOCKS {
+        put_block(&mut file, vip_of(i), INSTRUCTIONS_A_BLOCK, &mut rng);
+    }
+    set_block_count(&mut file, BLOCKS);
+    file
+}
+
+/// The vip of the block at a place, where vips rise.
+pub fn vip_of(place: usize) -> u64 {
+    0x1_4000_0000 + 16 * place as u64
+}
+
+/// Blocks with nothing in them, their vips in some order.
+pub fn in_order(count: usize, order: Order) -> Vec<u8> {
+    let mut vips: Vec<u64> = (0..count).map(vip_of).collect();
+    rearrange(&mut vips, order, &mut Rng::new(SEED));
+    empty_blocks(&vips)
+}

@@ -1,0 +1,44 @@
+//! Measures the library and the Rust side by side, on the same bytes.
+
+mod clock;
+#[cfg(feature = "edit")]
+mod editing;
+mod inputs;
+mod reading;
+
+use std::process::ExitCode;
+
+const USAGE: &str = "usage: run.sh [--most-blocks N]   (files with more blocks are left out)";
+
+fn most_blocks() -> Result<usize, String> {
+    let words: Vec<String> = std::env::args().skip(1).collect();
+    match words.as_slice() {
+        [] => Ok(usize::MAX),
+        [name, number] if name == "--most-blocks" => {
+            number.parse().map_err(|_| format!("--most-blocks wants a number, not '{number}'"))
+        }
+        _ => Err(format!("cannot read '{}'", words.join(" "))),
+    }
+}
+
+fn main() -> ExitCode {
+    let most_blocks = match most_blocks() {
+        Ok(number) => number,
+        Err(message) => {
+            eprintln!("bench: {message}\n{USAGE}");
+            return ExitCode::from(2);
+        }
+    };
+    println!("best of up to 9 runs, the two sides in turn; ratio: left time by right time");
+    println!("file, image and journal are in memory and were touched before; the Rust gets its memory from malloc in");
+    println!("each run, and what it made is dropped after the clock has stopped");
+    reading::checks(most_blocks);
+    #[cfg(feature = "open")]
+    reading::open::opens(most_blocks);
+    #[cfg(feature = "look")]
+    reading::open::looks(most_blocks);
+    reading::repeated_vips(most_blocks);
+    #[cfg(feature = "edit")]
+    editing::edits();
+    ExitCode::SUCCESS
+}

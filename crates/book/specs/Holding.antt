@@ -1,0 +1,34 @@
+-- An image that holds a routine: what the functions over an inspected image speak of.
+use Prim.Native.Nat.{ℕ, _+_, _≤_, _<_}
+use mathlib.Core.Path.{_≡_}
+use mathlib.Core.List.{List, _++_}
+use lib.ListN.{length, take}
+use Rattle.pod.specs.Values.{RoutineConvention, BasicBlock, Routine}
+use Rattle.pod.specs.Written.{header-bytes, bytes, convention-bytes, block-bytes, many-bytes, routine-head-bytes, routine-bytes}
+use Rattle.laws.specs.Holds.{Routine-holds}
+use Rattle.machine.specs.Machine.{size}
+use Rattle.machine.specs.Book.{State, in-image}
+
+-- the image begins with the written form of r
+pub record Holding (image : List ℕ) (r : Routine) : Type 0 where
+  pub holds : Routine-holds r
+  pub rest : List ℕ
+  pub is : image ≡ routine-bytes r ++ rest
+
+-- where the blocks begin, after their count
+abbrev pub blocks-start : Routine → ℕ
+blocks-start r = length (routine-head-bytes r) + 4
+
+-- where the block at a place begins: the end of the blocks where the place is their number
+abbrev pub block-start : Routine → ℕ → ℕ
+block-start r i = blocks-start r + length (many-bytes block-bytes (take i (r .explored-blocks)))
+
+-- a state that is not spoiled, with the routine that it holds
+pub record Sound (s : State) (r : Routine) : Type 0 where
+  pub holds : Routine-holds r
+  pub image : s .image ≡ in-image (length (s .image)) r
+  pub written : s .book .written ≡ size r
+  pub room : size r ≤ length (s .image)
+  pub used : s .book .used ≤ length (s .journal)
+  pub image-lent : length (s .image) ≤ 16777216
+  pub journal-lent : length (s .journal) ≤ 16777216

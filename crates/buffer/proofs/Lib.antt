@@ -1,0 +1,5 @@
+pub mod Put
+pub mod Moves
+pub mod Reversals
+pub mod Digits
+pub mod Alike

@@ -1,0 +1,4 @@
+pub mod Gather
+pub mod Places
+pub mod Refusal
+pub mod Parts

@@ -1,0 +1,108 @@
+use Rattle.value.proofs.Places.{places-none, places-set}
+-- `value::operands_at` meets its contract: the loop keeps the operands read so far, which stand in the first places, and that what is left of the
+-- run is read from `o`.
+-- Assumes nothing.
+use mathlib.Core.Path.{_≡_, refl, sym, ap, _∙_}
+use mathlib.Core.List.{List, [], _∷_, _++_}
+use Prim.Native.Nat.{_≤_, _-_}
+use native.Mathlib.Omega.{arith}
+use lib.ListN.{length, set, length-append}
+use Rattle.pod.specs.Layout.{operand}
+use Rattle.pod.specs.Answers.{of-operand}
+use Rattle.pod.specs.Descs.{places, unused}
+use Rattle.pod.specs.declared.Operand.{Operand}
+use Rattle.pod.specs.declared.OperandDesc.{OperandDesc}
+use Rattle.value.specs.Answers.{operands-read}
+use Rattle.value.proofs.Gather.{Got, got-none, got-more, got-stop, got-all}
+use borrow.Author.Needs.{needs}
+use Rattle.value.proofs.operands_at.Statement.{statement}
+use Rattle.value.proofs.operands_at.Tie as tie
+use Rattle.value.proofs.operands_at.Reads as reads
+use Rattle.value.proofs.operands_at.Lts as lts
+use Rattle.pod.proofs.operand_at.Reads as operand-at-reads
+use Rattle.value.proofs.operand_desc.Reads as operand-desc-reads
+
+abbrev Inv-loop : tie.InvT-loop
+Inv-loop s at count none p₀ i₀ o₀ p i o = (xs : List Operand) × (length xs ≡ i) × (i ≤ count) × (p ≡ places xs) × Got operand count s at xs i o
+
+abbrev μ-loop : tie.MeasureT-loop
+μ-loop s at count none p₀ i₀ o₀ p i o = count - i
+
+operand-desc-requires : tie.Need-operand-desc-requires Inv-loop μ-loop
+operand-desc-requires c κs = search needs
+
+loop-holds : tie.Need-loop-holds Inv-loop μ-loop
+loop-holds c = ([], refl, omega arith, places-none _ (c .operand-desc .ensures), got-none operand _ _ _)
+
+operand-at-requires : tie.Need-operand-at-requires Inv-loop μ-loop
+operand-at-requires c κs = search needs
+
+enum-known-e : tie.Need-enum-known-e Inv-loop μ-loop
+enum-known-e c = search needs
+
+returns : tie.Need-returns Inv-loop μ-loop
+unfolding operands-read
+returns c =
+    let d = c .before .before .before in
+    let l = d .before .before .loop in
+    let e = got-stop operand _ _ _ (l .inv .0) _ _ (l .inv .4) (d .before .loop-test .taken) (sym (d .operand-at .ensures) ∙ ap of-operand (c .before .e .given .1)) in
+    rw (e, places-none _ (d .before .before .before .operand-desc .ensures))
+
+enum-known-x : tie.Need-enum-known-x Inv-loop μ-loop
+enum-known-x c = search needs
+
+operand-desc-requires-2 : tie.Need-operand-desc-requires-2 Inv-loop μ-loop
+operand-desc-requires-2 c κs = search needs
+
+mul-p : tie.Need-mul-p Inv-loop μ-loop
+mul-p c = omega arith
+
+array-set-from-p : tie.Need-array-set-from-p Inv-loop μ-loop
+array-set-from-p c = omega arith
+
+add-i : tie.Need-add-i Inv-loop μ-loop
+add-i c = search needs
+
+loop-less : tie.Need-loop-less Inv-loop μ-loop
+loop-less c = search needs
+
+loop-again : tie.Need-loop-again Inv-loop μ-loop
+loop-again c =
+    let v = c .before in
+    let d = v .before .before .before in
+    let l = d .before .before .loop in
+    let x = v .before .x .given .0 .0 in
+    let h : length (l .inv .0) ≡ l .i = l .inv .1 in (
+      l .inv .0 ++ x ∷ [],
+      length-append (l .inv .0) (x ∷ []) ∙ omega arith,
+      omega arith,
+      rw (c .operand-desc2 .ensures, l .inv .3, ← h) (places-set (l .inv .0) x (omega arith)),
+      got-more operand _ _ _ (l .inv .0) _ _ (l .inv .4) (d .before .loop-test .taken) (sym (d .operand-at .ensures) ∙ ap of-operand (v .before .x .given .1)),
+    )
+
+returns-2 : tie.Need-returns-2 Inv-loop μ-loop
+unfolding operands-read
+returns-2 c =
+    let l = c .before .loop in
+    let e = got-all operand _ _ _ (l .inv .0) _ _ (l .inv .4) (c .loop-test .left) in
+    rw (e, l .inv .3)
+
+pub operands-at-spec : {M : Type 1} → statement M
+operands-at-spec =
+    tie.close
+    (tie.spec
+    Inv-loop
+    μ-loop
+    operand-desc-requires
+    loop-holds
+    operand-at-requires
+    enum-known-e
+    returns
+    enum-known-x
+    operand-desc-requires-2
+    mul-p
+    array-set-from-p
+    add-i
+    loop-less
+    loop-again
+    returns-2)

@@ -1,0 +1,21 @@
+use Rattle.value.proofs.Places.{places-none}
+-- `value::refused` meets its contract: zeros, and three unused places.
+-- Assumes nothing.
+use Rattle.pod.specs.Descs.{places, operand-desc}
+use Rattle.value.specs.Answers.{instruction-read}
+use borrow.Author.Needs.{needs}
+use Rattle.value.proofs.refused.Statement.{statement}
+use Rattle.value.proofs.refused.Tie as tie
+use Rattle.value.proofs.refused.Reads as reads
+use Rattle.value.proofs.refused.Lts as lts
+use Rattle.value.proofs.operand_desc.Reads as operand-desc-reads
+
+operand-desc-requires : tie.Need-operand-desc-requires
+operand-desc-requires c κs = search needs
+
+returns : tie.Need-returns
+unfolding instruction-read
+returns c = rw (places-none _ (c .operand-desc .ensures))
+
+pub refused-spec : {M : Type 1} → statement M
+refused-spec = tie.close (tie.spec operand-desc-requires returns)

@@ -1,0 +1,66 @@
+#!/usr/bin/env bash
+# header.sh ARCHIVE SCRATCH: include/vtil.h by itself, in C and C++, and against the archive.
+# The current folder is the repository root.
+set -u
+script=header
+. host/tests/count.sh
+archive=$1
+scratch=$2
+CC=${CC:-cc}
+CXX=${CXX:-c++}
+strict=(-Wall -Wextra -Werror -pedantic -Iinclude)
+
+# try NAME COMMAND..: passes when the command succeeds.
+try() {
+    local name=$1
+    shift
+    if "$@"; then pass "$name"; else fail "$name"; fi
+}
+
+# The numbers of document 01's refusals, in their order.
+number_asserts() {
+    local number=0 word
+    for word in SHORT_FILE NAME_NOT_TEXT WRONG_MARK UNKNOWN_MACHINE FOREIGN_REGISTER UNKNOWN_OPERAND_KIND \
+        UNKNOWN_OPERATION WRONG_OPERAND_COUNT REPEATED_BLOCK LENDING_TOO_LARGE IMAGE_FULL JOURNAL_FULL \
+        SPOILED_BOOK BLOCK_PRESENT NO_SUCH_BLOCK NOTHING_TO_TAKE_BACK LEFTOVER; do
+        number=$((number + 1))
+        printf 'static_assert(VTIL_%s == %d, "%s");\n' "$word" "$number" "$word"
+    done
+}
+
+write_sources() {
+    # Included twice: the guard. Before anything else: the header includes what it needs.
+    printf '#include "vtil.h"\n#include "vtil.h"\n' >"$scratch/alone.c"
+    { cat "$scratch/alone.c"; printf '#include <assert.h>\n'; number_asserts; } >"$scratch/numbers.c"
+    printf '#include "vtil.h"\nint main() { return vtil_check(nullptr, 0) == -VTIL_SHORT_FILE ? 0 : 1; }\n' \
+        >"$scratch/linked.cpp"
+    awk '/^```c$/ { inside = 1; next } /^```$/ { inside = 0 } inside' README.md >"$scratch/example.c"
+}
+
+# The functions that the header declares and those that the archive defines are the same.
+same_functions() {
+    "$CC" -std=c11 -Iinclude -E -P "$scratch/alone.c" | grep -oE '\bvtil_[a-z_]+ *\(' | tr -d ' (' | sort -u \
+        >"$scratch/declared"
+    nm -g --defined-only "$archive" | awk 'NF == 3 { print $3 }' | sort -u >"$scratch/defined"
+    [ -s "$scratch/declared" ] && diff "$scratch/declared" "$scratch/defined"
+}
+
+readme_example() {
+    "$CC" -std=c11 "${strict[@]}" "$scratch/example.c" "$archive" -o "$scratch/example" || return 1
+    [ "$("$scratch/example" <samples/trailing.vtil)" = "a routine of 114 bytes" ] || return 1
+    [ "$("$scratch/example" <samples/wrong-mark.vtil)" = "refused 3" ]
+}
+
+write_sources
+try "alone as C11, included twice" "$CC" -std=c11 "${strict[@]}" -fsyntax-only "$scratch/alone.c"
+try "the numbers of the 17 refusals" "$CC" -std=c11 "${strict[@]}" -fsyntax-only "$scratch/numbers.c"
+if command -v "$CXX" >/dev/null; then
+    try "alone as C++17, included twice" "$CXX" -x c++ -std=c++17 "${strict[@]}" -fsyntax-only "$scratch/alone.c"
+    try "linked from C++" "$CXX" -std=c++17 "${strict[@]}" "$scratch/linked.cpp" "$archive" -o "$scratch/linked"
+    try "called from C++" "$scratch/linked"
+else
+    skip "C++17" "there is no C++ compiler ($CXX)"
+fi
+try "declares the functions that the archive defines" same_functions
+try "the README's example" readme_example
+finish

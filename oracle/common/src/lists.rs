@@ -1,0 +1,80 @@
+//! Lists of calls from a seed: a file, the lent lengths, and calls of which some are accepted and some refused.
+
+use crate::draft::{Draft, Field, MIDDLING, SMALL};
+use crate::faults::{apply, places, FAULTS};
+use crate::machine::Call;
+use crate::rng::Rng;
+
+pub struct List {
+    pub file: Vec<u8>,
+    pub image_length: usize,
+    pub journal_length: usize,
+    pub calls: Vec<Call>,
+}
+
+/// The blocks' vips and a few more, so that calls meet blocks that are there as often as ones that are not.
+fn vips_of(draft: &Draft) -> Vec<u64> {
+    let read = |at: usize| u64::from_le_bytes(draft.bytes[at..at + 8].try_into().expect("a vip has eight bytes"));
+    let there = draft.marks_of(Field::BlockVip).into_iter().map(|mark| read(mark.at));
+    there.chain([5, 6, u64::MAX]).collect()
+}
+
+/// An instruction's bytes, now and then with a fault or with bytes left over.
+fn instruction(rng: &mut Rng) -> Vec<u8> {
+    let mut draft = Draft::default();
+    draft.instruction(rng);
+    match rng.below(8) {
+        0 => draft.bytes.extend([0; 3]),
+        1 => spoil(&mut draft, rng),
+        _ => {}
+    }
+    draft.bytes
+}
+
+fn spoil(draft: &mut Draft, rng: &mut Rng) {
+    let fault = rng.pick(&FAULTS);
+    let marks = places(draft, fault);
+    if !marks.is_empty() {
+        apply(draft, fault, rng.pick(&marks), rng);
+    }
+}
+
+fn call(rng: &mut Rng, vips: &[u64]) -> Call {
+    let vip = rng.pick(vips);
+    match rng.below(4) {
+        0 => Call::Create(vip),
+        1 => Call::Remove(vip),
+        2 => Call::Append(vip, instruction(rng)),
+        _ => Call::TakeBack,
+    }
+}
+
+/// Some calls; now and then all that they did is taken back in the end, and once more.
+fn calls(rng: &mut Rng, vips: &[u64]) -> Vec<Call> {
+    let mut calls: Vec<Call> = (0..1 + rng.below(40)).map(|_| call(rng, vips)).collect();
+    if rng.one_in(4) {
+        calls.extend(vec![Call::TakeBack; calls.len() + 1]);
+    }
+    calls
+}
+
+/// Lengths around the sizes of blocks and entries, others, and one that is never reached.
+fn room(rng: &mut Rng, edges: &[usize], plenty: usize) -> usize {
+    match rng.below(3) {
+        0 => rng.pick(edges),
+        1 => rng.below(300),
+        _ => plenty,
+    }
+}
+
+pub fn list(rng: &mut Rng) -> List {
+    let shape = if rng.one_in(4) { MIDDLING } else { SMALL };
+    let draft = Draft::routine(rng, shape);
+    let calls = calls(rng, &vips_of(&draft));
+    List {
+        image_length: draft.bytes.len() + room(rng, &[0, 35, 36, 37, 71, 72], 4_000),
+        journal_length: room(rng, &[0, 19, 20, 39, 40, 55, 56, 76], 16_000),
+        file: draft.bytes,
+        calls,
+    }
+}

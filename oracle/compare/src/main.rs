@@ -1,0 +1,48 @@
+//! Compares the library with the Rust and with a plain reading of document 01, on files and lists of calls from a seed.
+//! The exit status is 0 where nothing differs, 1 where something does, 2 on a bad command line.
+
+mod aborts;
+#[cfg(feature = "edit")]
+mod edits;
+mod files;
+mod large;
+#[cfg(feature = "open")]
+mod opens;
+mod options;
+mod report;
+
+use options::{Options, USAGE};
+use report::Report;
+use std::process::ExitCode;
+
+fn compare(options: &Options) -> Report {
+    let mut report = Report::default();
+    println!("seed {}", options.seed);
+    files::overlong(&mut report);
+    files::run(options.files, options.seed, &mut report);
+    large::run(options.large, options.seed, &mut report);
+    #[cfg(feature = "open")]
+    opens::limits(&mut report);
+    #[cfg(feature = "edit")]
+    edits::run(options.lists, options.seed, &mut report);
+    println!("differences {}", report.differences);
+    report
+}
+
+fn main() -> ExitCode {
+    let words: Vec<String> = std::env::args().skip(1).collect();
+    if words == [aborts::CHILD] {
+        aborts::child();
+        return ExitCode::SUCCESS;
+    }
+    let options = match Options::parse(words.into_iter()) {
+        Ok(options) => options,
+        Err(message) => {
+            eprintln!("compare: {message}\n{USAGE}");
+            return ExitCode::from(2);
+        }
+    };
+    oracle::original::note_panics();
+    let report = compare(&options);
+    ExitCode::from(u8::from(report.differences > 0))
+}

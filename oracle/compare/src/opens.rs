@@ -1,0 +1,98 @@
+//! Opening: the book, the image and the journal beside document 01, whose written form is held to the Rust's elsewhere.
+
+use crate::report::Report;
+use oracle::draft::minimal_routine;
+use oracle::machine::IMAGE_FULL;
+use oracle::reader::{read_file, Document, Refusal};
+use vtil::{Answer, Book, Lent};
+
+const LENDING_TOO_LARGE: Refusal = 10;
+const LARGEST_LENDING: usize = 16_777_216;
+
+/// What the lent memory holds before the opening, to see what it touches.
+const IMAGE_BEFORE: u8 = 0xa5;
+const JOURNAL_BEFORE: u8 = 0x5a;
+
+/// The book, the image and the journal after the opening.
+#[derive(PartialEq)]
+struct Opened {
+    answer: Answer,
+    image: Vec<u8>,
+    journal: Vec<u8>,
+}
+
+fn refused(refusal: Refusal, image_length: usize, journal_length: usize) -> Opened {
+    Opened {
+        answer: Answer { refusal, book: Book::default() },
+        image: vec![IMAGE_BEFORE; image_length],
+        journal: vec![JOURNAL_BEFORE; journal_length],
+    }
+}
+
+/// By document 01: 10, then 1 to 9, then 11.
+fn expected(document: &Document, image_length: usize, journal_length: usize) -> Opened {
+    if image_length > LARGEST_LENDING || journal_length > LARGEST_LENDING {
+        return refused(LENDING_TOO_LARGE, image_length, journal_length);
+    }
+    let routine = match &document.answer {
+        Ok((routine, _)) => routine,
+        Err(refusal) => return refused(*refusal, image_length, journal_length),
+    };
+    let mut image = routine.written();
+    let written = image.len();
+    if written > image_length {
+        return refused(IMAGE_FULL, image_length, journal_length);
+    }
+    image.resize(image_length, 0);
+    Opened {
+        answer: Answer { refusal: 0, book: Book { written: written as u64, used: 0 } },
+        image,
+        journal: vec![0; journal_length],
+    }
+}
+
+fn opened(file: &[u8], image_length: usize, journal_length: usize) -> Opened {
+    let mut image = vec![IMAGE_BEFORE; image_length];
+    let mut journal = vec![JOURNAL_BEFORE; journal_length];
+    let answer = vtil::open(file, &mut Lent { image: &mut image, journal: &mut journal });
+    Opened { answer, image, journal }
+}
+
+fn difference_at(file: &[u8], document: &Document, image_length: usize, journal_length: usize) -> Option<String> {
+    let due = expected(document, image_length, journal_length);
+    let got = opened(file, image_length, journal_length);
+    if got == due {
+        return None;
+    }
+    let what = if got.answer != due.answer {
+        format!("{:?}, due {:?}", got.answer, due.answer)
+    } else if got.image != due.image {
+        "another image".to_string()
+    } else {
+        "another journal".to_string()
+    };
+    Some(format!("open with image {image_length} and journal {journal_length}: {what}"))
+}
+
+/// Opens the file with just enough room, with more, and with one byte too few.
+pub fn difference(file: &[u8], document: &Document) -> Option<String> {
+    let size = match &document.answer {
+        Ok((_, consumed)) => *consumed,
+        Err(_) => file.len(),
+    };
+    let lendings = [(size, 0), (size + 50, 30), (size.saturating_sub(1), 20)];
+    lendings.iter().find_map(|&(image, journal)| difference_at(file, document, image, journal))
+}
+
+/// The limit on what is lent, beside an accepted file and a refused one.
+pub fn limits(report: &mut Report) {
+    const OVER: usize = LARGEST_LENDING + 1;
+    for file in [minimal_routine(), vec![]] {
+        let document = read_file(&file);
+        for (image, journal) in [(LARGEST_LENDING, 20), (OVER, 20), (200, LARGEST_LENDING), (200, OVER), (OVER, OVER)] {
+            if let Some(text) = difference_at(&file, &document, image, journal) {
+                report.difference(|| text);
+            }
+        }
+    }
+}

@@ -1,0 +1,42 @@
+//! Differences: each is printed in hex, cut down to a small input, and counted.
+
+const PRINTED: usize = 20;
+
+#[derive(Default)]
+pub struct Report {
+    pub differences: usize,
+}
+
+pub fn hex(bytes: &[u8]) -> String {
+    bytes.iter().map(|byte| format!("{byte:02x}")).collect()
+}
+
+impl Report {
+    /// After the first few, differences are only counted.
+    pub fn difference(&mut self, text: impl FnOnce() -> String) {
+        self.differences += 1;
+        if self.differences <= PRINTED {
+            println!("DIFFERENCE {}", text());
+        }
+    }
+}
+
+/// A smaller list that is still different: parts are left out, halves first, single items last.
+pub fn shrink<T: Clone>(items: &[T], is_different: impl Fn(&[T]) -> bool) -> Vec<T> {
+    let mut items = items.to_vec();
+    let mut part = items.len().div_ceil(2);
+    while part > 0 {
+        let mut at = 0;
+        while at < items.len() {
+            let end = (at + part).min(items.len());
+            let shorter = [&items[..at], &items[end..]].concat();
+            if is_different(&shorter) {
+                items = shorter;
+            } else {
+                at = end;
+            }
+        }
+        part /= 2;
+    }
+    items
+}

@@ -1,0 +1,1 @@
+// Not among the published files, and nothing of it is used here.

@@ -1,0 +1,62 @@
+#!/bin/sh
+# Makes this machine ready to build the Rust beside the library.
+#
+# It installs these Debian packages, which are sources of Rust crates and nothing that runs:
+#   librust-scroll-dev (0.10.1), librust-indexmap-dev (1.9.2), librust-bitflags-dev (1.3.2),
+#   librust-memmap-dev (0.7.0), and the packages that they depend on.
+# They land in /usr/share/cargo/registry, which .cargo/config.toml names as the only source of crates.
+# It needs Debian 12 (bookworm), root for the installing, and cargo, which it does not install.
+#
+# It then compares original/src/{lib,pod,serialize}.rs with the published files, where those are there:
+# in ../shared/docs/src/src beside the repository, or in the folder that VTIL_RUST_SRC names.
+set -eu
+
+packages="librust-scroll-dev librust-indexmap-dev librust-bitflags-dev librust-memmap-dev"
+here=$(cd "$(dirname "$0")" && pwd)
+
+fail() {
+    echo "oracle/setup.sh: $*" >&2
+    exit 1
+}
+
+missing_packages() {
+    for package in $packages; do
+        dpkg-query -W -f '${Status}\n' "$package" 2>/dev/null | grep -q '^install ok installed$' || echo "$package"
+    done
+}
+
+install_packages() {
+    missing=$(missing_packages | tr '\n' ' ')
+    if [ -z "$missing" ]; then
+        echo "packages: all there"
+        return
+    fi
+    echo "packages: installing $missing"
+    [ "$(id -u)" -eq 0 ] || fail "installing packages needs root; missing: $missing"
+    apt-get update -q || fail "apt-get update failed: is there a network?"
+    # shellcheck disable=SC2086 # one word for each package
+    DEBIAN_FRONTEND=noninteractive apt-get install -q -y --no-install-recommends $missing ||
+        fail "apt-get could not install: $missing"
+}
+
+# The three listed files have to be the published ones, byte for byte.
+compare_originals() {
+    published=${VTIL_RUST_SRC:-$here/../../shared/docs/src/src}
+    if [ ! -d "$published" ]; then
+        [ -z "${VTIL_RUST_SRC:-}" ] || fail "VTIL_RUST_SRC names no folder: $published"
+        echo "originals: the published files are not beside the repository, so they were not compared"
+        return
+    fi
+    for file in lib.rs pod.rs serialize.rs; do
+        cmp "$published/$file" "$here/original/src/$file" || fail "original/src/$file is not the published file"
+    done
+    echo "originals: byte for byte as in $published"
+}
+
+command -v dpkg-query >/dev/null || fail "this is no Debian: dpkg-query is missing"
+command -v cargo >/dev/null || fail "cargo is missing: install Rust 1.74 or newer"
+command -v cc >/dev/null || fail "cc is missing: install gcc or clang, by which cargo links"
+install_packages
+[ -d /usr/share/cargo/registry ] || fail "/usr/share/cargo/registry is missing after the installing"
+compare_originals
+echo "ready"
