@@ -12,7 +12,7 @@ use Rattle.laws.proofs.Layouts.{routine-layout, injective}
 use Rattle.machine.specs.Edits.{Edit, cost}
 use Rattle.machine.specs.Machine.{Call, edit, undo, Machine, start, size, used-by, machine-step, machine-run}
 use Rattle.machine.specs.Book.{in-image, run}
-use Rattle.machine.specs.Demand.{Sendable, Every, Opening, fresh, after-calls, machine-after, written-bytes, is-accepted, standing, Sound, Follows, Told-apart, Taken-back, Demand-3}
+use Rattle.machine.specs.Demand.{Sendable, Every, Opening, fresh, after-calls, machine-after, written-bytes, is-accepted, standing, Unspoiled, Follows, Told-apart, Taken-back, Demand-3}
 use Rattle.machine.proofs.Held.{take-image}
 use Rattle.machine.proofs.Simulation.{Sim, linked-used, run-sim}
 use Rattle.demand.proofs.Openings.{small, journal-small, fresh-sim}
@@ -43,7 +43,7 @@ module _ (o : Opening) (cs : List Call) (f : Every Sendable cs) where
   written-is : written-bytes (after-calls o cs) ≡ routine-bytes (machine-after o cs .now)
   written-is = ap₂ take (follows .written) (follows .image) ∙ take-image N (machine-after o cs .now)
 
-  pub never-spoiled : Every Sound (run cs (fresh o) .0)
+  pub never-spoiled : Every Unspoiled (run cs (fresh o) .0)
   never-spoiled = rw (follows .answers) (run-sound N J cs (start (o .routine)))
 
 pub told-apart : (o p : Opening) (cs ds : List Call) → Every Sendable cs → Every Sendable ds → Told-apart o p cs ds

@@ -17,10 +17,10 @@ use Rattle.op.proofs.Same.{same-yes, same-eq}
 use Rattle.pod.specs.Values.{Routine}
 use Rattle.pod.specs.Written.{routine-bytes}
 use Rattle.pod.specs.Descs.{most-lent}
-use Rattle.laws.specs.Holds.{Routine-holds}
 use Rattle.laws.proofs.Layouts.{routine-layout, read-all, read-holds}
 use Rattle.machine.specs.Machine.{size}
 use Rattle.machine.specs.Book.{State, in-image, whole, held}
+use Rattle.machine.specs.Sound.{Sound}
 
 -- the image: its length, the written form and the zeros
 module _ (n : ℕ) (r : Routine) where
@@ -36,22 +36,13 @@ module _ (n : ℕ) (r : Routine) where
   unfolding in-image
   drop-image = drop-append-seam (routine-bytes r) (zeros (n - size r))
 
-pub record Good (s : State) (r : Routine) : Type 0 where
-  pub small : length (s .image) ≤ most-lent
-  pub journal-small : length (s .journal) ≤ most-lent
-  pub used : s .book .used ≤ length (s .journal)
-  pub written : s .book .written ≡ size r
-  pub room : size r ≤ length (s .image)
-  pub image : s .image ≡ in-image (length (s .image)) r
-  pub holds : Routine-holds r
-
-pub good-held : (s : State) (r : Routine) → Good s r → held s ≡ accepted r
+pub sound-held : (s : State) (r : Routine) → Sound s r → held s ≡ accepted r
 unfolding held whole choose
-good-held s r g =
+sound-held s r g =
     let n = length (s .image) in
     let t : take (size r) (s .image) ≡ routine-bytes r = ap (take (size r)) (g .image) ∙ take-image n r in
     let d : drop (size r) (s .image) ≡ zeros (n - size r) = ap (drop (size r)) (g .image) ∙ drop-image n r in
-    rw (le-leb n most-lent (g .small), le-leb (length (s .journal)) most-lent (g .journal-small), g .written, le-leb (size r) n (g .room), le-leb (s .book .used) (length (s .journal)) (g .used), t, read-all routine-layout false r (g .holds))
+    rw (le-leb n most-lent (g .image-lent), le-leb (length (s .journal)) most-lent (g .journal-lent), g .written, le-leb (size r) n (g .room), le-leb (s .book .used) (length (s .journal)) (g .used), t, read-all routine-layout false r (g .holds))
     (rw (t, d, same-yes (routine-bytes r) (routine-bytes r) refl, same-yes (zeros (n - size r)) (zeros (n - size r)) refl))
 
 -- tests that were passed
@@ -81,9 +72,9 @@ whole-is s r (ok x n) q =
     let e : x ≡ r = cc in
     (n, ap (λ z. ok z n) e, same-eq _ _ (w .0) ∙ ap routine-bytes e, same-eq _ _ (w .1))
 
-pub held-good : (s : State) (r : Routine) → Bytes (s .image) → held s ≡ accepted r → Good s r
+pub held-sound : (s : State) (r : Routine) → Bytes (s .image) → held s ≡ accepted r → Sound s r
 unfolding held in-image
-held-good s r b q =
+held-sound s r b q =
     let l = through _ _ 10 q in
     let lent = both _ _ (l .0) in
     let m = through _ _ 13 (l .1) in
@@ -92,8 +83,8 @@ held-good s r b q =
     let h : s .book .written ≤ length (s .image) = leb-true _ _ (within .0) in
     let e : s .book .written ≡ size r = sym (length-take-le (s .book .written) (s .image) h) ∙ ap length (w .2) in
     record {
-      small = leb-true _ _ (lent .0);
-      journal-small = leb-true _ _ (lent .1);
+      image-lent = leb-true _ _ (lent .0);
+      journal-lent = leb-true _ _ (lent .1);
       used = leb-true _ _ (within .1);
       written = e;
       room = rw (← e) h;

@@ -22,7 +22,7 @@ use Rattle.machine.specs.Machine.{Call, edit, undo, Answer, Pile, used-b
 use Rattle.machine.specs.Journal.{entry, undone}
 use Rattle.machine.specs.Book.{State, in-image, held, stored, edit-step, restored, undo-step, acted, step, run}
 use Rattle.machine.specs.Demand.{Sendable, Every}
-use Rattle.machine.proofs.Held.{length-image, good-held}
+use Rattle.machine.proofs.Held.{length-image, sound-held}
 use Rattle.machine.proofs.Keeps.{Did, did, keeps}
 use Rattle.machine.proofs.Undo.{entry-cost, leads-back}
 
@@ -93,9 +93,9 @@ module _ (N J : ℕ) (small : N ≤ most-lent) (journal-small : J ≤ most-lent)
   holds-it r j o h k =
       let n = length-image N r h in
       let m = length-journal j k in
-      good-held (state-of N J r j) r (record {
-        small = rw n small;
-        journal-small = rw m journal-small;
+      sound-held (state-of N J r j) r (record {
+        image-lent = rw n small;
+        journal-lent = rw m journal-small;
         used = rw m k;
         written = refl;
         room = rw n h;
