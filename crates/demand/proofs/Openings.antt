@@ -17,7 +17,7 @@ use Rattle.pod.specs.Layout.{read-file}
 use Rattle.pod.specs.Descs.{most-lent}
 use Rattle.laws.proofs.Layouts.{routine-layout, read-holds}
 use Rattle.machine.specs.Machine.{Book, size, start}
-use Rattle.machine.specs.Book.{State, in-image, unopened, opened, lent, open-book}
+use Rattle.machine.specs.Book.{in-image, unopened, opened, open-book}
 use Rattle.machine.specs.Demand.{Bytes, Opening, fresh}
 use Rattle.machine.proofs.Simulation.{Sim, state-of}
 

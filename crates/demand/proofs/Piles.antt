@@ -1,7 +1,7 @@
 -- The machine's pile over a list of calls: what stood on it before stays below as many items as edits stand. By following the calls with the items
 -- on top.
 -- Assumes nothing.
-use mathlib.Core.Path.{_≡_, refl, sym, ap, _∙_}
+use mathlib.Core.Path.{_≡_, refl, ap, _∙_}
 use mathlib.Core.Bool.{Bool, true, false}
 use mathlib.Core.List.{List, [], _∷_, _++_}
 use Prim.Native.Nat.{ℕ, zero, suc, _+_}
@@ -11,7 +11,7 @@ use lib.Dec.{leb}
 use Rattle.fields.specs.Outcome.{Outcome, refused, accepted, after}
 use Rattle.pod.specs.Values.{Routine}
 use Rattle.machine.specs.Edits.{Edit, edited, cost}
-use Rattle.machine.specs.Machine.{Call, edit, undo, Answer, Pile, used-by, Machine, size, admitted, after-edit, after-undo, machine-step, machine-run}
+use Rattle.machine.specs.Machine.{Call, edit, undo, Pile, used-by, Machine, size, admitted, after-edit, after-undo, machine-step, machine-run}
 use Rattle.machine.specs.Demand.{is-accepted, settle, standing}
 
 -- a list in two parts

@@ -14,7 +14,7 @@ use Rattle.pod.specs.Values.{Instruction, Routine}
 use Rattle.pod.specs.Layout.{register, immediate, operand, named, opcode, after, instruction, as-it-comes}
 use Rattle.machine.specs.Edits.{Edit, create, remove, append, present, appended, edited, cost}
 use Rattle.machine.specs.Machine.{Call, edit, undo, Pile, used-by, Machine, size, admitted, after-edit, after-undo, machine-step, machine-run}
-use Rattle.machine.specs.Demand.{Every, Sound}
+use Rattle.machine.specs.Demand.{Every, Unspoiled}
 
 pub record Reading {A : Type 0} (r : Res A) : Type 0 where
   pub most : (e : ℕ) → r ≡ no e → e ≤ 8
@@ -88,7 +88,7 @@ module _ (s : List ℕ) where
       next (next (a-uint 8 n₃) λ v n. gives) λ sp n₄. next (a-uint 4 n₄) λ index n₅. next (a-flag n₅) λ reset n₆. gives
 
 -- the edits
-chosen : {A : Type 0} (t : Bool) (x y : Outcome A) → Sound x → Sound y → Sound (choose t x y)
+chosen : {A : Type 0} (t : Bool) (x y : Outcome A) → Unspoiled x → Unspoiled y → Unspoiled (choose t x y)
 unfolding choose
 chosen true x y h k = h
 chosen false x y h k = k
@@ -96,38 +96,38 @@ chosen false x y h k = k
 named-refusal : (e : ℕ) → 14 ≤ e → (e ≡ 10 → ⊥) × (e ≡ 13 → ⊥)
 named-refusal e h = (λ q. omega arith, λ q. omega arith)
 
-appended-sound : (v : ℕ) (r : Routine) (s : List ℕ) (q : Res Instruction) → Reading q → Sound (appended v r s q)
+appended-sound : (v : ℕ) (r : Routine) (s : List ℕ) (q : Res Instruction) → Reading q → Unspoiled (appended v r s q)
 unfolding appended
 appended-sound v r s (no e) h = let l = h .most e refl in (λ q. omega arith, λ q. omega arith)
 appended-sound v r s (ok i n) h =
     chosen (ltb n (length s)) _ _ (named-refusal 17 (omega arith)) (chosen (present v (r .explored-blocks)) _ _ tt (named-refusal 15 (omega arith)))
 
-pub edited-sound : (e : Edit) (r : Routine) → Sound (edited e r)
+pub edited-sound : (e : Edit) (r : Routine) → Unspoiled (edited e r)
 unfolding edited
 edited-sound (create v) r = chosen (present v (r .explored-blocks)) _ _ (named-refusal 14 (omega arith)) tt
 edited-sound (remove v) r = chosen (present v (r .explored-blocks)) _ _ tt (named-refusal 15 (omega arith))
 edited-sound (append v s) r = appended-sound v r s (instruction as-it-comes s 0) (an-instruction s 0)
 
 module _ (N J : ℕ) where
-  step-sound : (c : Call) (m : Machine) → Sound (machine-step N J c m .0)
+  step-sound : (c : Call) (m : Machine) → Unspoiled (machine-step N J c m .0)
   unfolding machine-step after-edit after-undo admitted
   step-sound (edit e) m = go (edited e (m .now)) (edited-sound e (m .now))
     where
-      fit : (r : Routine) (t u : Bool) → Sound (admitted t u (cost e (m .now)) r m .0)
+      fit : (r : Routine) (t u : Bool) → Unspoiled (admitted t u (cost e (m .now)) r m .0)
       fit r false u = (λ q. omega arith, λ q. omega arith)
       fit r true false = (λ q. omega arith, λ q. omega arith)
       fit r true true = tt
 
-      go : (x : Outcome Routine) → Sound x → Sound (after-edit N J (cost e (m .now)) m x .0)
+      go : (x : Outcome Routine) → Unspoiled x → Unspoiled (after-edit N J (cost e (m .now)) m x .0)
       go (refused k) h = h
       go (accepted r) h = fit r (leb (size r) N) (leb (used-by (m .pile) + cost e (m .now)) J)
   step-sound undo m = go (m .pile)
     where
-      go : (ps : Pile) → Sound (after-undo m ps .0)
+      go : (ps : Pile) → Unspoiled (after-undo m ps .0)
       go [] = named-refusal 16 (omega arith)
       go (p ∷ ps) = tt
 
-  pub run-sound : (cs : List Call) (m : Machine) → Every Sound (machine-run N J cs m .0)
+  pub run-sound : (cs : List Call) (m : Machine) → Every Unspoiled (machine-run N J cs m .0)
   unfolding machine-run
   run-sound [] m = tt
   run-sound (c ∷ cs) m = (step-sound c m, run-sound cs (machine-step N J c m .1))

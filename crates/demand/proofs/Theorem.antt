@@ -2,19 +2,19 @@
 -- taking back from what stays on the pile.
 -- Assumes nothing.
 use mathlib.Core.Path.{_≡_, refl, sym, ap, ap₂, _∙_}
-use mathlib.Core.Bool.{Bool, true, false}
+use mathlib.Core.Bool.{true}
 use mathlib.Core.List.{List, [], _∷_, _++_}
 use Prim.Native.Nat.{ℕ}
 use lib.ListN.{length, take}
 use Rattle.fields.specs.Outcome.{accepted}
-use Rattle.pod.specs.Values.{Routine}
 use Rattle.pod.specs.Written.{routine-bytes}
 use Rattle.laws.proofs.Layouts.{routine-layout, injective}
 use Rattle.machine.specs.Edits.{Edit, cost}
 use Rattle.machine.specs.Machine.{Call, edit, undo, Machine, start, size, used-by, machine-step, machine-run}
 use Rattle.machine.specs.Book.{in-image, run}
-use Rattle.machine.specs.Demand.{Sendable, Every, Opening, fresh, after-calls, machine-after, written-bytes, is-accepted, standing, Sound, Follows, Told-apart, Taken-back, Demand-3}
-use Rattle.machine.proofs.Simulation.{Sim, linked-used, take-image, run-sim}
+use Rattle.machine.specs.Demand.{Sendable, Every, Opening, fresh, after-calls, machine-after, written-bytes, is-accepted, standing, Unspoiled, Follows, Told-apart, Taken-back, Demand-3}
+use Rattle.machine.proofs.Held.{take-image}
+use Rattle.machine.proofs.Simulation.{Sim, linked-used, run-sim}
 use Rattle.demand.proofs.Openings.{small, journal-small, fresh-sim}
 use Rattle.demand.proofs.Refusals.{run-sound}
 use Rattle.demand.proofs.Piles.{run-append, edit-pile, undo-pile, bare, run-above}
@@ -41,9 +41,9 @@ module _ (o : Opening) (cs : List Call) (f : Every Sendable cs) where
 
   -- the written bytes are the written form of the machine's routine
   written-is : written-bytes (after-calls o cs) ≡ routine-bytes (machine-after o cs .now)
-  written-is = ap₂ take (follows .written) (follows .image) ∙ take-image N J (small o) (journal-small o) (machine-after o cs .now)
+  written-is = ap₂ take (follows .written) (follows .image) ∙ take-image N (machine-after o cs .now)
 
-  pub never-spoiled : Every Sound (run cs (fresh o) .0)
+  pub never-spoiled : Every Unspoiled (run cs (fresh o) .0)
   never-spoiled = rw (follows .answers) (run-sound N J cs (start (o .routine)))
 
 pub told-apart : (o p : Opening) (cs ds : List Call) → Every Sendable cs → Every Sendable ds → Told-apart o p cs ds
@@ -79,34 +79,50 @@ module _ (N J : ℕ) (m : Machine) (e : Edit) (ds : List Call) (a : is-accepted 
       undo-pile N J last (m .now, cost e (m .now)) (m .pile)
       (bare (run-above N J ((m .now, cost e (m .now)) ∷ m .pile) ds (machine-step N J (edit e) m .1) 0 0 (record { top = []; is = edit-pile N J e m a; many = refl }) s))
 
-pub taken-back : (o : Opening) (cs : List Call) (e : Edit) (ds : List Call) → Every Sendable (cs ++ (edit e ∷ ds))
-    → is-accepted (machine-step (length (o .image)) (length (o .journal)) (edit e) (machine-after o cs) .0) ≡ true
-    → standing ds (machine-run (length (o .image)) (length (o .journal)) ds (machine-after o (cs ++ (edit e ∷ []))) .0) 0 ≡ accepted 0
-    → Taken-back o cs (edit e) ds
-unfolding machine-run
-taken-back o cs e ds f a s =
-    let N = length (o .image) in
-    let J = length (o .journal) in
-    let m = machine-after o cs in
-    let long = cs ++ (edit e ∷ (ds ++ (undo ∷ []))) in
-    let first : machine-after o (cs ++ (edit e ∷ [])) ≡ machine-step N J (edit e) m .1 = run-append N J cs (edit e ∷ []) (start (o .routine)) in
-    let before : machine-after o (cs ++ (edit e ∷ ds)) ≡ machine-run N J ds (machine-step N J (edit e) m .1) .1
-    = run-append N J cs (edit e ∷ ds) (start (o .routine)) in
-    let r = returns N J m e ds a (rw first at s) in
-    let same : machine-after o long ≡ m
-    = run-append N J cs (edit e ∷ (ds ++ (undo ∷ []))) (start (o .routine)) ∙ run-append N J ds (undo ∷ []) (machine-step N J (edit e) m .1) ∙ r .1 in
-    let sent : Every Sendable ds = every-right Sendable cs (edit e ∷ ds) f .1 in
-    let fl = follows o long (every-append Sendable cs (edit e ∷ (ds ++ (undo ∷ []))) (every-left Sendable cs (edit e ∷ ds) f)
-    (every-right Sendable cs (edit e ∷ ds) f .0, every-append Sendable ds (undo ∷ []) sent (tt, tt))) in
-    let fc = follows o cs (every-left Sendable cs (edit e ∷ ds) f) in
-    let w : after-calls o long .book .written ≡ after-calls o cs .book .written = fl .written ∙ ap (λ x. size (x .now)) same ∙ sym (fc .written) in
-    let u : after-calls o long .book .used ≡ after-calls o cs .book .used = fl .used ∙ ap (λ x. used-by (x .pile)) same ∙ sym (fc .used) in
-    record {
-      accepts = ap (λ x. is-accepted (machine-step N J undo x .0)) before ∙ r .0;
-      routine = ap (λ x. x .now) same;
-      image = fl .image ∙ ap (λ x. in-image N (x .now)) same ∙ sym (fc .image);
-      book = λ i. record { written = w i; used = u i };
-    }
+-- where the machine is equal after two lists, image and book are
+module _ (o : Opening) (cs ds : List Call) (f : Every Sendable cs) (g : Every Sendable ds) (same : machine-after o cs ≡ machine-after o ds) where
+  same-image : after-calls o cs .image ≡ after-calls o ds .image
+  same-image = follows o cs f .image ∙ ap (λ m. in-image (length (o .image)) (m .now)) same ∙ sym (follows o ds g .image)
+
+  same-written : after-calls o cs .book .written ≡ after-calls o ds .book .written
+  same-written = follows o cs f .written ∙ ap (λ m. size (m .now)) same ∙ sym (follows o ds g .written)
+
+  same-used : after-calls o cs .book .used ≡ after-calls o ds .book .used
+  same-used = follows o cs f .used ∙ ap (λ m. used-by (m .pile)) same ∙ sym (follows o ds g .used)
+
+  same-book : after-calls o cs .book ≡ after-calls o ds .book
+  same-book i = record { written = same-written i; used = same-used i }
+
+module _ (o : Opening) (cs : List Call) (e : Edit) (ds : List Call) where
+  abbrev long : List Call
+  long = cs ++ (edit e ∷ (ds ++ (undo ∷ [])))
+
+  long-sent : Every Sendable (cs ++ (edit e ∷ ds)) → Every Sendable long
+  long-sent f =
+      let g = every-right Sendable cs (edit e ∷ ds) f in
+      every-append Sendable cs (edit e ∷ (ds ++ (undo ∷ []))) (every-left Sendable cs (edit e ∷ ds) f) (g .0, every-append Sendable ds (undo ∷ []) (g .1) (tt, tt))
+
+  pub taken-back : Every Sendable (cs ++ (edit e ∷ ds))
+      → is-accepted (machine-step (length (o .image)) (length (o .journal)) (edit e) (machine-after o cs) .0) ≡ true
+      → standing ds (machine-run (length (o .image)) (length (o .journal)) ds (machine-after o (cs ++ (edit e ∷ []))) .0) 0 ≡ accepted 0
+      → Taken-back o cs (edit e) ds
+  unfolding machine-run
+  taken-back f a s =
+      let N = length (o .image) in
+      let J = length (o .journal) in
+      let m = machine-after o cs in
+      let first : machine-after o (cs ++ (edit e ∷ [])) ≡ machine-step N J (edit e) m .1 = run-append N J cs (edit e ∷ []) (start (o .routine)) in
+      let before : machine-after o (cs ++ (edit e ∷ ds)) ≡ machine-run N J ds (machine-step N J (edit e) m .1) .1
+      = run-append N J cs (edit e ∷ ds) (start (o .routine)) in
+      let r = returns N J m e ds a (rw first at s) in
+      let same : machine-after o long ≡ m
+      = run-append N J cs (edit e ∷ (ds ++ (undo ∷ []))) (start (o .routine)) ∙ run-append N J ds (undo ∷ []) (machine-step N J (edit e) m .1) ∙ r .1 in
+      record {
+        accepts = ap (λ x. is-accepted (machine-step N J undo x .0)) before ∙ r .0;
+        routine = ap (λ x. x .now) same;
+        image = same-image o long cs (long-sent f) (every-left Sendable cs (edit e ∷ ds) f) same;
+        book = same-book o long cs (long-sent f) (every-left Sendable cs (edit e ∷ ds) f) same;
+      }
 
 pub demand-3 : Demand-3
 demand-3 = record { follows = follows; never-spoiled = never-spoiled; told-apart = told-apart; taken-back = taken-back }

@@ -6,24 +6,23 @@ use mathlib.Core.Bool.{Bool, true, false}
 use mathlib.Core.List.{List, [], _∷_, _++_}
 use Prim.Native.Nat.{ℕ, _+_, _*_, _≤_, _<_, _^_}
 use native.Mathlib.Omega.{arith}
-use lib.ListN.{length, length-append}
+use lib.ListN.{length}
 use lib.Dec.{ltb, eqb}
 use borrow.Author.Tests.{ltb-false, eqb-true, eqb-false}
-use mir.Val.{SFits}
 use Rattle.fields.specs.Parse.{Res, ok, no, choose}
 use Rattle.fields.specs.Outcome.{Outcome, refused, accepted}
 use Rattle.pod.specs.Values.{Instruction, BasicBlock, Routine}
 use Rattle.pod.specs.Blocks.{vips, repeats}
 use Rattle.pod.specs.Layout.{instruction, as-it-comes}
-use Rattle.pod.specs.Written.{many-bytes, instruction-bytes, block-bytes, routine-head-bytes, routine-bytes}
+use Rattle.pod.specs.Written.{many-bytes, instruction-bytes, block-bytes, routine-head-bytes}
 use Rattle.pod.specs.Descs.{most-lent}
 use Rattle.laws.specs.Holds.{Each, Instruction-holds, Block-holds, Routine-holds}
 use Rattle.laws.proofs.Layouts.{instruction-layout, read-holds, read-to, read-within}
 use Rattle.laws.proofs.Sizes.{instruction-size, block-size, block-least, block-empty, routine-size}
 use Rattle.machine.specs.Edits.{Edit, create, remove, append, present, place, empty-block, block-at, remove-at, change-at, append-to, with-blocks, appended, edited}
-use Rattle.machine.specs.Machine.{Call, edit, size}
+use Rattle.machine.specs.Machine.{edit, size}
 use Rattle.machine.specs.Demand.{Bytes, Sendable}
-use Rattle.machine.proofs.Lists.{total, total-snoc, total-least, many-total, total-remove, total-change, each-snoc, each-at, each-remove, each-change, length-remove, one, one-same, one-other, Found, found, absent-count, once-count, count-once}
+use Rattle.machine.proofs.Lists.{total, total-snoc, total-least, many-total, total-remove, total-change, each-snoc, each-at, each-remove, each-change, one, one-same, one-other, found, absent-count, once-count, count-once}
 
 -- What an accepted edit did
 pub record Appended (v : ℕ) (s : List ℕ) (r r′ : Routine) : Type 0 where

@@ -1,4 +1,7 @@
 pub mod Lists
 pub mod Keeps
 pub mod Undo
+pub mod Held
 pub mod Simulation
+pub mod Parts
+pub mod Calls

@@ -14,7 +14,7 @@ use Rattle.pod.specs.Values.{BasicBlock}
 use Rattle.pod.specs.Blocks.{vips, has, repeats}
 use Rattle.pod.specs.Written.{many-bytes}
 use Rattle.laws.specs.Holds.{Each}
-use Rattle.machine.specs.Edits.{present, place, empty-block, block-at, last-of, but-last, remove-at, insert-at, change-at}
+use Rattle.machine.specs.Edits.{present, place, block-at, last-of, but-last, remove-at, insert-at, change-at}
 
 -- a sum over a list
 unfoldable pub total : {A : Type 0} → (A → ℕ) → List A → ℕ
@@ -89,7 +89,7 @@ module _ (P : BasicBlock → Type 0) where
   each-change (suc i) g (b ∷ bs) e h p = (e .0, each-change i g bs (e .1) (le-of-suc-le-suc h) p)
 
 -- lengths
-length-but-last : {A : Type 0} (x : A) (xs : List A) → length (but-last x xs) ≡ length xs
+pub length-but-last : {A : Type 0} (x : A) (xs : List A) → length (but-last x xs) ≡ length xs
 unfolding but-last
 length-but-last x [] = refl
 length-but-last x (y ∷ ys) = ap suc (length-but-last y ys)

@@ -10,22 +10,19 @@ use native.Mathlib.Omega.{arith}
 use lib.ListN.{length, take, drop, length-append, length-replicate, replicate-append-replicate}
 use lib.Seq.{take-append-seam, drop-append-add, drop-append-seam}
 use lib.Dec.{leb, eqb}
-use borrow.Author.Tests.{eq-eqb, ne-eqb, le-leb, leb-true}
+use borrow.Author.Tests.{eq-eqb, ne-eqb, leb-true}
 use Rattle.fields.specs.Parse.{choose}
 use Rattle.fields.specs.Bytes.{zeros, put}
 use Rattle.fields.specs.Outcome.{Outcome, refused, accepted}
-use Rattle.op.proofs.Same.{same-yes}
 use Rattle.pod.specs.Values.{Routine}
-use Rattle.pod.specs.Layout.{read-file}
-use Rattle.pod.specs.Written.{routine-bytes}
 use Rattle.pod.specs.Descs.{most-lent}
 use Rattle.laws.specs.Holds.{Routine-holds}
-use Rattle.laws.proofs.Layouts.{routine-layout, read-all}
 use Rattle.machine.specs.Edits.{Edit, create, remove, append, edited, cost}
-use Rattle.machine.specs.Machine.{Call, edit, undo, Answer, Book, Pile, used-by, Machine, size, admitted, after-edit, after-undo, machine-step, machine-run}
+use Rattle.machine.specs.Machine.{Call, edit, undo, Answer, Pile, used-by, Machine, size, admitted, after-edit, after-undo, machine-step, machine-run}
 use Rattle.machine.specs.Journal.{entry, undone}
-use Rattle.machine.specs.Book.{State, in-image, whole, held, stored, edit-step, restored, undo-step, acted, step, run}
+use Rattle.machine.specs.Book.{State, in-image, held, stored, edit-step, restored, undo-step, acted, step, run}
 use Rattle.machine.specs.Demand.{Sendable, Every}
+use Rattle.machine.proofs.Held.{length-image, sound-held}
 use Rattle.machine.proofs.Keeps.{Did, did, keeps}
 use Rattle.machine.proofs.Undo.{entry-cost, leads-back}
 
@@ -88,27 +85,23 @@ abbrev pub Agree : ℕ → ℕ → Answer × State → Answer × Machine → Typ
 Agree N J x y = (x .0 ≡ y .0) × Sim N J (y .1) (x .1)
 
 module _ (N J : ℕ) (small : N ≤ most-lent) (journal-small : J ≤ most-lent) where
-  pub length-image : (r : Routine) → size r ≤ N → length (in-image N r) ≡ N
-  unfolding in-image
-  length-image r h = simp (length-append, length-replicate) (omega arith)
-
   length-journal : (j : List ℕ) → length j ≤ J → length (j ++ zeros (J - length j)) ≡ J
   length-journal j h = simp (length-append, length-replicate) (omega arith)
 
-  pub take-image : (r : Routine) → take (size r) (in-image N r) ≡ routine-bytes r
-  unfolding in-image
-  take-image r = take-append-seam (routine-bytes r) (zeros (N - size r))
-
-  pub drop-image : (r : Routine) → drop (size r) (in-image N r) ≡ zeros (N - size r)
-  unfolding in-image
-  drop-image r = drop-append-seam (routine-bytes r) (zeros (N - size r))
-
   -- such a book is not spoiled
   pub holds-it : (r : Routine) (j : List ℕ) → Routine-holds r → size r ≤ N → length j ≤ J → held (state-of N J r j) ≡ accepted r
-  unfolding held whole choose
   holds-it r j o h k =
-      rw (length-image r h, length-journal j k, le-leb N most-lent small, le-leb J most-lent journal-small, le-leb (size r) N h, le-leb (length j) J k, take-image r, read-all routine-layout false r o)
-      (rw (take-image r, drop-image r, length-image r h, same-yes (routine-bytes r) (routine-bytes r) refl, same-yes (zeros (N - size r)) (zeros (N - size r)) refl))
+      let n = length-image N r h in
+      let m = length-journal j k in
+      sound-held (state-of N J r j) r (record {
+        image-lent = rw n small;
+        journal-lent = rw m journal-small;
+        used = rw m k;
+        written = refl;
+        room = rw n h;
+        image = ap (λ i. in-image i r) (sym n);
+        holds = o;
+      })
 
   module _ (m : Machine) (j : List ℕ) (o : Routine-holds (m .now)) (h : size (m .now) ≤ N) (k : length j ≤ J) (l : Linked N (m .now) (m .pile) j) where
     stays : Sim N J m (state-of N J (m .now) j)
@@ -133,7 +126,7 @@ module _ (N J : ℕ) (small : N ≤ most-lent) (journal-small : J ≤ most-lent)
           ap (λ i. accepted (record { written = size r; used = i + length x })) (sym w),
           record {
             j = j ++ x;
-            is = λ i. record { image = in-image (length-image (m .now) h i) r; journal = y i; book = record { written = size r; used = sym c i } };
+            is = λ i. record { image = in-image (length-image N (m .now) h i) r; journal = y i; book = record { written = size r; used = sym c i } };
             room = a;
             journal-room = omega arith;
             holds = keeps e (m .now) r f o d (omega arith);
@@ -146,7 +139,7 @@ module _ (N J : ℕ) (small : N ≤ most-lent) (journal-small : J ≤ most-lent)
     unfolding edit-step after-edit
     edit-sim e f (refused n) q = (refl, stays)
     edit-sim e f (accepted r) q =
-        rw (length-image (m .now) h, length-journal j k, linked-used N (m .now) (m .pile) j l, ← entry-cost e (m .now))
+        rw (length-image N (m .now) h, length-journal j k, linked-used N (m .now) (m .pile) j l, ← entry-cost e (m .now))
         (stored-sim e r f (did e (m .now) r f q) _ _ refl refl)
 
     undo-sim : (ps : Pile) → Linked N (m .now) ps j → Agree N J (undo-step (m .now) (state-of N J (m .now) j)) (after-undo m ps)
@@ -165,11 +158,11 @@ module _ (N J : ℕ) (small : N ≤ most-lent) (journal-small : J ≤ most-lent)
         let w : length j - length x ≡ length es = omega arith in
         let y : put (length es) (zeros (length x)) (j ++ zeros (J - length j)) ≡ es ++ zeros (J - length es)
         = ap (λ s. put (length es) (zeros (length x)) (s ++ zeros (J - length j))) i ∙ put-back es x (J - length j) (J - length es) (omega arith) in
-        rw (z, length-image (m .now) h, t, u, w, linked-used N (p .0) ps es (c .1)) (
+        rw (z, length-image N (m .now) h, t, u, w, linked-used N (p .0) ps es (c .1)) (
           refl,
           record {
             j = es;
-            is = λ i. record { image = in-image (length-image (m .now) h i) (p .0); journal = y i; book = record { written = size (p .0); used = length es } };
+            is = λ i. record { image = in-image (length-image N (m .now) h i) (p .0); journal = y i; book = record { written = size (p .0); used = length es } };
             room = c .0 .room;
             journal-room = omega arith;
             holds = c .0 .holds;

@@ -1,18 +1,18 @@
 -- The journal's last entry leads back: for each kind, the tests of taking back pass at what the edit made, and give the routine before it.
 -- Assumes nothing.
 use mathlib.Core.Path.{_≡_, refl, sym, ap, _∙_}
-use mathlib.Core.Bool.{Bool, true, false, not}
+use mathlib.Core.Bool.{true, false}
 use mathlib.Core.List.{List, [], _∷_, _++_, append-assoc, append-nil}
-use Prim.Native.Nat.{ℕ, zero, suc, _+_, _-_, _≤_, _<_, _^_}
+use Prim.Native.Nat.{ℕ, _+_, _-_, _≤_, _<_, _^_}
 use native.Mathlib.Omega.{arith}
-use lib.ListN.{length, take, drop, getD, length-append}
+use lib.ListN.{length, drop, length-append}
 use lib.Seq.{take-append-seam, take-at, drop-at, getD-append-seam}
 use borrow.Author.Tests.{eq-eqb, le-leb, lt-ltb}
-use Rattle.fields.specs.Parse.{Res, ok, choose}
-use Rattle.fields.specs.Outcome.{Outcome, accepted}
+use Rattle.fields.specs.Parse.{ok, choose}
+use Rattle.fields.specs.Outcome.{accepted}
 use Rattle.pod.specs.Values.{Instruction, BasicBlock, Routine}
-use Rattle.pod.specs.Layout.{block, instruction, as-it-comes, as-written}
-use Rattle.pod.specs.Written.{bytes, instruction-bytes, block-bytes}
+use Rattle.pod.specs.Layout.{block, as-written}
+use Rattle.pod.specs.Written.{instruction-bytes, block-bytes}
 use Rattle.pod.specs.Descs.{most-lent}
 use Rattle.laws.specs.Holds.{Block-holds, Routine-holds}
 use Rattle.laws.proofs.Back.{Reads, seq, last, uint-reads, done-reads, length-bytes}
@@ -22,7 +22,7 @@ use Rattle.machine.specs.Machine.{edit, size}
 use Rattle.machine.specs.Journal.{Trailer, trailer-bytes, trailer, read-size, entry, is-fresh, undo-create, undo-remove-block, undo-remove, last-size-is, without-last, undo-append, undo-entry, undone}
 use Rattle.machine.specs.Demand.{Sendable}
 use Rattle.machine.proofs.Lists.{total-remove, each-at, length-remove, length-change, at-change, snoc-but-last, snoc-last, insert-remove, change-back, one, one-same, Found, found, once-count, count-absent}
-use Rattle.machine.proofs.Keeps.{Did, Appended, weight, blocks-few, weight-at, removed-size, appended-size}
+use Rattle.machine.proofs.Keeps.{Did, weight, blocks-few, weight-at, removed-size, appended-size}
 
 -- The trailer
 abbrev pub named : ℕ → ℕ → ℕ → ℕ → Trailer

@@ -75,9 +75,9 @@ standing (c ∷ cs) [] n = accepted n
 standing (c ∷ cs) (a ∷ answers) n = after (settle (is-accepted a) c n) (standing cs answers)
 
 -- an answer is neither 10 nor 13
-abbrev pub Sound : {A : Type 0} → Outcome A → Type 0
-Sound (accepted a) = Unit
-Sound (refused e) = (e ≡ lending-too-large → ⊥) × (e ≡ spoiled-book → ⊥)
+abbrev pub Unspoiled : {A : Type 0} → Outcome A → Type 0
+Unspoiled (accepted a) = Unit
+Unspoiled (refused e) = (e ≡ lending-too-large → ⊥) × (e ≡ spoiled-book → ⊥)
 
 -- every answer equals the machine's; the image holds the written form of the machine's routine, then zeros; the book its length and used
 pub record Follows (o : Opening) (cs : List Call) : Type 0 where
@@ -102,7 +102,7 @@ pub record Taken-back (o : Opening) (cs : List Call) (c : Call) (ds : List Call)
 pub record Demand-3 : Type 0 where
   pub follows : (o : Opening) (cs : List Call) → Every Sendable cs → Follows o cs
   -- the machine gives neither 10 nor 13, so in these lists no call does
-  pub never-spoiled : (o : Opening) (cs : List Call) → Every Sendable cs → Every Sound (run cs (fresh o) .0)
+  pub never-spoiled : (o : Opening) (cs : List Call) → Every Sendable cs → Every Unspoiled (run cs (fresh o) .0)
   pub told-apart : (o p : Opening) (cs ds : List Call) → Every Sendable cs → Every Sendable ds → Told-apart o p cs ds
   pub taken-back :
       (o : Opening) (cs : List Call) (e : Edit) (ds : List Call) → Every Sendable (cs ++ (edit e ∷ ds))

@@ -3,4 +3,5 @@ pub mod Machine
 pub mod Journal
 pub mod Book
 pub mod Look
+pub mod Sound
 pub mod Demand

@@ -1,0 +1,18 @@
+-- A state that is not spoiled, with the routine that it holds: its image is that routine's written form and then zeros.
+use Prim.Native.Nat.{_≤_}
+use mathlib.Core.Path.{_≡_}
+use lib.ListN.{length}
+use Rattle.pod.specs.Values.{Routine}
+use Rattle.pod.specs.Descs.{most-lent}
+use Rattle.laws.specs.Holds.{Routine-holds}
+use Rattle.machine.specs.Machine.{size}
+use Rattle.machine.specs.Book.{State, in-image}
+
+pub record Sound (s : State) (r : Routine) : Type 0 where
+  pub holds : Routine-holds r
+  pub image : s .image ≡ in-image (length (s .image)) r
+  pub written : s .book .written ≡ size r
+  pub room : size r ≤ length (s .image)
+  pub used : s .book .used ≤ length (s .journal)
+  pub image-lent : length (s .image) ≤ most-lent
+  pub journal-lent : length (s .journal) ≤ most-lent
