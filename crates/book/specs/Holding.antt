@@ -6,8 +6,7 @@ use lib.ListN.{length, take}
 use Rattle.pod.specs.Values.{RoutineConvention, BasicBlock, Routine}
 use Rattle.pod.specs.Written.{header-bytes, bytes, convention-bytes, block-bytes, many-bytes, routine-head-bytes, routine-bytes}
 use Rattle.laws.specs.Holds.{Routine-holds}
-use Rattle.machine.specs.Machine.{size}
-use Rattle.machine.specs.Book.{State, in-image}
+pub use Rattle.machine.specs.Sound.{Sound}
 
 -- the image begins with the written form of r
 pub record Holding (image : List ℕ) (r : Routine) : Type 0 where
@@ -22,13 +21,3 @@ blocks-start r = length (routine-head-bytes r) + 4
 -- where the block at a place begins: the end of the blocks where the place is their number
 abbrev pub block-start : Routine → ℕ → ℕ
 block-start r i = blocks-start r + length (many-bytes block-bytes (take i (r .explored-blocks)))
-
--- a state that is not spoiled, with the routine that it holds
-pub record Sound (s : State) (r : Routine) : Type 0 where
-  pub holds : Routine-holds r
-  pub image : s .image ≡ in-image (length (s .image)) r
-  pub written : s .book .written ≡ size r
-  pub room : size r ≤ length (s .image)
-  pub used : s .book .used ≤ length (s .journal)
-  pub image-lent : length (s .image) ≤ 16777216
-  pub journal-lent : length (s .journal) ≤ 16777216
