@@ -3,12 +3,12 @@
 -- Assumes nothing.
 use mathlib.Core.Path.{_≡_, refl, sym, ap, ap₂, _∙_}
 use mathlib.Core.Bool.{Bool, true, false}
-use mathlib.Core.List.{List, [], _∷_}
+use mathlib.Core.List.{List, []}
 use Prim.Native.Nat.{ℕ, zero, suc, _+_, _*_, _-_, _≤_, _<_}
 use native.Mathlib.Omega.{arith}
 use lib.Dec.{leb}
 use borrow.Author.Tests.{leb-true, leb-false}
-use lib.ListN.{length, drop, getD, replicate, length-drop, length-replicate}
+use lib.ListN.{length, drop, getD, length-drop, length-replicate}
 use lib.Seq.{ext-getD, getD-drop}
 use Rattle.fields.specs.Bytes.{zeros}
 use Rattle.fields.specs.Parse.{le}

@@ -2,14 +2,12 @@
 -- part moved to open or close a gap. The first few open `put`; all others follow from these.
 -- Assumes nothing.
 use mathlib.Core.Path.{_≡_, refl, sym, ap, _∙_}
-use mathlib.Core.List.{List, [], _∷_, _++_, append-assoc, append-nil}
-use Prim.Native.Nat.{ℕ, zero, suc, _+_, _-_, _≤_, _<_}
+use mathlib.Core.List.{List, [], _++_, append-assoc}
+use Prim.Native.Nat.{ℕ, _+_, _-_, _≤_}
 use native.Mathlib.Omega.{arith}
-use native.Mathlib.Numerals.{add-one}
-use lib.ListN.{length, take, drop, getD, set, length-append, length-take, length-drop, take-append-drop, length-replicate, replicate-append-replicate, drop-of-length-le}
-use lib.Seq.{take-at, drop-at, length-take-le, take-append-le, drop-append-le, drop-drop, take-take, take-add, take-all, take-length, set-split, paste-suc}
-use borrow.Rule.Slice.PartMut.{midOf, putMid}
-use Rattle.fields.specs.Bytes.{put, zeros}
+use lib.ListN.{length, take, drop, length-append, length-take, length-drop, take-append-drop}
+use lib.Seq.{take-at, drop-at, length-take-le, take-append-le, drop-append-le, drop-drop, take-take}
+use Rattle.fields.specs.Bytes.{put}
 
 -- a part of the first of two lists
 in-front : (m k : ℕ) (p q : List ℕ) → m + k ≤ length p → take k (drop m (p ++ q)) ≡ take k (drop m p)
@@ -120,7 +118,7 @@ put-parts A x y B n h k =
     let d : drop (n + length x) (A ++ (y ++ B)) ≡ B = sym (drop-drop (length x) n (A ++ (y ++ B))) ∙ ap (drop (length x)) (drop-at A (y ++ B) n h) ∙ drop-at y B (length x) (sym k) in
     rw (take-at A (y ++ B) n h, d)
 
--- the part T of A ++ (T ++ _), and the part T of A ++ (X ++ (T ++ _))
+-- the second of three parts
 part-second : (A T B : List ℕ) (n k : ℕ) → length A ≡ n → length T ≡ k → take k (drop n (A ++ (T ++ B))) ≡ T
 part-second A T B n k ha hk = ap (take k) (drop-at A (T ++ B) n ha) ∙ take-at T B k hk
 

@@ -6,7 +6,7 @@ use mathlib.Core.List.{List, [], _∷_, _++_, append-assoc, append-nil}
 use Prim.Native.Nat.{ℕ, _+_, _-_, _≤_, _<_}
 use native.Mathlib.Omega.{arith}
 use native.Mathlib.Numerals.{add-one}
-use lib.ListN.{length, take, drop, getD, set, length-append, length-take, length-drop, take-append-drop, length-reverse, drop-of-length-le}
+use lib.ListN.{length, take, drop, getD, set, length-append, length-take, take-append-drop, length-reverse, drop-of-length-le}
 use lib.Seq.{take-at, drop-at, length-slice, length-take-le, drop-append-le, take-suc, take-all}
 use Rattle.bytes.specs.Bytes.{rev, slice}
 use Rattle.bytes.proofs.Laws.{rev-rev, rev-append}

@@ -59,8 +59,8 @@ fn swap_back(a: &mut [u8], x: &mut [u8], y: &mut [u8], i: usize, k: usize, n: us
     copy_back(a, k, x);
 }
 
-// The bytes from `from` up to, not including, `to` reversed, from both ends. As `bytes::reverse`, which does the middle, and ten times as fast: it
-// goes byte by byte.
+// The bytes from `from` up to, not including, `to` reversed, from both ends. `bytes::reverse`, which goes byte by byte, does only the middle: this is
+// several times as fast.
 fn reverse(a: &mut [u8], from: usize, to: usize)
     requires { ⌜ (from ≤ to) × (to ≤ length (now a)) ⌝ }
     ensures { λ _. ⌜ now (a .exit) ≡ reversed from to (now (a .entry)) ⌝ }

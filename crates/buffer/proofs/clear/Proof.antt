@@ -1,15 +1,12 @@
 -- The loop's invariant: zeros are put from `from` up to i. A turn puts one more beside them.
-use Prim.Native.Nat.{ℕ, _≤_, _+_, _-_}
+use Prim.Native.Nat.{ℕ, _≤_, _-_}
 use mathlib.Core.Path.{_≡_, refl, ap, _∙_}
 use native.Mathlib.Omega.{arith}
 use lib.ListN.{length, length-set}
 use Rattle.fields.specs.Bytes.{put, zeros}
 use Rattle.buffer.proofs.Moves.{clear-more, clear-none}
-use borrow.Author.Needs.{needs}
 use Rattle.buffer.proofs.clear.Statement.{statement}
 use Rattle.buffer.proofs.clear.Tie as tie
-use Rattle.buffer.proofs.clear.Reads as reads
-use Rattle.buffer.proofs.clear.Lts as lts
 
 abbrev Inv-loop : tie.InvT-loop
 Inv-loop a₀ from to i₀ a i = (from ≤ i) × ((i ≤ to) × ((length a ≡ length a₀) × (a ≡ put from (zeros (i - from)) a₀)))

@@ -3,9 +3,6 @@ use Rattle.buffer.proofs.Moves.{copied}
 use borrow.Author.Needs.{needs}
 use Rattle.buffer.proofs.copy_at.Statement.{statement}
 use Rattle.buffer.proofs.copy_at.Tie as tie
-use Rattle.buffer.proofs.copy_at.Reads as reads
-use Rattle.buffer.proofs.copy_at.Lts as lts
-use Rattle.bytes.proofs.copy.Reads as copy-reads
 
 sub-copy : tie.Need-sub-copy
 sub-copy c = search needs

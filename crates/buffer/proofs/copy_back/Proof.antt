@@ -1,16 +1,13 @@
 -- The loop's invariant: the first i bytes of b stand reversed before the end. A turn puts one before them.
-use Prim.Native.Nat.{ℕ, _≤_, _+_, _-_}
-use mathlib.Core.Path.{_≡_, refl, ap, _∙_}
+use Prim.Native.Nat.{_≤_, _+_, _-_}
+use mathlib.Core.Path.{_≡_, refl}
 use native.Mathlib.Omega.{arith}
 use lib.ListN.{length, take, length-set}
 use Rattle.bytes.specs.Bytes.{rev}
 use Rattle.fields.specs.Bytes.{put}
 use Rattle.buffer.proofs.Reversals.{back-none, back-more, back-all}
-use borrow.Author.Needs.{needs}
 use Rattle.buffer.proofs.copy_back.Statement.{statement}
 use Rattle.buffer.proofs.copy_back.Tie as tie
-use Rattle.buffer.proofs.copy_back.Reads as reads
-use Rattle.buffer.proofs.copy_back.Lts as lts
 
 abbrev Inv-loop : tie.InvT-loop
 Inv-loop a₀ at b end i₀ a i = (i ≤ length b) × ((length a ≡ length a₀) × (a ≡ put (at + length b - i) (rev (take i b)) a₀))

@@ -3,9 +3,6 @@ use Rattle.buffer.proofs.Reversals.{four}
 use borrow.Author.Needs.{needs}
 use Rattle.buffer.proofs.exchange.Statement.{statement}
 use Rattle.buffer.proofs.exchange.Tie as tie
-use Rattle.buffer.proofs.exchange.Reads as reads
-use Rattle.buffer.proofs.exchange.Lts as lts
-use Rattle.buffer.proofs.reverse.Reads as reverse-reads
 
 sub-q : tie.Need-sub-q
 sub-q c = search needs

@@ -1,16 +1,12 @@
 -- Both loops keep the same: the bytes up to i are alike. Two numbers of eight bytes are equal where their bytes are, and only there.
-use Prim.Native.Nat.{_≤_, _+_, _-_}
-use mathlib.Core.Path.{_≡_, sym, ap, _∙_}
+use Prim.Native.Nat.{_≤_, _-_}
+use mathlib.Core.Path.{sym, ap, _∙_}
 use native.Mathlib.Omega.{arith}
 use lib.ListN.{length}
 use Rattle.op.proofs.Same.{same-no}
 use Rattle.buffer.proofs.Alike.{Alike, alike-none, alike-more, alike-one, le-alike, same-alike, same-no-le, same-no-byte}
-use borrow.Author.Needs.{needs}
 use Rattle.buffer.proofs.is_same.Statement.{statement}
 use Rattle.buffer.proofs.is_same.Tie as tie
-use Rattle.buffer.proofs.is_same.Reads as reads
-use Rattle.buffer.proofs.is_same.Lts as lts
-use Rattle.fields.proofs.eight.Reads as eight-reads
 
 abbrev Inv-loop : tie.InvT-loop
 Inv-loop a b n i₀ i = (i ≤ n) × Alike a b 0 i

@@ -1,16 +1,12 @@
 -- Both loops keep the same: the bytes from `from` up to i are 0. A number of eight bytes is 0 where each byte is, and only there.
-use Prim.Native.Nat.{_≤_, _+_, _-_}
+use Prim.Native.Nat.{_≤_, _-_}
 use mathlib.Core.List.{[]}
-use mathlib.Core.Path.{_≡_, refl, sym, ap, _∙_}
+use mathlib.Core.Path.{_≡_, refl, sym, _∙_}
 use native.Mathlib.Omega.{arith}
 use lib.ListN.{length}
 use Rattle.buffer.proofs.Alike.{Alike, alike-none, alike-more, alike-one, le-alike, none-bytes, le-nothing, zeros-yes, zeros-no, zeros-no-byte}
-use borrow.Author.Needs.{needs}
 use Rattle.buffer.proofs.is_zero.Statement.{statement}
 use Rattle.buffer.proofs.is_zero.Tie as tie
-use Rattle.buffer.proofs.is_zero.Reads as reads
-use Rattle.buffer.proofs.is_zero.Lts as lts
-use Rattle.fields.proofs.eight.Reads as eight-reads
 
 abbrev Inv-loop : tie.InvT-loop
 Inv-loop a from n i₀ i = (n ≡ length a) × ((from ≤ i) × ((i ≤ n) × Alike a [] from i))

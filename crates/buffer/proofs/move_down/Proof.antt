@@ -1,6 +1,6 @@
 -- The loop's invariant: the first i bytes are moved. Those that a turn reads stand past all that was put, so they are as they were.
-use Prim.Native.Nat.{_≤_, _+_, _-_}
-use mathlib.Core.Path.{_≡_, refl, sym, ap, _∙_}
+use Prim.Native.Nat.{_≤_, _-_}
+use mathlib.Core.Path.{_≡_, refl, sym, _∙_}
 use native.Mathlib.Omega.{arith}
 use lib.ListN.{length}
 use Rattle.buffer.proofs.Put.{put-nil}
@@ -8,9 +8,6 @@ use Rattle.buffer.proofs.Moves.{moved, down-more, down-last}
 use borrow.Author.Needs.{needs}
 use Rattle.buffer.proofs.move_down.Statement.{statement}
 use Rattle.buffer.proofs.move_down.Tie as tie
-use Rattle.buffer.proofs.move_down.Reads as reads
-use Rattle.buffer.proofs.move_down.Lts as lts
-use Rattle.buffer.proofs.move_some.Reads as move-some-reads
 
 abbrev Inv-loop : tie.InvT-loop
 Inv-loop a₀ from to n room₀ i₀ a room i = (i ≤ n) × ((length room ≡ 512) × ((length a ≡ length a₀) × (a ≡ moved from to i a₀)))

@@ -2,17 +2,17 @@
 use native.Mathlib.Omega.{arith}
 use lib.ListN.{length, take}
 use lib.Seq.{length-take-le}
-use mathlib.Core.Path.{_≡_, sym, ap, _∙_}
+use mathlib.Core.Path.{_≡_, sym}
 use Rattle.buffer.proofs.Moves.{through}
 use borrow.Author.Needs.{needs}
 use Rattle.buffer.proofs.move_some.Statement.{statement}
 use Rattle.buffer.proofs.move_some.Tie as tie
-use Rattle.buffer.proofs.move_some.Reads as reads
-use Rattle.buffer.proofs.move_some.Lts as lts
-use Rattle.buffer.proofs.copy_at.Reads as copy-at-reads
+
+abbrev start : tie.After-copy-at-arg4 → tie.Start
+start c = c .before .before .before .before .before .before .before .before .before .before
 
 -- the front of `room` that the second copy reads is as long as asked
-front : (c : tie.After-copy-at-arg4) → length (take (c .before .before .before .before .before .before .before .before .before .before .args .n) (c .before .before .before .before .copy-at .last .0)) ≡ c .before .before .before .before .before .before .before .before .before .before .args .n
+front : (c : tie.After-copy-at-arg4) → length (take (start c .args .n) (c .before .before .before .before .copy-at .last .0)) ≡ start c .args .n
 front c = length-take-le _ _ (omega arith)
 
 add-end : tie.Need-add-end
@@ -49,8 +49,7 @@ returns : tie.Need-returns
 returns c =
     let two = c .before .before in
     let one = two .before .before .before .before .before in
-    let start = one .before .before .before .before .before .before in
-    through _ _ _ _ _ _ _ (start .pre .0) (one .copy-at .ensures) (two .copy-at2 .ensures)
+    through _ _ _ _ _ _ _ (one .before .before .before .before .before .before .pre .0) (one .copy-at .ensures) (two .copy-at2 .ensures)
 
 pub move-some-spec : {M : Type 1} → statement M
 move-some-spec =

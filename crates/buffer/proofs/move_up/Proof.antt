@@ -1,15 +1,12 @@
 -- The loop's invariant: the bytes from the i-th on are moved. Those that a turn reads stand before all that was put, so they are as they were.
 use Prim.Native.Nat.{_≤_, _+_, _-_}
-use mathlib.Core.Path.{_≡_, refl, sym, ap, _∙_}
+use mathlib.Core.Path.{_≡_, refl, sym, _∙_}
 use native.Mathlib.Omega.{arith}
 use lib.ListN.{length}
 use Rattle.buffer.proofs.Moves.{moved, up-none, up-turn, up-last}
 use borrow.Author.Needs.{needs}
 use Rattle.buffer.proofs.move_up.Statement.{statement}
 use Rattle.buffer.proofs.move_up.Tie as tie
-use Rattle.buffer.proofs.move_up.Reads as reads
-use Rattle.buffer.proofs.move_up.Lts as lts
-use Rattle.buffer.proofs.move_some.Reads as move-some-reads
 
 abbrev Inv-loop : tie.InvT-loop
 Inv-loop a₀ from to n room₀ i₀ a room i = (i ≤ n) × ((length room ≡ 512) × ((length a ≡ length a₀) × (a ≡ moved (from + i) (to + i) (n - i) a₀)))

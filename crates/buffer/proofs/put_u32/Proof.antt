@@ -6,8 +6,6 @@ use Rattle.buffer.proofs.Digits.{store4}
 use borrow.Author.Needs.{needs}
 use Rattle.buffer.proofs.put_u32.Statement.{statement}
 use Rattle.buffer.proofs.put_u32.Tie as tie
-use Rattle.buffer.proofs.put_u32.Reads as reads
-use Rattle.buffer.proofs.put_u32.Lts as lts
 
 cast-a : tie.Need-cast-a
 cast-a c = search needs

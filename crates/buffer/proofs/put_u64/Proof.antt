@@ -1,11 +1,10 @@
 -- Two puts of four bytes, of the low and the high half, are one of eight.
+use mathlib.Core.Path.{ap, _∙_}
+use Rattle.fields.specs.Bytes.{put}
 use Rattle.buffer.proofs.Digits.{put-halves}
 use borrow.Author.Needs.{needs}
 use Rattle.buffer.proofs.put_u64.Statement.{statement}
 use Rattle.buffer.proofs.put_u64.Tie as tie
-use Rattle.buffer.proofs.put_u64.Reads as reads
-use Rattle.buffer.proofs.put_u64.Lts as lts
-use Rattle.buffer.proofs.put_u32.Reads as put-u32-reads
 
 cast-put-u32 : tie.Need-cast-put-u32
 cast-put-u32 c = search needs
@@ -27,8 +26,10 @@ same-length c = search needs
 
 returns : tie.Need-returns
 returns c =
-    let start = c .before .before .before .before .before .before .before .before .before in
-    cc (put-halves 4 4 (start .args .at) (start .args .v) (start .args .a .now) (start .pre))
+    let high = c .before .before in
+    let low = high .before .before .before .before in
+    let start = low .before .before .before in
+    high .put-u322 .ensures ∙ ap (put _ _) (low .put-u32 .ensures) ∙ put-halves 4 4 _ (start .args .v) _ (start .pre)
 
 pub put-u64-spec : {M : Type 1} → statement M
 put-u64-spec =

@@ -4,8 +4,6 @@ use Rattle.buffer.proofs.Digits.{store1}
 use borrow.Author.Needs.{needs}
 use Rattle.buffer.proofs.put_u8.Statement.{statement}
 use Rattle.buffer.proofs.put_u8.Tie as tie
-use Rattle.buffer.proofs.put_u8.Reads as reads
-use Rattle.buffer.proofs.put_u8.Lts as lts
 
 slice-write-a : tie.Need-slice-write-a
 slice-write-a c = search needs

@@ -5,13 +5,8 @@ use native.Mathlib.Omega.{arith}
 use lib.ListN.{length}
 use Rattle.buffer.specs.Parts.{reversed}
 use Rattle.buffer.proofs.Reversals.{reversed-turn}
-use borrow.Author.Needs.{needs}
 use Rattle.buffer.proofs.reverse.Statement.{statement}
 use Rattle.buffer.proofs.reverse.Tie as tie
-use Rattle.buffer.proofs.reverse.Reads as reads
-use Rattle.buffer.proofs.reverse.Lts as lts
-use Rattle.buffer.proofs.swap_back.Reads as swap-back-reads
-use Rattle.bytes.proofs.reverse.Reads as reverse-reads
 
 abbrev Inv-loop : tie.InvT-loop
 Inv-loop a₀ from to x₀ y₀ i₀ j₀ a x y i j = (i ≤ j) × ((j ≤ length a₀) × ((length x ≡ 512) × ((length y ≡ 512) × ((length a ≡ length a₀) × (reversed i j a ≡ reversed from to a₀)))))

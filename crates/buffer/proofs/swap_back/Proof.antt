@@ -3,10 +3,6 @@ use Rattle.buffer.proofs.Reversals.{both-ends}
 use borrow.Author.Needs.{needs}
 use Rattle.buffer.proofs.swap_back.Statement.{statement}
 use Rattle.buffer.proofs.swap_back.Tie as tie
-use Rattle.buffer.proofs.swap_back.Reads as reads
-use Rattle.buffer.proofs.swap_back.Lts as lts
-use Rattle.buffer.proofs.copy_at.Reads as copy-at-reads
-use Rattle.buffer.proofs.copy_back.Reads as copy-back-reads
 
 add-m : tie.Need-add-m
 add-m c = search needs
