@@ -67,7 +67,7 @@ pub enum Skip {
     Refused(u8),
 }
 
-// A number of `k` bytes.
+// A number of `k` bytes. It is pub for the crates above, which ask for 1 to 8 bytes.
 pub fn uint_at(s: &[u8], at: usize, k: usize) -> U64Read
     requires { ⌜ k ≤ 8 ⌝ }
     ensures { λ r. ⌜ of-u64 r ≡ uint k (now (s .entry)) at ⌝ }
@@ -105,7 +105,8 @@ pub fn u16_at(s: &[u8], at: usize) -> U16Read
     }
 }
 
-// The number of the 2, 4 and 8 bytes from `at`: without a loop, so that each is one load.
+// The number of the 2, 4 and 8 bytes from `at`: without a loop, so that each is one load. They are pub for the quick ways above, which have tested
+// one length for all that they load.
 pub fn two(s: &[u8], at: usize) -> u64
     requires { ⌜ at + 2 ≤ length (now s) ⌝ }
     ensures { λ r. ⌜ r ≡ le 2 (now (s .entry)) at ⌝ }
@@ -196,7 +197,7 @@ pub fn i64_at(s: &[u8], at: usize) -> I64Read
     }
 }
 
-// The `n` bytes from `at`.
+// The `n` bytes from `at`. It is pub for the crates above, which have tested that they stand within.
 pub fn part_of(s: &[u8], at: usize, n: usize) -> &[u8]
     requires { ⌜ at + n ≤ length (now s) ⌝ }
     ensures { λ r. ⌜ now r ≡ take n (drop at (now (s .entry))) ⌝ }
@@ -205,7 +206,7 @@ pub fn part_of(s: &[u8], at: usize, n: usize) -> &[u8]
     &s[at..end]
 }
 
-// A field of `k` bytes is passed over, after what was passed over so far.
+// A field of `k` bytes is passed over, after what was passed over so far. It is pub for the crates above, which ask for 1 to 8 bytes.
 pub fn then_uint(s: &[u8], far: Skip, k: usize) -> Skip
     requires { ⌜ k ≤ 8 ⌝ }
     ensures { λ r. ⌜ of-skip r ≡ bind (of-skip far) (λ _ n. span (uint k (now (s .entry)) n)) ⌝ }

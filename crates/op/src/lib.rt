@@ -120,7 +120,7 @@ const COUNTS: [u32; 49] = [
     3,
 ];
 
-// How many bytes the name of operation `k` has.
+// How many bytes the name of operation `k` has. It is pub for the crates above, which have tested the number.
 pub fn name_len(k: usize) -> usize
     requires { ⌜ k < 49 ⌝ }
     ensures { λ r. ⌜ r ≡ length (getD names k []) ⌝ }
@@ -128,7 +128,7 @@ pub fn name_len(k: usize) -> usize
     LENGTHS[k]
 }
 
-// Byte `j` of the name of operation `k`, and 0 past its end.
+// Byte `j` of the name of operation `k`, and 0 past its end. It is pub for the crates above, which have tested the number.
 pub fn name_byte(k: usize, j: usize) -> u8
     requires { ⌜ (k < 49) × (j < 6) ⌝ }
     ensures { λ r. ⌜ r ≡ getD (getD names k []) j 0 ⌝ }
@@ -144,7 +144,7 @@ pub fn operand_count(k: usize) -> u32
 }
 
 // Whether `w` is the name of operation `k`.
-pub fn name_is(w: &[u8], k: usize) -> bool
+fn name_is(w: &[u8], k: usize) -> bool
     requires { ⌜ k < 49 ⌝ }
     ensures { λ r. ⌜ r ≡ same (now (w .entry)) (getD names k []) ⌝ }
 {
@@ -257,7 +257,7 @@ fn low(v: u64, n: usize) -> u64
 }
 
 // Of the operation whose name is the `n` bytes from `at`: its operand count and four times its number, found by a table, or 256 where the
-// table does not tell.
+// table does not tell. It is pub for the quick way over an instruction, which has tested the length.
 pub fn guess(s: &[u8], at: usize, n: usize) -> u64
     requires { ⌜ at + 8 ≤ length (now s) ⌝ }
     ensures { λ r. ⌜ (r < 256 → Known (take n (drop at (now (s .entry)))) n r) ⌝ }

@@ -1,3 +1,4 @@
+-- A block passed over part by part: each call is given how far the one before it came.
 use Rattle.block.proofs.Skip.{block-skip}
 use borrow.Author.Needs.{needs}
 use Rattle.block.proofs.block_skip.Statement.{statement}

@@ -1,3 +1,4 @@
+-- A list of instructions passed over: its count, and then the run.
 use Rattle.fields.proofs.Chain.{far-past, far-refused}
 use Rattle.fields.proofs.Steps.{skip-on-u32, skip-off-u32}
 use borrow.Author.Needs.{needs}

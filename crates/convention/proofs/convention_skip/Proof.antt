@@ -1,3 +1,4 @@
+-- A convention passed over part by part: each call is given how far the one before it came.
 use Rattle.convention.proofs.Skip.{convention-skip}
 use borrow.Author.Needs.{needs}
 use Rattle.convention.proofs.convention_skip.Statement.{statement}

@@ -1,3 +1,4 @@
+-- A register passed over after what was passed over so far: the reader's answer without its value.
 use mathlib.Core.Path.{sym, ap, _∙_}
 use Rattle.fields.specs.Parse.{span}
 use Rattle.fields.proofs.Chain.{far-past, far-refused}

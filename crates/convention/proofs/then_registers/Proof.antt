@@ -1,3 +1,4 @@
+-- A list of registers passed over after what was passed over so far.
 use Rattle.fields.proofs.Chain.{far-past, far-refused}
 use borrow.Author.Needs.{needs}
 use Rattle.convention.proofs.then_registers.Statement.{statement}

@@ -1,3 +1,4 @@
+-- Eight bytes as a number: four and four.
 use native.Mathlib.Omega.{arith}
 use Prim.Native.Nat.{_+_}
 use Rattle.fields.proofs.Le.{le-lt, le-split}

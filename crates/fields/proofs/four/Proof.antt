@@ -1,3 +1,4 @@
+-- Four bytes as a number: two and two.
 use native.Mathlib.Omega.{arith}
 use Prim.Native.Nat.{_+_}
 use Rattle.fields.proofs.Le.{le-lt, le-split}

@@ -1,3 +1,4 @@
+-- A signed field of 4 bytes: the unsigned one, read as two's complement.
 use Rattle.fields.proofs.Steps.{steps, on-u32}
 use Rattle.fields.proofs.Signed.{stands}
 use mir.Syntax.{w32}

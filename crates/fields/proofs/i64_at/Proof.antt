@@ -1,3 +1,4 @@
+-- A signed field of 8 bytes: the unsigned one, read as two's complement.
 use Rattle.fields.proofs.Steps.{steps, on-u64}
 use Rattle.fields.proofs.Signed.{stands}
 use mir.Syntax.{w64}

@@ -1,3 +1,4 @@
+-- The bytes of a part.
 use native.Mathlib.Nat.{add-sub-cancel-left}
 use borrow.Author.Needs.{needs}
 use Rattle.fields.proofs.part_of.Statement.{statement}

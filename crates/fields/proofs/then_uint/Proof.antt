@@ -1,3 +1,4 @@
+-- A field passed over after what was passed over so far.
 use Prim.Native.Nat.{_+_, _≤_}
 use lib.ListN.{length}
 use native.Mathlib.Omega.{arith}

@@ -1,3 +1,4 @@
+-- Two bytes as a number.
 use native.Mathlib.Omega.{arith}
 use Prim.Native.Nat.{_+_}
 use Rattle.fields.specs.Parse.{le}

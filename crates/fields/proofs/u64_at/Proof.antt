@@ -1,3 +1,4 @@
+-- A field of 8 bytes: the test that it stands within, and then one load.
 use Prim.Native.Nat.{_+_, _≤_}
 use lib.ListN.{length}
 use native.Mathlib.Omega.{arith}

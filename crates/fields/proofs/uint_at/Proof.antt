@@ -1,3 +1,4 @@
+-- A field of k bytes. The loop goes from its last byte to its first and keeps the number of the bytes passed.
 use Rattle.fields.proofs.Le.{le-below, le-more, le-none, uint-end, uint-no}
 -- `fields::uint_at` meets its contract: the loop goes from the last byte to the first.
 -- Assumes nothing.

@@ -1,3 +1,4 @@
+-- Whether k bytes stand within: the test makes no sum that could wrap.
 use Prim.Native.Nat.{_+_}
 use lib.ListN.{length}
 use native.Mathlib.Omega.{arith}

@@ -1,3 +1,4 @@
+-- What follows the name of a listed operation: the count, and then the test of it.
 use mathlib.Core.Path.{refl}
 use borrow.Author.Tests.{eq-eqb, ne-eqb}
 use Rattle.fields.proofs.Steps.{on-check, off-check, on-u32, off-u32}

@@ -1,3 +1,4 @@
+-- What follows a name: each test and field decides how the definition goes on.
 use mathlib.Core.Path.{refl, sym, _∙_}
 use borrow.Author.Tests.{lt-ltb, le-ltb, eq-eqb, ne-eqb}
 use Rattle.fields.proofs.Steps.{on-check, off-check, on-u32, off-u32}

@@ -1,3 +1,4 @@
+-- The operation: by the quick lookup where it tells, and else as the plain reader does.
 use Prim.Native.Nat.{_+_, _≤_}
 use lib.ListN.{length}
 use mathlib.Core.Path.{refl, sym, _∙_}

@@ -1,3 +1,4 @@
+-- The operation: its name is a part of the file, and then what follows it.
 use mathlib.Core.Path.{refl, sym, _∙_}
 use Rattle.fields.proofs.Steps.{steps, on-u32, on-part, off-part}
 use Rattle.pod.specs.Layout.{opcode}

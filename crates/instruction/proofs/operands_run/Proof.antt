@@ -1,3 +1,4 @@
+-- A run of operands passed over. The loop keeps that what is left is read as the whole run is.
 use mathlib.Core.Path.{_≡_, _∙_, sym, ap}
 use Rattle.fields.specs.Parse.{many, span}
 use Rattle.fields.proofs.Many.{run-end, run-next, run-stop}

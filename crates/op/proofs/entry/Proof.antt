@@ -1,3 +1,4 @@
+-- Each arm is the entry of some operation, computed.
 use Rattle.fields.specs.Parse.{le}
 use Rattle.op.specs.Ops.{names, counts}
 use Rattle.op.specs.Packed.{key}

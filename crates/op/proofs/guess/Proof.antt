@@ -1,3 +1,4 @@
+-- The quick lookup: where the entry found has the name's own key, it is that name.
 use native.Mathlib.Omega.{arith}
 use mathlib.Core.Path.{_≡_, sym, _∙_, ap}
 use Prim.Native.Nat.{_+_, _*_}

@@ -1,3 +1,4 @@
+-- Whether bytes are text. The loop keeps that what is left goes on as text exactly where the whole is text.
 use mathlib.Core.Path.{refl, subst}
 use Rattle.op.specs.declared.Due.{Due}
 use mathlib.Core.Path.{_≡_, sym, _∙_, ap}

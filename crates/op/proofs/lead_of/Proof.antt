@@ -1,3 +1,4 @@
+-- A first byte of text: by the tests that led there.
 use Rattle.fields.proofs.Steps.{tests}
 use Rattle.op.specs.Text.{lead}
 use native.Mathlib.Omega.{arith}

@@ -1,3 +1,4 @@
+-- The lowest bytes of a number: by the arms.
 use native.Mathlib.Omega.{arith}
 use mathlib.Core.Path.{_≡_, ap}
 use borrow.Author.Needs.{needs}

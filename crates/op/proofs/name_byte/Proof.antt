@@ -1,3 +1,4 @@
+-- A byte of a name: the table is its rule computed over all entries.
 use Prim.Native.Nat.{ℕ, _+_, _*_, _/_, _%_}
 use mathlib.Core.Path.{_≡_, _∙_, ap₂}
 use mathlib.Core.List.{List, []}

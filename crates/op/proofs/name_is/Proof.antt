@@ -1,3 +1,4 @@
+-- Whether bytes are an operation's name. The loop keeps that the bytes passed are equal.
 use mathlib.Core.List.{List, []}
 use Rattle.op.proofs.Same.{same-yes, same-no, short}
 use mathlib.Core.Path.{_≡_, sym, _∙_, ap}

@@ -1,3 +1,4 @@
+-- The length of a name: the table is its rule computed over all entries.
 use Prim.Native.Nat.{ℕ}
 use mathlib.Core.List.{[]}
 use native.Mathlib.Omega.{arith}

@@ -1,3 +1,4 @@
+-- An operand count: the table is its rule computed over all entries.
 use Prim.Native.Nat.{ℕ}
 use mathlib.Core.Path.{sym}
 use lib.ListN.{length, getD, List·getD-eq-default}

@@ -1,3 +1,4 @@
+-- One byte of text: by the tests that led there.
 use Rattle.fields.proofs.Steps.{tests}
 use native.Mathlib.Omega.{arith}
 use Rattle.op.specs.Text.{step}

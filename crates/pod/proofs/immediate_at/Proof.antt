@@ -1,3 +1,4 @@
+-- An immediate: what each field found decides how the definition goes on.
 use Rattle.fields.proofs.Steps.{steps}
 use mathlib.Core.Path.{_∙_, sym, ap}
 use Rattle.fields.specs.Answers.{of-u32, of-u64}

@@ -1,3 +1,4 @@
+-- An operand: what the kind and then the value found decides how the definition goes on.
 use Rattle.pod.proofs.Steps.{steps}
 use Rattle.pod.specs.Layout.{operand}
 use borrow.Author.Needs.{needs}

@@ -1,3 +1,4 @@
+-- The quick way over an operand: where it answers, the kind is 0 or 1 and the register is not foreign.
 use native.Mathlib.Omega.{arith}
 use Rattle.pod.proofs.Quick.{quick, small}
 use borrow.Author.Needs.{needs}

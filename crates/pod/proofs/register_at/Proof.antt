@@ -1,3 +1,4 @@
+-- A register: what each field found decides how the definition goes on; its signed fields stand as the numbers of their bits.
 use Rattle.pod.proofs.Signed.{stands}
 use Rattle.fields.proofs.Steps.{steps}
 use Rattle.pod.specs.Layout.{register}

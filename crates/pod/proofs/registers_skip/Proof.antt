@@ -1,3 +1,4 @@
+-- A list of registers passed over: its count, and then the run.
 use Rattle.pod.proofs.Steps.{skips}
 use borrow.Author.Needs.{needs}
 use Rattle.pod.proofs.registers_skip.Statement.{statement}

@@ -1,3 +1,4 @@
+-- The routine passed over part by part: each call is given how far the one before it came.
 use Rattle.routine.proofs.Skip.{routine-skip}
 use borrow.Author.Needs.{needs}
 use Rattle.routine.proofs.routine_skip.Statement.{statement}

@@ -1,3 +1,4 @@
+-- A convention passed over after what was passed over so far.
 use Rattle.fields.proofs.Chain.{far-past, far-refused}
 use borrow.Author.Needs.{needs}
 use Rattle.routine.proofs.then_convention.Statement.{statement}

@@ -1,3 +1,4 @@
+-- An operand in its place: by the two kinds.
 use mathlib.Core.Path.{sym, ap}
 -- `value::operand_desc` meets its contract: each arm makes the definition's record.
 -- Assumes nothing.

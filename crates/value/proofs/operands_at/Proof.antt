@@ -1,3 +1,4 @@
+-- Operands read into three places. The loop keeps which operands were read so far and that the places hold them, the rest unused.
 use Rattle.value.proofs.Places.{places-none, places-set}
 -- `value::operands_at` meets its contract: the loop keeps the operands read so far, which stand in the first places, and that what is left of the
 -- run is read from `o`.

@@ -1,3 +1,4 @@
+-- A refusal by value: every other field is 0.
 use Rattle.value.proofs.Places.{places-none}
 -- `value::refused` meets its contract: zeros, and three unused places.
 -- Assumes nothing.
