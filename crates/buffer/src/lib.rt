@@ -22,7 +22,7 @@ pub fn clear(a: &mut [u8], from: usize, to: usize)
     }
 }
 
-// All of `b` over the bytes of `a` from `at` on. The two slices never overlap, so the compiler makes the loop of `copy` one memcpy.
+// All of `b` over the bytes of `a` from `at` on. The compiler makes the loop of `copy` a memcpy or vector code.
 pub fn copy_at(a: &mut [u8], at: usize, b: &[u8])
     requires { ⌜ at + length (now b) ≤ length (now a) ⌝ }
     ensures { λ _. ⌜ now (a .exit) ≡ put at (now (b .entry)) (now (a .entry)) ⌝ }
