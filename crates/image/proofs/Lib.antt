@@ -1,0 +1,3 @@
+pub mod Inspects
+pub mod Stands
+pub mod Searches
