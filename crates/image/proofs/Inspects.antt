@@ -78,20 +78,22 @@ module _ (s : State) where
     pub past-journal : s .book .written ≤ length (s .image) → length (s .journal) < s .book .used → 13 ≡ refusal-of (held s)
     unfolding held choose refusal-of
     past-journal k l =
-        rw
-        (le-leb (length (s .image)) 16777216 g,
-        le-leb (length (s .journal)) 16777216 h,
-        le-leb (s .book .written) (length (s .image)) k,
-        lt-leb (s .book .used) (length (s .journal)) l)
+        rw (
+          le-leb (length (s .image)) 16777216 g,
+          le-leb (length (s .journal)) 16777216 h,
+          le-leb (s .book .written) (length (s .image)) k,
+          lt-leb (s .book .used) (length (s .journal)) l,
+        )
 
   tested : Within s → held s ≡ whole s (read-file (take (s .book .written) (s .image)))
   unfolding held choose
   tested w =
-      rw
-      (le-leb (length (s .image)) 16777216 (w .image-lent),
-      le-leb (length (s .journal)) 16777216 (w .journal-lent),
-      le-leb (s .book .written) (length (s .image)) (w .written),
-      le-leb (s .book .used) (length (s .journal)) (w .used))
+      rw (
+        le-leb (length (s .image)) 16777216 (w .image-lent),
+        le-leb (length (s .journal)) 16777216 (w .journal-lent),
+        le-leb (s .book .written) (length (s .image)) (w .written),
+        le-leb (s .book .used) (length (s .journal)) (w .used),
+      )
 
   module _ (b : Bytes (s .image)) (w : Within s) where
     -- the image's written length is no routine in written form

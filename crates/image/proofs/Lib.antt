@@ -1,3 +1,4 @@
 pub mod Inspects
 pub mod Stands
+pub mod Parts
 pub mod Searches

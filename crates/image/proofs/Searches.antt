@@ -38,8 +38,9 @@ module _ (x : Routine) (v : ℕ) where
     pub walk-end : (r : Spot) → i ≡ length (x .explored-blocks) → r .place ≡ i → r .at ≡ at → r .count ≡ length (x .explored-blocks) → Spotted x v r
     unfolding place
     walk-end r e =
-        let none : drop i (x .explored-blocks) ≡ [] = drop-of-length-le i (x .explored-blocks) (omega arith) in
-        spotted r (w .stands) (w .passed ∙ ap (λ l. i + place v l) none)
+        let none : drop i (x .explored-blocks) ≡ [] = drop-of-length-le (x .explored-blocks) {i = i} (omega arith) in
+        let p : place v (x .explored-blocks) ≡ i = omega (arith, w .passed, ap (place v) none) in
+        spotted r (w .stands) p
 
     module _ (l : i < length (x .explored-blocks)) where
       here : word 8 s at ≡ block-at i (x .explored-blocks) .vip
@@ -51,7 +52,8 @@ module _ (x : Routine) (v : ℕ) where
       walk-hit r p q =
           let e : place v (drop i (x .explored-blocks)) ≡ 0 =
           rw (drop-cons (x .explored-blocks) i (empty-block 0) l, eq-eqb _ v (sym here ∙ sym p ∙ q)) in
-          spotted r (w .stands) (w .passed ∙ ap (λ k. i + k) e)
+          let f : place v (x .explored-blocks) ≡ i = omega (arith, w .passed, e) in
+          spotted r (w .stands) f
 
       -- past it
       pub walk-next : {u m : ℕ} → u ≡ word 8 s at → m ≡ blockEnd s at → (u ≡ v → ⊥) → Walked x v (i + 1) m

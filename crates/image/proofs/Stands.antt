@@ -4,7 +4,7 @@
 use mathlib.Core.Path.{_≡_, refl, sym, ap, subst, _∙_}
 use mathlib.Core.List.{List, [], _∷_, _++_}
 use mathlib.Core.Bool.{false}
-use Prim.Native.Nat.{ℕ, zero, suc, _+_, _*_, _^_, _≤_, _<_}
+use Prim.Native.Nat.{ℕ, zero, suc, _+_, _*_, _-_, _^_, _≤_, _<_}
 use native.Mathlib.Nat.{add-zero, zero-add, le-of-suc-le-suc}
 use native.Mathlib.Omega.{arith}
 use lib.ListN.{length, take, drop, getD, length-append}
@@ -18,8 +18,10 @@ use Rattle.laws.proofs.Sizes.{header-size, routine-head-size}
 use Rattle.pod.specs.Values.{Instruction, RoutineConvention, BasicBlock, Routine}
 use Rattle.pod.specs.Written.{header-bytes, bytes, convention-bytes, block-bytes, instruction-bytes, many-bytes, counted-bytes, routine-head-bytes, routine-bytes}
 use Rattle.machine.specs.Edits.{block-at, empty-block}
+use Rattle.machine.specs.Look.{conventions}
 use Rattle.machine.proofs.Lists.{each-at}
 use Rattle.book.specs.Holding.{Holding, blocks-start, block-start}
+use Rattle.image.specs.Places.{convention-start}
 use Rattle.walk.specs.Ends.{jump, word, times, instructionEnd, blockEnd, conventionEnd}
 use Rattle.walk.proofs.Steps.{jump-in, value, word-is}
 use Rattle.walk.proofs.Same.{instruction-ends, block-vip, block-ends, convention-ends}
@@ -108,6 +110,9 @@ module _ {s : List ℕ} {x : Routine} (h : Holding s x) where
         let e : i + 1 ≡ suc i = omega arith in
         rw e (omega (arith, many-next block-bytes (empty-block 0) i (x .explored-blocks) l))
 
+  pub block-found : (i : ℕ) → i ≤ length (x .explored-blocks) → {a r : ℕ} → a ≡ blocks-start x → r ≡ times (blockEnd s) i a → r ≡ block-start x i
+  block-found i l {a} {r} e q =
+      q ∙ ap (times (blockEnd s) i) e ∙ times-at block-bytes (blockEnd s) block-far i (blocks-start x) (x .explored-blocks) (h .holds .blocks .listed .each) l blocks-at
 
   -- the parts before the blocks: the header and the entry vip are 16 bytes
   tail-at : At s 16 (convention-bytes (x .routine-convention) ++ (convention-bytes (x .subroutine-convention) ++ counted-bytes convention-bytes (x .spec-subroutine-conventions)))
@@ -155,8 +160,7 @@ module _ {s : List ℕ} {x : Routine} (h : Holding s x) where
       × (jump s b 4 ≡ 20 + length (convention-bytes (x .routine-convention)) + length (convention-bytes (x .subroutine-convention)))
   past-special-count {a} {b} p q =
       let e : b ≡ 16 + length (convention-bytes (x .routine-convention)) + length (convention-bytes (x .subroutine-convention)) = q ∙ past-sub p in
-      let j = jump-at _ _ 4 (length-bytes 4 (length (x .spec-subroutine-conventions))) special-count-at in
-      (
+      let j = jump-at _ _ 4 (length-bytes 4 (length (x .spec-subroutine-conventions))) special-count-at in (
         ap (word 4 s) e ∙ word-at 4 _ _ (h .holds .special .count) special-count-at,
         ap (λ o. jump s o 4) e ∙ j ∙ omega arith,
       )
@@ -175,8 +179,24 @@ module _ {s : List ℕ} {x : Routine} (h : Holding s x) where
       let t = past-specials n (omega arith) (p₄ ∙ z .1) in
       let all : take n (x .spec-subroutine-conventions) ≡ x .spec-subroutine-conventions =
       ap (λ j. take j (x .spec-subroutine-conventions)) n-is ∙ take-length (x .spec-subroutine-conventions) in
-      let d-is : d ≡ length (routine-head-bytes x) = omega (arith, p₅, t, p₄, z .1, ap (λ l. length (many-bytes convention-bytes l)) all, routine-head-size x) in
-      (
+      let d-is : d ≡ length (routine-head-bytes x) = omega (arith, p₅, t, p₄, z .1, ap (λ l. length (many-bytes convention-bytes l)) all, routine-head-size x) in (
         p₇ ∙ ap (λ o. jump s o 4) d-is ∙ jump-at _ _ 4 (length-bytes 4 (length (x .explored-blocks))) count-at,
         p₆ ∙ ap (word 4 s) d-is ∙ word-at 4 _ _ (h .holds .blocks .listed .count) count-at,
       )
+
+  -- the conventions by place
+  pub convention-zero : {i : ℕ} → i ≡ 0 → 16 ≡ convention-start x i
+  unfolding convention-start
+  convention-zero e = rw e
+
+  pub convention-one : {i a : ℕ} → i ≡ 1 → a ≡ conventionEnd s 16 → a ≡ convention-start x i
+  unfolding convention-start
+  convention-one e p = rw e (p ∙ past-own)
+
+  pub convention-more : (i : ℕ) {a b c r : ℕ} → (i ≡ 0 → ⊥) → (i ≡ 1 → ⊥) → i < length (conventions x) → a ≡ conventionEnd s 16 → b ≡ conventionEnd s a
+      → c ≡ jump s b 4 → r ≡ times (conventionEnd s) (i - 2) c → r ≡ convention-start x i
+  unfolding convention-start
+  convention-more i {a} {b} {c} {r} y z l p q e f =
+      let k : i ≡ suc (suc (i - 2)) = omega arith in
+      let j = e ∙ past-special-count p q .1 in
+      rw k (f ∙ past-specials (i - 2) (omega arith) j ∙ ap (λ o. o + length (many-bytes convention-bytes (take (i - 2) (x .spec-subroutine-conventions)))) j)

@@ -2,11 +2,14 @@
 // inspected before, so the walk that reads no name, text or register again is enough.
 ghost use mathlib.Core.Path.{_≡_};
 ghost use Rattle.pod.specs.Values.{Routine};
+ghost use Prim.Native.Nat.{ℕ, _≤_, _<_};
 ghost use lib.ListN.{length};
+ghost use Rattle.machine.specs.Edits.{block-at};
+ghost use Rattle.machine.specs.Look.{conventions};
 ghost use Rattle.machine.specs.Book.{held};
 ghost use Rattle.book.specs.Says.{state, refusal-of};
-ghost use Rattle.book.specs.Holding.{Holding, blocks-start};
-ghost use Rattle.image.specs.Places.{is-routine, Spotted};
+ghost use Rattle.book.specs.Holding.{Holding, blocks-start, block-start};
+ghost use Rattle.image.specs.Places.{is-routine, Spotted, convention-start, instruction-start};
 use book::Book;
 use fields::Skip;
 use pod::Vip;
@@ -104,4 +107,47 @@ pub fn find(image: &[u8], vip: Vip) -> Spot
         at,
         count,
     }
+}
+
+// The offset of the block at a place, or past the last where the place is the number of blocks.
+pub fn block_offset(image: &[u8], place: usize) -> usize
+    ensures { λ r. ⌜ ((x : Routine) → Holding (now (image .entry)) x → place ≤ length (x .explored-blocks) → r ≡ block-start x place) ⌝ }
+{
+    let blocks = blocks_of(image);
+    walk::blocks_end(image, blocks.start, place)
+}
+
+// The offset of the convention at a place: the routine's, the subroutine's, and after the count of the special ones these.
+pub fn convention_offset(image: &[u8], place: usize) -> usize
+    ensures { λ r. ⌜ ((x : Routine) → Holding (now (image .entry)) x → place < length (conventions x) → r ≡ convention-start x place) ⌝ }
+{
+    if place == 0 {
+        return 16;
+    }
+    let a = walk::convention_end(image, 16);
+    if place == 1 {
+        return a;
+    }
+    let b = walk::convention_end(image, a);
+    let c = walk::jump(image, b, 4);
+    walk::conventions_end(image, c, place - 2)
+}
+
+// The offset of instruction `k` of the block at offset `at`, or past its last where `k` is their number. The 28 bytes before them: the block's
+// four numbers 24, and the count of instructions 4.
+pub fn instruction_offset(image: &[u8], at: usize, k: u32) -> usize
+    ensures { λ r. ⌜ ((x : Routine) (i : ℕ) → Holding (now (image .entry)) x → i < length (x .explored-blocks) → at ≡ block-start x i → k ≤ length (block-at i (x .explored-blocks) .instructions) → r ≡ instruction-start x i k) ⌝ }
+{
+    let a = walk::jump(image, at, 28);
+    walk::instructions_end(image, a, k)
+}
+
+// The offset past the instructions of the block at offset `at`.
+pub fn instructions_end(image: &[u8], at: usize) -> usize
+    ensures { λ r. ⌜ ((x : Routine) (i : ℕ) → Holding (now (image .entry)) x → i < length (x .explored-blocks) → at ≡ block-start x i → r ≡ instruction-start x i (length (block-at i (x .explored-blocks) .instructions))) ⌝ }
+{
+    let a = walk::jump(image, at, 24);
+    let count = walk::word32(image, a);
+    let b = walk::jump(image, a, 4);
+    walk::instructions_end(image, b, count)
 }

@@ -3,12 +3,6 @@ use Rattle.image.proofs.Stands.{blocks-found}
 use borrow.Author.Needs.{needs}
 use Rattle.image.proofs.blocks_of.Statement.{statement}
 use Rattle.image.proofs.blocks_of.Tie as tie
-use Rattle.image.proofs.blocks_of.Reads as reads
-use Rattle.image.proofs.blocks_of.Lts as lts
-use Rattle.walk.proofs.convention_end.Reads as convention-end-reads
-use Rattle.walk.proofs.conventions_end.Reads as conventions-end-reads
-use Rattle.walk.proofs.jump.Reads as jump-reads
-use Rattle.walk.proofs.word32.Reads as word32-reads
 
 convention-end-requires : tie.Need-convention-end-requires
 convention-end-requires c κs = search needs

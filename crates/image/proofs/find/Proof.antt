@@ -1,52 +1,63 @@
+-- The walk stands at the beginning of block i, and no block before it has the vip. The measure is how many blocks are left.
+use mathlib.Core.Path.{_≡_, refl}
+use Prim.Native.Nat.{ℕ, _-_, _≤_, _<_}
+use native.Mathlib.Omega.{arith}
+use lib.ListN.{length}
+use Rattle.pod.specs.Values.{Routine}
+use Rattle.book.specs.Holding.{Holding}
+use Rattle.image.proofs.Searches.{Walked, walk-start, walk-end, walk-hit, walk-next}
 use borrow.Author.Needs.{needs}
 use Rattle.image.proofs.find.Statement.{statement}
 use Rattle.image.proofs.find.Tie as tie
-use Rattle.image.proofs.find.Reads as reads
-use Rattle.image.proofs.find.Lts as lts
-use Rattle.image.proofs.blocks_of.Reads as blocks-of-reads
-use Rattle.walk.proofs.block_at.Reads as block-at-reads
 
 abbrev Inv-loop : tie.InvT-loop
-Inv-loop image count n v at₀ i₀ at i = ?
+Inv-loop image count n v at₀ i₀ at i = (i ≤ n) × ((x : Routine) → Holding image x → Walked x v i at)
 
 abbrev μ-loop : tie.MeasureT-loop
-μ-loop image count n v at₀ i₀ at i = ?
+μ-loop image count n v at₀ i₀ at i = n - i
 
--- src/lib.rt:84:9
+-- the place is one of the blocks'
+within : (c : tie.In-loop Inv-loop μ-loop) (x : Routine) → Holding (c .before .before .before .before .args .image .now) x
+    → c .before .loop .i < length (x .explored-blocks)
+within c x h = omega (arith, c .loop-test .taken, c .before .before .blocks-of .ensures x h .1)
+
 blocks-of-requires : tie.Need-blocks-of-requires Inv-loop μ-loop
 blocks-of-requires c κs = search needs
 
--- src/lib.rt:86:13
 cast-n : tie.Need-cast-n Inv-loop μ-loop
 cast-n c = search needs
 
--- src/lib.rt:90:5
 loop-holds : tie.Need-loop-holds Inv-loop μ-loop
-loop-holds c = search needs
+loop-holds c = (omega arith, λ x h. walk-start x _ (c .blocks-of .ensures x h .0))
 
--- src/lib.rt:91:13
 block-at-requires : tie.Need-block-at-requires Inv-loop μ-loop
 block-at-requires c κs = search needs
 
--- src/lib.rt:93:13
 returns : tie.Need-returns Inv-loop μ-loop
-returns c = search needs
+returns c =
+    let k = c .before .before in
+    let l = k .before .before in
+    λ x h.
+    walk-hit x _ h (l .loop .inv .1 x h) (within (k .before) x h) _ (k .block-at .ensures .0) (c .if1 .taken) refl refl (l .before .blocks-of .ensures x h .1)
 
--- src/lib.rt:100:9
 add-i : tie.Need-add-i Inv-loop μ-loop
 add-i c = search needs
 
--- src/lib.rt:90:5
 loop-less : tie.Need-loop-less Inv-loop μ-loop
 loop-less c = search needs
 
--- src/lib.rt:90:5
 loop-again : tie.Need-loop-again Inv-loop μ-loop
-loop-again c = search needs
+loop-again c =
+    let k = c .before .before in
+    let l = k .before .before in
+    (omega arith, λ x h. walk-next x _ h (l .loop .inv .1 x h) (within (k .before) x h) (k .block-at .ensures .0) (k .block-at .ensures .1) (c .if1 .left))
 
--- src/lib.rt:81:1
 returns-2 : tie.Need-returns-2 Inv-loop μ-loop
-returns-2 c = search needs
+returns-2 c =
+    let l = c .before in
+    λ x h.
+    let n = l .before .blocks-of .ensures x h .1 in
+    walk-end x _ h (l .loop .inv .1 x h) _ (omega (arith, l .loop .inv .0, c .loop-test .left, n)) (omega (arith, l .loop .inv .0, c .loop-test .left)) refl n
 
 pub find-spec : {M : Type 1} → statement M
 find-spec =

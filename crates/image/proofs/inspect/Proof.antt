@@ -11,10 +11,6 @@ use borrow.Author.Tests.{not-true, not-false}
 use borrow.Author.Needs.{needs}
 use Rattle.image.proofs.inspect.Statement.{statement}
 use Rattle.image.proofs.inspect.Tie as tie
-use Rattle.image.proofs.inspect.Reads as reads
-use Rattle.image.proofs.inspect.Lts as lts
-use Rattle.buffer.proofs.is_zero.Reads as is-zero-reads
-use Rattle.image.proofs.is_routine.Reads as is-routine-reads
 
 abbrev found : tie.Start → State
 found c = state (c .args .image .now) (c .args .journal .now) (c .args .book)

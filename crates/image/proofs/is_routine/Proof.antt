@@ -6,9 +6,6 @@ use Rattle.image.specs.Places.{ends-at, is-routine}
 use borrow.Author.Needs.{needs}
 use Rattle.image.proofs.is_routine.Statement.{statement}
 use Rattle.image.proofs.is_routine.Tie as tie
-use Rattle.image.proofs.is_routine.Reads as reads
-use Rattle.image.proofs.is_routine.Lts as lts
-use Rattle.routine.proofs.routine_skip.Reads as routine-skip-reads
 
 routine-skip-requires : tie.Need-routine-skip-requires
 routine-skip-requires c κs = search needs
