@@ -1,0 +1,34 @@
+-- Straight code: the calls put together are `conventionEnd`.
+use Rattle.walk.proofs.Steps.{convention-made}
+use borrow.Author.Needs.{needs}
+use Rattle.walk.proofs.convention_end.Statement.{statement}
+use Rattle.walk.proofs.convention_end.Tie as tie
+use Rattle.walk.proofs.convention_end.Reads as reads
+use Rattle.walk.proofs.convention_end.Lts as lts
+use Rattle.walk.proofs.jump.Reads as jump-reads
+use Rattle.walk.proofs.registers_end.Reads as registers-end-reads
+
+registers-end-requires : tie.Need-registers-end-requires
+registers-end-requires c κs = search needs
+
+registers-end-requires-2 : tie.Need-registers-end-requires-2
+registers-end-requires-2 c κs = search needs
+
+registers-end-requires-3 : tie.Need-registers-end-requires-3
+registers-end-requires-3 c κs = search needs
+
+jump-requires : tie.Need-jump-requires
+jump-requires c κs = search needs
+
+returns : tie.Need-returns
+returns c = let b = c .before in let a = b .before in convention-made _ _ (a .before .registers-end .ensures) (a .registers-end2 .ensures) (b .registers-end3 .ensures) (c .jump .ensures)
+
+pub convention-end-spec : {M : Type 1} → statement M
+convention-end-spec =
+    tie.close
+    (tie.spec
+    registers-end-requires
+    registers-end-requires-2
+    registers-end-requires-3
+    jump-requires
+    returns)
