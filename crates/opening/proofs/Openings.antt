@@ -31,7 +31,9 @@ use Rattle.opening.proofs.Told.{told}
 -- bytes put over all
 put-all : (y a : List ℕ) → length y ≡ length a → put 0 y a ≡ y
 unfolding put
-put-all y a h = ap (λ l. y ++ l) (drop-of-length-le (0 + length y) a (omega arith)) ∙ append-nil y
+put-all y a h =
+    let e : length a ≤ 0 + length y = omega arith in
+    ap (λ l. y ++ l) (drop-of-length-le a e) ∙ append-nil y
 
 -- an answer that refuses
 pub says-refused : (e : ℕ) (image journal : List ℕ) → 0 < e
