@@ -6,7 +6,7 @@ use mathlib.Core.Bool.{Bool, false}
 use Prim.Native.Nat.{ℕ, zero, suc, _+_, _-_, _≤_, _<_}
 use native.Mathlib.Nat.{add-zero}
 use native.Mathlib.Omega.{arith}
-use lib.ListN.{length, getD, take, drop, set, length-append, length-drop, length-set, length-replicate, take-append-drop}
+use lib.ListN.{length, getD, take, drop, set, length-append, length-set, length-replicate, take-append-drop}
 use lib.Seq.{set-getD, drop-at, drop-drop, getD-drop, take-at, set-append-left, take-set-le, drop-set-add}
 use borrow.Author.Tests.{ne-eqb}
 use Rattle.fields.specs.Parse.{ok, Reader}

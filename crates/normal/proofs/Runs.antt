@@ -5,7 +5,7 @@ use mathlib.Core.Path.{_≡_, refl, sym, ap, _∙_}
 use mathlib.Core.List.{List, [], _∷_, _++_, append-assoc, append-nil}
 use Prim.Native.Nat.{ℕ, suc, _+_, _-_, _≤_, _<_}
 use native.Mathlib.Omega.{arith}
-use lib.ListN.{length, length-append}
+use lib.ListN.{length}
 use Rattle.fields.specs.Parse.{ok, Reader, many, counted, u32}
 use Rattle.fields.proofs.Le.{Bytes}
 use Rattle.pod.specs.Written.{bytes, many-bytes, counted-bytes}
@@ -19,7 +19,7 @@ use Rattle.walk.specs.Ends.{jump, word}
 use Rattle.walk.proofs.Invert.{inv-ok}
 use Rattle.walk.proofs.Steps.{jump-in, value, word-is}
 use Rattle.normal.specs.Over.{Over, Normalised}
-use Rattle.normal.proofs.Puts.{stays, as-long, as-before, _beside_}
+use Rattle.normal.proofs.Puts.{stays, as-before, _beside_}
 
 -- where a field of k bytes ends, and its number
 pub jumps : {s : List ℕ} {o n : ℕ} {l : List ℕ} → Spans s o l n → {k r : ℕ} → length l ≡ k → r ≡ jump s o k → r ≡ n

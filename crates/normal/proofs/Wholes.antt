@@ -1,31 +1,31 @@
 -- A block and a routine normalised, from what the calls did to their parts: each part is read, from what the parts before it left, as it is from the
 -- bytes of the start.
 -- Assumes nothing.
-use mathlib.Core.Path.{_≡_, refl, sym, ap, _∙_}
+use mathlib.Core.Path.{_≡_, refl, ap, _∙_}
 use mathlib.Core.List.{List, _++_, append-assoc}
 use mathlib.Core.Bool.{false}
 use Prim.Native.Nat.{ℕ, _+_, _-_, _≤_, _<_}
 use native.Mathlib.Omega.{arith}
 use lib.ListN.{length, getD, set}
 use mir.Syntax.{w64}
-use Rattle.fields.specs.Parse.{Res, ok, Reader, counted, uint, u64}
+use Rattle.fields.specs.Parse.{Res, ok, Reader, counted, u64}
 use Rattle.fields.proofs.Le.{Bytes}
-use Rattle.pod.specs.Values.{Instruction, RoutineConvention, BasicBlock, Routine}
+use Rattle.pod.specs.Values.{BasicBlock, Routine}
 use Rattle.pod.specs.Layout.{header, instruction, convention, block, blocks, routine}
 use Rattle.pod.specs.Written.{bytes, counted-bytes, header-bytes, instruction-bytes, convention-bytes, block-head-bytes, block-bytes, routine-head-bytes, routine-bytes}
 use Rattle.laws.specs.Normal.{pad, flag, normal, instruction-marks, convention-marks, header-marks}
 use Rattle.laws.proofs.At.{Spans, within, _then_}
-use Rattle.laws.proofs.Post.{Post, give, step, test, inv}
-use Rattle.laws.proofs.Took.{Took, uint-took, int-took, counted-spans}
+use Rattle.laws.proofs.Post.{Post, give, step, test}
+use Rattle.laws.proofs.Took.{uint-took, int-took, counted-spans}
 use Rattle.laws.proofs.Consumed.{header-took}
-use Rattle.laws.proofs.Local.{Local, local-uint, local-counted, local-instruction, local-convention, local-block}
+use Rattle.laws.proofs.Local.{Local, local-uint, local-counted, local-convention, local-block}
 use Rattle.laws.proofs.Layouts.{instruction-layout, convention-layout, routine-layout, read-to, read-within}
 use Rattle.laws.proofs.Sizes.{instruction-size, convention-size, block-head-size, header-size, routine-least}
 use Rattle.laws.proofs.Back.{length-bytes}
 use Rattle.walk.specs.Ends.{jump, instructionEnd, vipsEnd, conventionEnd}
 use Rattle.walk.proofs.Same.{instruction-ends, vips-ends, convention-ends}
 use Rattle.normal.specs.Over.{Over, Normalised}
-use Rattle.normal.proofs.Puts.{stays, as-long, as-before, still, _beside_, changed, flagged}
+use Rattle.normal.proofs.Puts.{stays, as-before, still, _beside_, changed, flagged}
 use Rattle.normal.proofs.Runs.{jumps}
 
 -- what was read

@@ -1,7 +1,7 @@
 -- What a reader answers depends only on the bytes up to where it ended: whatever stands after them, it answers the same.
 -- Assumes nothing.
 use mathlib.Core.Path.{_≡_, refl, sym, ap, ap₂, _∙_}
-use mathlib.Core.List.{List, _++_}
+use mathlib.Core.List.{List}
 use mathlib.Core.Bool.{Bool, true, false}
 use Prim.Native.Nat.{ℕ, zero, suc, _+_, _*_, _≤_, _<_}
 use native.Mathlib.Omega.{arith}
@@ -9,7 +9,7 @@ use lib.Dec.{leb}
 use lib.ListN.{length, getD, take, drop}
 use lib.Seq.{getD-take, take-take, take-add, drop-at, length-take-le}
 use borrow.Author.Tests.{leb-true, le-leb}
-use Rattle.fields.specs.Parse.{Res, ok, no, Reader, bind, _>>=_, done, choose, le, uint, part}
+use Rattle.fields.specs.Parse.{ok, no, Reader, bind, _>>=_, done, choose, le, uint, part}
 use Rattle.fields.proofs.Le.{uint-ok, uint-is}
 use Rattle.laws.proofs.Post.{inv}
 use Rattle.opening.proofs.Every.{Kept}

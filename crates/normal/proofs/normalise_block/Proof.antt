@@ -3,11 +3,6 @@ use Rattle.normal.proofs.Wholes.{block-normal}
 use borrow.Author.Needs.{needs}
 use Rattle.normal.proofs.normalise_block.Statement.{statement}
 use Rattle.normal.proofs.normalise_block.Tie as tie
-use Rattle.normal.proofs.normalise_block.Reads as reads
-use Rattle.normal.proofs.normalise_block.Lts as lts
-use Rattle.normal.proofs.normalise_instructions.Reads as normalise-instructions-reads
-use Rattle.walk.proofs.jump.Reads as jump-reads
-use Rattle.walk.proofs.vips_end.Reads as vips-end-reads
 
 jump-requires : tie.Need-jump-requires
 jump-requires c κs = search needs

@@ -13,11 +13,6 @@ use Rattle.normal.proofs.Runs.{Run, run-start, run-next, run-end}
 use borrow.Author.Needs.{needs}
 use Rattle.normal.proofs.normalise_blocks.Statement.{statement}
 use Rattle.normal.proofs.normalise_blocks.Tie as tie
-use Rattle.normal.proofs.normalise_blocks.Reads as reads
-use Rattle.normal.proofs.normalise_blocks.Lts as lts
-use Rattle.normal.proofs.normalise_block.Reads as normalise-block-reads
-use Rattle.walk.proofs.jump.Reads as jump-reads
-use Rattle.walk.proofs.word32.Reads as word32-reads
 
 abbrev Inv-loop : tie.InvT-loop
 Inv-loop a₀ at left₀ o₀ a left o = (length a ≡ length a₀) × ((xs : List BasicBlock) (n : ℕ) → counted (block false) a₀ at ≡ ok xs n → Run (block false) block-bytes a₀ at xs n a left o)

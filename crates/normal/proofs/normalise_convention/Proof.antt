@@ -3,10 +3,6 @@ use Rattle.normal.proofs.Wholes.{convention-normal}
 use borrow.Author.Needs.{needs}
 use Rattle.normal.proofs.normalise_convention.Statement.{statement}
 use Rattle.normal.proofs.normalise_convention.Tie as tie
-use Rattle.normal.proofs.normalise_convention.Reads as reads
-use Rattle.normal.proofs.normalise_convention.Lts as lts
-use Rattle.normal.proofs.settle_flag.Reads as settle-flag-reads
-use Rattle.walk.proofs.convention_end.Reads as convention-end-reads
 
 convention-end-requires : tie.Need-convention-end-requires
 convention-end-requires c κs = search needs

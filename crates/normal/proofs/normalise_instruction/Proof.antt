@@ -3,10 +3,6 @@ use Rattle.normal.proofs.Wholes.{instruction-normal}
 use borrow.Author.Needs.{needs}
 use Rattle.normal.proofs.normalise_instruction.Statement.{statement}
 use Rattle.normal.proofs.normalise_instruction.Tie as tie
-use Rattle.normal.proofs.normalise_instruction.Reads as reads
-use Rattle.normal.proofs.normalise_instruction.Lts as lts
-use Rattle.normal.proofs.settle_flag.Reads as settle-flag-reads
-use Rattle.walk.proofs.instruction_end.Reads as instruction-end-reads
 
 instruction-end-requires : tie.Need-instruction-end-requires
 instruction-end-requires c κs = search needs

@@ -13,11 +13,6 @@ use Rattle.normal.proofs.Runs.{Run, run-start, run-next, run-end}
 use borrow.Author.Needs.{needs}
 use Rattle.normal.proofs.normalise_instructions.Statement.{statement}
 use Rattle.normal.proofs.normalise_instructions.Tie as tie
-use Rattle.normal.proofs.normalise_instructions.Reads as reads
-use Rattle.normal.proofs.normalise_instructions.Lts as lts
-use Rattle.normal.proofs.normalise_instruction.Reads as normalise-instruction-reads
-use Rattle.walk.proofs.jump.Reads as jump-reads
-use Rattle.walk.proofs.word32.Reads as word32-reads
 
 abbrev Inv-loop : tie.InvT-loop
 Inv-loop a₀ at left₀ o₀ a left o = (length a ≡ length a₀) × ((xs : List Instruction) (n : ℕ) → counted (instruction false) a₀ at ≡ ok xs n → Run (instruction false) instruction-bytes a₀ at xs n a left o)

@@ -5,11 +5,6 @@ use Rattle.normal.proofs.Wholes.{routine-normal, too-short}
 use borrow.Author.Needs.{needs}
 use Rattle.normal.proofs.normalise_routine.Statement.{statement}
 use Rattle.normal.proofs.normalise_routine.Tie as tie
-use Rattle.normal.proofs.normalise_routine.Reads as reads
-use Rattle.normal.proofs.normalise_routine.Lts as lts
-use Rattle.normal.proofs.normalise_blocks.Reads as normalise-blocks-reads
-use Rattle.normal.proofs.normalise_convention.Reads as normalise-convention-reads
-use Rattle.normal.proofs.normalise_conventions.Reads as normalise-conventions-reads
 
 returns : tie.Need-returns
 returns c = too-short (c .before .slice-known .given) (c .if1 .taken)

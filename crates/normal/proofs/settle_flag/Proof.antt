@@ -5,8 +5,6 @@ use Rattle.normal.proofs.Puts.{unset, becomes-one}
 use borrow.Author.Needs.{needs}
 use Rattle.normal.proofs.settle_flag.Statement.{statement}
 use Rattle.normal.proofs.settle_flag.Tie as tie
-use Rattle.normal.proofs.settle_flag.Reads as reads
-use Rattle.normal.proofs.settle_flag.Lts as lts
 
 returns : tie.Need-returns
 returns c = λ h l. absurd (omega arith)

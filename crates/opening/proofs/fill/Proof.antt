@@ -5,11 +5,6 @@ use Rattle.opening.proofs.Openings.{no-room, in-place}
 use borrow.Author.Needs.{needs}
 use Rattle.opening.proofs.fill.Statement.{statement}
 use Rattle.opening.proofs.fill.Tie as tie
-use Rattle.opening.proofs.fill.Reads as reads
-use Rattle.opening.proofs.fill.Lts as lts
-use Rattle.buffer.proofs.clear.Reads as clear-reads
-use Rattle.opening.proofs.put_written.Reads as put-written-reads
-use Rattle.opening.proofs.refused.Reads as refused-reads
 
 refused-requires : tie.Need-refused-requires
 refused-requires c κs = search needs

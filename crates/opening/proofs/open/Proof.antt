@@ -9,11 +9,6 @@ use Rattle.opening.proofs.Openings.{passed, ends, image-long, journal-l
 use borrow.Author.Needs.{needs}
 use Rattle.opening.proofs.open.Statement.{statement}
 use Rattle.opening.proofs.open.Tie as tie
-use Rattle.opening.proofs.open.Reads as reads
-use Rattle.opening.proofs.open.Lts as lts
-use Rattle.opening.proofs.fill.Reads as fill-reads
-use Rattle.opening.proofs.refused.Reads as refused-reads
-use Rattle.routine.proofs.routine_skip.Reads as routine-skip-reads
 
 -- what the first walk passed over, and what the second found
 exact-past : (k : tie.After-n) → ok tt (k .n .given .0 .0) ≡ span (routine true (k .before .before .before .before .before .before .before .before .args .file .now) 0)

@@ -8,10 +8,6 @@ use Rattle.opening.proofs.Openings.{written-copied, normal-copied}
 use borrow.Author.Needs.{needs}
 use Rattle.opening.proofs.put_written.Statement.{statement}
 use Rattle.opening.proofs.put_written.Tie as tie
-use Rattle.opening.proofs.put_written.Reads as reads
-use Rattle.opening.proofs.put_written.Lts as lts
-use Rattle.buffer.proofs.copy_at.Reads as copy-at-reads
-use Rattle.normal.proofs.normalise_routine.Reads as normalise-routine-reads
 
 slice-aggregate-copy-at : tie.Need-slice-aggregate-copy-at
 slice-aggregate-copy-at c = let start = c .before .before .before .before in sym (length-take-le (start .args .n) (start .args .file .now) (start .pre .0))

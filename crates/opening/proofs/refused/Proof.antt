@@ -2,8 +2,6 @@
 use Rattle.opening.proofs.Openings.{says-refused}
 use Rattle.opening.proofs.refused.Statement.{statement}
 use Rattle.opening.proofs.refused.Tie as tie
-use Rattle.opening.proofs.refused.Reads as reads
-use Rattle.opening.proofs.refused.Lts as lts
 
 returns : tie.Need-returns
 returns c = says-refused (c .args .refusal)

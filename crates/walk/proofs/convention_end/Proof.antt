@@ -3,10 +3,6 @@ use Rattle.walk.proofs.Steps.{convention-made}
 use borrow.Author.Needs.{needs}
 use Rattle.walk.proofs.convention_end.Statement.{statement}
 use Rattle.walk.proofs.convention_end.Tie as tie
-use Rattle.walk.proofs.convention_end.Reads as reads
-use Rattle.walk.proofs.convention_end.Lts as lts
-use Rattle.walk.proofs.jump.Reads as jump-reads
-use Rattle.walk.proofs.registers_end.Reads as registers-end-reads
 
 registers-end-requires : tie.Need-registers-end-requires
 registers-end-requires c κs = search needs
