@@ -47,7 +47,7 @@ module _ (n : ℕ) (x a : List ℕ) (h : n ≤ length a) where
       let r : ℕ = m - (n + length x) in
       let e : n + length x + r ≡ m = omega arith in
       let d : drop (n + length x) (put n x a) ≡ drop (n + length x) a =
-      ap (drop (n + length x)) (sym (append-assoc (take n a) x _)) ∙ drop-at (take n a ++ x) _ (n + length x) ends in
+        ap (drop (n + length x)) (sym (append-assoc (take n a) x _)) ∙ drop-at (take n a ++ x) _ (n + length x) ends in
       ap (λ (k : ℕ). drop k (put n x a)) (sym e) ∙ sym (drop-drop r (n + length x) (put n x a)) ∙ ap (drop r) d ∙ drop-drop r (n + length x) a ∙ ap (λ (k : ℕ). drop k a) e
 
   -- a part of what is left: before x, x itself, and after it

@@ -60,17 +60,17 @@ module _ (A P Q R Z : List ℕ) (s b c e : ℕ) (hs : length A ≡ s) (hb : s + 
       let lp : length (rev P) ≡ length P = length-rev P in
       let q1 : s + length (rev R) ≡ q = omega arith in
       let x2 : reversed s q (A ++ (rev R ++ (rev Q ++ (rev P ++ Z)))) ≡ A ++ (R ++ (rev Q ++ (rev P ++ Z))) =
-      reversed-parts A (rev R) (rev Q ++ (rev P ++ Z)) s q hs q1 ∙ ap (λ (l : List ℕ). A ++ (l ++ (rev Q ++ (rev P ++ Z)))) (rev-rev R) in
+        reversed-parts A (rev R) (rev Q ++ (rev P ++ Z)) s q hs q1 ∙ ap (λ (l : List ℕ). A ++ (l ++ (rev Q ++ (rev P ++ Z)))) (rev-rev R) in
       let q2 : length (A ++ R) ≡ q = omega (arith, length-append A R) in
       let p1 : q + length (rev Q) ≡ p = omega arith in
       let x3 : reversed q p (A ++ (R ++ (rev Q ++ (rev P ++ Z)))) ≡ A ++ (R ++ (Q ++ (rev P ++ Z))) =
-      ap (reversed q p) (sym (append-assoc A R (rev Q ++ (rev P ++ Z)))) ∙ reversed-parts (A ++ R) (rev Q) (rev P ++ Z) q p q2 p1 ∙ ap (λ (l : List ℕ). (A ++ R) ++ (l ++ (rev P ++ Z))) (rev-rev Q)
-      ∙ append-assoc A R (Q ++ (rev P ++ Z)) in
+        ap (reversed q p) (sym (append-assoc A R (rev Q ++ (rev P ++ Z)))) ∙ reversed-parts (A ++ R) (rev Q) (rev P ++ Z) q p q2 p1 ∙ ap (λ (l : List ℕ). (A ++ R) ++ (l ++ (rev P ++ Z))) (rev-rev Q)
+        ∙ append-assoc A R (Q ++ (rev P ++ Z)) in
       let p2 : length (A ++ (R ++ Q)) ≡ p = omega (arith, length-append A (R ++ Q), length-append R Q) in
       let e1 : p + length (rev P) ≡ e = omega arith in
       let g : (l : List ℕ) → A ++ (R ++ (Q ++ l)) ≡ (A ++ (R ++ Q)) ++ l = λ l. simp append-assoc in
       let x4 : reversed p e (A ++ (R ++ (Q ++ (rev P ++ Z)))) ≡ A ++ (R ++ (Q ++ (P ++ Z))) =
-      ap (reversed p e) (g (rev P ++ Z)) ∙ reversed-parts (A ++ (R ++ Q)) (rev P) Z p e p2 e1 ∙ ap (λ (l : List ℕ). (A ++ (R ++ Q)) ++ (l ++ Z)) (rev-rev P) ∙ sym (g (P ++ Z)) in
+        ap (reversed p e) (g (rev P ++ Z)) ∙ reversed-parts (A ++ (R ++ Q)) (rev P) Z p e p2 e1 ∙ ap (λ (l : List ℕ). (A ++ (R ++ Q)) ++ (l ++ Z)) (rev-rev P) ∙ sym (g (P ++ Z)) in
       ap (λ (l : List ℕ). reversed p e (reversed q p (reversed s q l))) x1 ∙ ap (λ (l : List ℕ). reversed p e (reversed q p l)) x2 ∙ ap (reversed p e) x3 ∙ x4
 
 drop-slice : (a : List ℕ) (b c : ℕ) → b ≤ c → c ≤ length a → drop b a ≡ slice b c a ++ drop c a

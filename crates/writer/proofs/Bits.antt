@@ -1,7 +1,7 @@
 -- The bits of a signed number, over the width: of a negative one, the largest less its distance from -1.
 -- Assumes nothing.
 use mathlib.Core.Path.{_≡_, refl, sym, ap, _∙_}
-use mathlib.Core.Bool.{Bool, true, false}
+use mathlib.Core.Bool.{true, false}
 use Prim.Native.Nat.{ℕ, suc, _-_, _^_, _≤_, _<_}
 use native.Mathlib.Omega.{arith}
 use lib.Dec.{T, ltb}
@@ -10,7 +10,7 @@ use lib.Signed.{ltZ, nonNeg}
 use borrow.Author.Tests.{le-ltb, ltb-true}
 use mir.Syntax.{Width}
 use mir.Val.{Fits, SFits, toZ, ofZ, bits, hbits}
-use mir.ValLaws.{toZ-ofZ, toZ-pos, half-full, pow-bits}
+use mir.ValLaws.{toZ-ofZ, toZ-pos, half-full}
 
 -- its distance from -1, as the code computes it
 abbrev pub far : Width → ℤ → ℤ

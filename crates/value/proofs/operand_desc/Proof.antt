@@ -1,6 +1,6 @@
-use mathlib.Core.Path.{sym, ap}
 -- `value::operand_desc` meets its contract: each arm makes the definition's record.
 -- Assumes nothing.
+use mathlib.Core.Path.{sym, ap}
 use Rattle.pod.specs.Descs.{operand-desc}
 use borrow.Author.Needs.{needs}
 use Rattle.value.proofs.operand_desc.Statement.{statement}

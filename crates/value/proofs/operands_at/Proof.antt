@@ -1,17 +1,16 @@
-use Rattle.value.proofs.Places.{places-none, places-set}
 -- `value::operands_at` meets its contract: the loop keeps the operands read so far, which stand in the first places, and that what is left of the
 -- run is read from `o`.
 -- Assumes nothing.
+use Rattle.value.proofs.Places.{places-none, places-set}
 use mathlib.Core.Path.{_≡_, refl, sym, ap, _∙_}
 use mathlib.Core.List.{List, [], _∷_, _++_}
 use Prim.Native.Nat.{_≤_, _-_}
 use native.Mathlib.Omega.{arith}
-use lib.ListN.{length, set, length-append}
+use lib.ListN.{length, length-append}
 use Rattle.pod.specs.Layout.{operand}
 use Rattle.pod.specs.Answers.{of-operand}
-use Rattle.pod.specs.Descs.{places, unused}
+use Rattle.pod.specs.Descs.{places}
 use Rattle.pod.specs.declared.Operand.{Operand}
-use Rattle.pod.specs.declared.OperandDesc.{OperandDesc}
 use Rattle.value.specs.Answers.{operands-read}
 use Rattle.value.proofs.Gather.{Got, got-none, got-more, got-stop, got-all}
 use borrow.Author.Needs.{needs}

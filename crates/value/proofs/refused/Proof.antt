@@ -1,6 +1,6 @@
-use Rattle.value.proofs.Places.{places-none}
 -- `value::refused` meets its contract: zeros, and three unused places.
 -- Assumes nothing.
+use Rattle.value.proofs.Places.{places-none}
 use Rattle.pod.specs.Descs.{places, operand-desc}
 use Rattle.value.specs.Answers.{instruction-read}
 use borrow.Author.Needs.{needs}

@@ -1,7 +1,7 @@
 -- `writer::has_unknown` meets its contract: what is left of the used places answers as all of them do.
 -- Assumes nothing.
 use borrow.Author.Tests.{lt-ltb, le-ltb}
-use mathlib.Core.Path.{_≡_, refl, sym, _∙_}
+use mathlib.Core.Path.{_≡_, refl, sym}
 use Prim.Native.Nat.{_≤_, _-_}
 use lib.ListN.{take, drop}
 use native.Mathlib.Omega.{arith}

@@ -1,6 +1,5 @@
 -- `writer::instruction_size` meets its contract, by the size of the whole.
 -- Assumes nothing.
-use mathlib.Core.Path.{sym}
 use native.Mathlib.Omega.{arith}
 use Rattle.op.proofs.Same.{short}
 use Rattle.writer.proofs.Whole.{size-whole}

@@ -1,6 +1,6 @@
-use native.Mathlib.Omega.{arith}
 -- `writer::operand_size` meets its contract, by the sizes of the two kinds.
 -- Assumes nothing.
+use native.Mathlib.Omega.{arith}
 use mathlib.Core.Path.{sym}
 use Rattle.writer.proofs.Sizes.{size-imm, size-reg}
 use Rattle.writer.proofs.operand_size.Statement.{statement}

@@ -1,7 +1,7 @@
-use Rattle.writer.proofs.Used.{sum-more, sum-none}
 -- `writer::operands_size` meets its contract: the sum so far and the bytes of the places left are the whole.
 -- Assumes nothing.
-use mathlib.Core.Path.{_≡_, refl, sym, ap, _∙_}
+use Rattle.writer.proofs.Used.{sum-more, sum-none}
+use mathlib.Core.Path.{_≡_}
 use Prim.Native.Nat.{_+_, _*_, _≤_, _-_}
 use native.Mathlib.Omega.{arith}
 use lib.ListN.{length, take, drop}

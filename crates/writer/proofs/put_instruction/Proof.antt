@@ -1,8 +1,8 @@
-use Prim.Native.Nat.{_+_, _≤_}
-use Rattle.writer.proofs.Whole.{used-bytes, size-whole, laid-whole}
 -- `writer::put_instruction` meets its contract: its four parts, one after the other.
 -- Assumes nothing.
-use mathlib.Core.Path.{_≡_, refl, sym, _∙_}
+use Prim.Native.Nat.{_+_, _≤_}
+use Rattle.writer.proofs.Whole.{used-bytes, size-whole, laid-whole}
+use mathlib.Core.Path.{refl, sym, _∙_}
 use lib.ListN.{length, length-map}
 use native.Mathlib.Omega.{arith}
 use Rattle.writer.proofs.Name.{size-name}

@@ -1,10 +1,10 @@
 -- `writer::put_name` meets its contract: the size, and then what is left of the name, put where the loop stands, makes it the whole.
 -- Assumes nothing.
-use Prim.Native.Nat.{_+_, _≤_, _-_}
-use mathlib.Core.Path.{_≡_, refl, sym, ap, _∙_}
+use Prim.Native.Nat.{_≤_, _-_}
+use mathlib.Core.Path.{_∙_}
 use mathlib.Core.List.{[]}
 use native.Mathlib.Omega.{arith}
-use lib.ListN.{length, getD}
+use lib.ListN.{getD}
 use Rattle.op.specs.Ops.{names}
 use Rattle.op.proofs.Same.{short}
 use Rattle.writer.proofs.Name.{Rest, rest-all, rest-more, rest-none, laid-name, size-name}

@@ -1,6 +1,5 @@
 -- `writer::put_operands` meets its contract: what is left of the used places, put where the loop stands, makes it the whole.
 -- Assumes nothing.
-use mathlib.Core.Path.{_≡_, refl}
 use native.Mathlib.Omega.{arith}
 use Rattle.writer.proofs.Used.{Left, left-all, left-room, left-more, left-far, left-is}
 use Prim.Native.Nat.{_≤_, _-_}

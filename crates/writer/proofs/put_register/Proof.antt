@@ -1,6 +1,6 @@
-use native.Mathlib.Omega.{arith}
 -- `writer::put_register` meets its contract: four fields, one after the other, the signed ones by their bits.
 -- Assumes nothing.
+use native.Mathlib.Omega.{arith}
 use mathlib.Core.Path.{_∙_}
 use mir.Syntax.{w32}
 use Rattle.writer.proofs.Bits.{same-bits}

@@ -1,6 +1,6 @@
-use native.Mathlib.Omega.{arith}
 -- `writer::put_tail` meets its contract: four fields, one after the other.
 -- Assumes nothing.
+use native.Mathlib.Omega.{arith}
 use mathlib.Core.Path.{_∙_}
 use mir.Syntax.{w64}
 use Rattle.writer.proofs.Bits.{same-bits}

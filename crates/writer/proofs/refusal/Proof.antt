@@ -1,6 +1,6 @@
-use borrow.Author.Needs.{needs}
 -- `writer::refusal` meets its contract, by the definition.
 -- Assumes nothing.
+use borrow.Author.Needs.{needs}
 use Rattle.writer.specs.Answers.{write-answer}
 use Rattle.writer.proofs.refusal.Statement.{statement}
 use Rattle.writer.proofs.refusal.Tie as tie

@@ -1,10 +1,10 @@
 -- `writer::write_instruction` meets its contract: each test's outcome is that of the definition's test, in the same order.
 -- Assumes nothing.
-use Prim.Native.Nat.{_≤_, _<_}
+use Prim.Native.Nat.{_≤_}
 use mathlib.Core.Path.{_≡_, sym, _∙_}
 use mathlib.Core.Bool.{false}
 use native.Mathlib.Omega.{arith}
-use lib.ListN.{length, getD}
+use lib.ListN.{getD}
 use Rattle.op.specs.Ops.{counts}
 use Rattle.pod.specs.Descs.{any, is-foreign, is-unknown, used-operands}
 use Rattle.value.proofs.Parts.{counts-small}
