@@ -162,7 +162,13 @@ fn no_instruction(refusal: u64) -> InstructionLook
 }
 
 // At an instruction of a block.
-pub fn look_instruction(book: Book, image: &[u8], journal: &[u8], block: u64, place: u64) -> InstructionLook
+pub fn look_instruction(
+    book: Book,
+    image: &[u8],
+    journal: &[u8],
+    block: u64,
+    place: u64,
+) -> InstructionLook
     ensures { λ r. ⌜ r ≡ instruction-look (look-instruction block place (state (now (image .entry)) (now (journal .entry)) book)) ⌝ }
 {
     let b = reach_block(book, image, journal, block);
@@ -204,7 +210,14 @@ fn no_vip(refusal: u64) -> VipLook
 }
 
 // At a vip of one of a block's lists: 0 prev, 1 next. After a list's count each vip has 8 bytes.
-pub fn look_vip(book: Book, image: &[u8], journal: &[u8], block: u64, list: u64, place: u64) -> VipLook
+pub fn look_vip(
+    book: Book,
+    image: &[u8],
+    journal: &[u8],
+    block: u64,
+    list: u64,
+    place: u64,
+) -> VipLook
     ensures { λ r. ⌜ r ≡ vip-look (look-vip block list place (state (now (image .entry)) (now (journal .entry)) book)) ⌝ }
 {
     let b = reach_block(book, image, journal, block);

@@ -1,99 +1,94 @@
+-- A refusal is that of reaching the block; else each number is what stands there.
+use mathlib.Core.Path.{_∙_}
+use native.Mathlib.Omega.{arith}
+use Rattle.machine.specs.Book.{State}
+use Rattle.book.specs.Says.{state}
+use Rattle.look.proofs.Reach.{There, there}
+use Rattle.look.proofs.Blocks.{block-refused, room, block-final}
 use borrow.Author.Needs.{needs}
 use Rattle.look.proofs.look_block.Statement.{statement}
 use Rattle.look.proofs.look_block.Tie as tie
-use Rattle.look.proofs.look_block.Reads as reads
-use Rattle.look.proofs.look_block.Lts as lts
-use Rattle.fields.proofs.signed64.Reads as signed64-reads
-use Rattle.image.proofs.instructions_end.Reads as instructions-end-reads
-use Rattle.look.proofs.no_block.Reads as no-block-reads
-use Rattle.look.proofs.reach_block.Reads as reach-block-reads
-use Rattle.walk.proofs.vips_end.Reads as vips-end-reads
-use Rattle.walk.proofs.word32.Reads as word32-reads
-use Rattle.walk.proofs.word64.Reads as word64-reads
 
--- src/lib.rt:126:9
+abbrev found : tie.Start → State
+found c = state (c .args .image .now) (c .args .journal .now) (c .args .book)
+
+reached : (c : tie.Else1) → There (found (c .before .before .before .before .before)) (c .before .before .before .before .before .args .place) (c .before .before .reach-block .result .at)
+reached c = there (c .before .before .before .before .shared-slice-known .given) (c .before .before .reach-block .ensures) (c .if1 .left)
+
 reach-block-requires : tie.Need-reach-block-requires
 reach-block-requires c κs = search needs
 
--- src/lib.rt:128:9
 no-block-requires : tie.Need-no-block-requires
 no-block-requires c κs = search needs
 
--- src/lib.rt:128:9
 returns : tie.Need-returns
-returns c = ?
+returns c = c .no-block .ensures ∙ block-refused _ _ (c .before .before .before .reach-block .ensures .refusal) (c .before .if1 .taken)
 
--- src/lib.rt:131:19
 word64-requires : tie.Need-word64-requires
 word64-requires c κs = search needs
 
--- src/lib.rt:132:58
 add-word64 : tie.Need-add-word64
-add-word64 c = ?
+add-word64 c = omega (arith, room (reached (c .before)))
 
--- src/lib.rt:132:38
 word64-requires-2 : tie.Need-word64-requires-2
 word64-requires-2 c κs = search needs
 
--- src/lib.rt:132:9
 signed64-requires : tie.Need-signed64-requires
 signed64-requires c κs = search needs
 
--- src/lib.rt:133:40
 add-word32 : tie.Need-add-word32
-add-word32 c = ?
+add-word32 c = omega (arith, room (reached (c .before .before .before)))
 
--- src/lib.rt:133:9
 word32-requires : tie.Need-word32-requires
 word32-requires c κs = search needs
 
--- src/lib.rt:134:52
 add-word32-2 : tie.Need-add-word32-2
-add-word32-2 c = ?
+add-word32-2 c = omega (arith, room (reached (c .before .before .before .before)))
 
--- src/lib.rt:134:9
 word32-requires-2 : tie.Need-word32-requires-2
 word32-requires-2 c κs = search needs
 
--- src/lib.rt:135:44
 add-word32-3 : tie.Need-add-word32-3
-add-word32-3 c = ?
+add-word32-3 c = omega (arith, room (reached (c .before .before .before .before .before)))
 
--- src/lib.rt:135:9
 word32-requires-3 : tie.Need-word32-requires-3
 word32-requires-3 c κs = search needs
 
--- src/lib.rt:136:9
 instructions-end-requires : tie.Need-instructions-end-requires
 instructions-end-requires c κs = search needs
 
--- src/lib.rt:137:9
 word32-requires-4 : tie.Need-word32-requires-4
 word32-requires-4 c κs = search needs
 
--- src/lib.rt:138:9
 vips-end-requires : tie.Need-vips-end-requires
 vips-end-requires c κs = search needs
 
--- src/lib.rt:139:9
 word32-requires-5 : tie.Need-word32-requires-5
 word32-requires-5 c κs = search needs
 
--- src/lib.rt:146:23
 cast-t17 : tie.Need-cast-t17
 cast-t17 c = search needs
 
--- src/lib.rt:147:20
 cast-t19 : tie.Need-cast-t19
 cast-t19 c = search needs
 
--- src/lib.rt:148:20
 cast-t20 : tie.Need-cast-t20
 cast-t20 c = search needs
 
--- src/lib.rt:123:1
 returns-2 : tie.Need-returns-2
-returns-2 c = ?
+returns-2 c =
+    let n = c .before in
+    let k = n .before in
+    let p = k .before in
+    let i = p .before in
+    let y = i .before in
+    let x = y .before in
+    let z = x .before in
+    let w = z .before in
+    let v = w .before in
+    let t = reached (v .before) in
+    block-final t (v .word64 .ensures) (w .word642 .ensures) (z .signed64 .ensures) (x .word32 .ensures) (y .word322 .ensures) (i .word323 .ensures)
+    (p .instructions-end .ensures (t .routine) _ (t .holding) (t .within) (t .at)) (k .word324 .ensures) (n .vips-end .ensures) (c .word325 .ensures)
 
 pub look-block-spec : {M : Type 1} → statement M
 look-block-spec =

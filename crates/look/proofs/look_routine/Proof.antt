@@ -1,52 +1,54 @@
+-- A refusal is the inspection's; else each number is what stands in the image.
+use native.Mathlib.Omega.{arith}
+use Rattle.machine.specs.Book.{State}
+use Rattle.book.specs.Says.{state}
+use Rattle.image.proofs.Inspects.{Ready, ready}
+use Rattle.look.specs.Answers.{routine-look}
+use Rattle.look.proofs.Routines.{routine-refused, machine-room, routine-final}
 use borrow.Author.Needs.{needs}
 use Rattle.look.proofs.look_routine.Statement.{statement}
 use Rattle.look.proofs.look_routine.Tie as tie
-use Rattle.look.proofs.look_routine.Reads as reads
-use Rattle.look.proofs.look_routine.Lts as lts
-use Rattle.image.proofs.blocks_of.Reads as blocks-of-reads
-use Rattle.image.proofs.inspect.Reads as inspect-reads
-use Rattle.image.proofs.special_count.Reads as special-count-reads
-use Rattle.walk.proofs.word64.Reads as word64-reads
 
--- src/lib.rt:64:9
+abbrev found : tie.Start → State
+found c = state (c .args .image .now) (c .args .journal .now) (c .args .book)
+
+inspected : (c : tie.Else1) → Ready (found (c .before .before .before .before))
+inspected c = ready _ (c .before .before .before .shared-slice-known .given) (c .before .inspect .ensures) (c .if1 .left)
+
 inspect-requires : tie.Need-inspect-requires
 inspect-requires c κs = search needs
 
--- src/lib.rt:66:9
 returns : tie.Need-returns
-returns c = ?
+unfolding routine-look
+returns c = routine-refused (found (c .before .before .before .before)) (c .before .inspect .ensures) (c .if1 .taken)
 
--- src/lib.rt:74:19
 shared-slice-read-arch-id : tie.Need-shared-slice-read-arch-id
-shared-slice-read-arch-id c = ?
+shared-slice-read-arch-id c = machine-room (inspected (c .before))
 
--- src/lib.rt:74:19
 cast-arch-id : tie.Need-cast-arch-id
-cast-arch-id c = ?
+cast-arch-id c = omega (arith, c .shared-slice-known3 .given 4)
 
--- src/lib.rt:75:19
 word64-requires : tie.Need-word64-requires
 word64-requires c κs = search needs
 
--- src/lib.rt:76:9
 special-count-requires : tie.Need-special-count-requires
 special-count-requires c κs = search needs
 
--- src/lib.rt:77:9
 blocks-of-requires : tie.Need-blocks-of-requires
 blocks-of-requires c κs = search needs
 
--- src/lib.rt:82:27
 cast-t13 : tie.Need-cast-t13
 cast-t13 c = search needs
 
--- src/lib.rt:83:17
 cast-t14 : tie.Need-cast-t14
 cast-t14 c = search needs
 
--- src/lib.rt:61:1
 returns-2 : tie.Need-returns-2
-returns-2 c = ?
+returns-2 c =
+    let b = c .before in
+    let n = b .before in
+    let r = inspected (n .before .before .before) in
+    routine-final r (n .before .word64 .ensures) (n .special-count .ensures (r .routine) (r .holding)) (b .blocks-of .ensures (r .routine) (r .holding) .1)
 
 pub look-routine-spec : {M : Type 1} → statement M
 look-routine-spec =

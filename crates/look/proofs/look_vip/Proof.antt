@@ -1,73 +1,87 @@
+-- A refusal is that of reaching the block; then 15 by the list and by its count; else the vip that stands there is read.
+use mathlib.Core.Path.{_≡_, _∙_}
+use native.Mathlib.Omega.{arith}
+use Rattle.machine.specs.Book.{State}
+use Rattle.book.specs.Says.{state}
+use Rattle.look.specs.Reached.{vips-start}
+use Rattle.look.proofs.Reach.{unwrapped, There, there}
+use Rattle.look.proofs.Blocks.{vip-refused, list-none, vip-none, vip-room, vips-room, vip-final}
 use borrow.Author.Needs.{needs}
 use Rattle.look.proofs.look_vip.Statement.{statement}
 use Rattle.look.proofs.look_vip.Tie as tie
-use Rattle.look.proofs.look_vip.Reads as reads
-use Rattle.look.proofs.look_vip.Lts as lts
-use Rattle.look.proofs.no_vip.Reads as no-vip-reads
-use Rattle.look.proofs.reach_block.Reads as reach-block-reads
-use Rattle.look.proofs.vips_offset.Reads as vips-offset-reads
-use Rattle.walk.proofs.word32.Reads as word32-reads
-use Rattle.walk.proofs.word64.Reads as word64-reads
 
--- src/lib.rt:210:9
+abbrev found : tie.Start → State
+found c = state (c .args .image .now) (c .args .journal .now) (c .args .book)
+
+reached : (c : tie.Else1) → There (found (c .before .before .before .before .before)) (c .before .before .before .before .before .args .block) (c .before .before .reach-block .result .at)
+reached c = there (c .before .before .before .before .shared-slice-known .given) (c .before .before .reach-block .ensures) (c .if1 .left)
+
+list-at : (c : tie.After-vips-offset)
+    → c .vips-offset .result
+    ≡ vips-start (c .before .before .before .before .before .before .before .args .list) (reached (c .before .before) .routine)
+    (c .before .before .before .before .before .before .before .args .block)
+list-at c = let t = reached (c .before .before) in c .vips-offset .ensures (t .routine) _ (t .holding) (t .within) (t .at)
+
 reach-block-requires : tie.Need-reach-block-requires
 reach-block-requires c κs = search needs
 
--- src/lib.rt:212:9
 no-vip-requires : tie.Need-no-vip-requires
 no-vip-requires c κs = search needs
 
--- src/lib.rt:212:9
 returns : tie.Need-returns
-returns c = ?
+returns c = c .no-vip .ensures ∙ vip-refused _ _ (c .before .before .before .reach-block .ensures .refusal) (c .before .if1 .taken) (c .before .before .before .before .before .before .args .list)
+    (c .before .before .before .before .before .before .args .place)
 
--- src/lib.rt:215:9
 no-vip-requires-2 : tie.Need-no-vip-requires-2
 no-vip-requires-2 c κs = search needs
 
--- src/lib.rt:215:9
 returns-2 : tie.Need-returns-2
-returns-2 c = ?
+returns-2 c = c .no-vip2 .ensures ∙ list-none (reached (c .before .before)) _ _ (c .before .if2 .taken)
 
--- src/lib.rt:217:9
 vips-offset-requires : tie.Need-vips-offset-requires
 vips-offset-requires c κs = search needs
 
--- src/lib.rt:218:9
 word32-requires : tie.Need-word32-requires
 word32-requires c κs = search needs
 
--- src/lib.rt:219:9
 cast-if3 : tie.Need-cast-if3
 cast-if3 c = search needs
 
--- src/lib.rt:220:9
 no-vip-requires-3 : tie.Need-no-vip-requires-3
 no-vip-requires-3 c κs = search needs
 
--- src/lib.rt:220:9
 returns-3 : tie.Need-returns-3
-returns-3 c = ?
+returns-3 c =
+    let n = c .before .before in
+    let a = n .before in
+    c .no-vip3 .ensures ∙ vip-none (reached (a .before .before)) _ _ (a .before .if2 .left) (list-at a) (n .word32 .ensures) (c .before .if3 .taken)
 
--- src/lib.rt:222:39
 add-word64 : tie.Need-add-word64
-add-word64 c = ?
+add-word64 c =
+    let n = c .before in
+    let a = n .before in
+    let t = reached (a .before .before) in
+    unwrapped _ _ (vips-room t _ _ (a .before .if2 .left) (list-at a) (n .word32 .ensures) (c .if3 .left)) (t .lent)
 
--- src/lib.rt:222:48
 mul-word64 : tie.Need-mul-word64
 mul-word64 c = search needs
 
--- src/lib.rt:222:39
 add-word64-2 : tie.Need-add-word64-2
-add-word64-2 c = ?
+add-word64-2 c =
+    let n = c .before in
+    let a = n .before in
+    let t = reached (a .before .before) in
+    unwrapped _ _ (vip-room t _ _ (a .before .if2 .left) (list-at a) (n .word32 .ensures) (c .if3 .left)) (t .lent)
 
--- src/lib.rt:222:19
 word64-requires : tie.Need-word64-requires
 word64-requires c κs = search needs
 
--- src/lib.rt:207:1
 returns-4 : tie.Need-returns-4
-returns-4 c = ?
+returns-4 c =
+    let l = c .before in
+    let n = l .before in
+    let a = n .before in
+    vip-final (reached (a .before .before)) _ _ (a .before .if2 .left) (list-at a) (n .word32 .ensures) (l .if3 .left) (c .word64 .ensures)
 
 pub look-vip-spec : {M : Type 1} → statement M
 look-vip-spec =
