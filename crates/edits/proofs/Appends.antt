@@ -7,7 +7,8 @@ use mathlib.Core.List.{List, [], _∷_, _++_, append-assoc, append-nil}
 use Prim.Native.Nat.{ℕ, zero, suc, _+_, _-_, _≤_, _<_}
 use native.Mathlib.Omega.{arith}
 use lib.ListN.{length, take, drop, length-append, length-replicate}
-use borrow.Author.Tests.{lt-ltb, le-ltb}
+use lib.Dec.{eqb}
+use borrow.Author.Tests.{ne-eqb, lt-ltb, le-ltb}
 use Rattle.fields.specs.Bytes.{zeros, put}
 use Rattle.fields.specs.Parse.{Res, ok, no, choose, span}
 use Rattle.fields.specs.Outcome.{refused, accepted}
@@ -17,8 +18,10 @@ use Rattle.pod.specs.Layout.{instruction, as-it-comes}
 use Rattle.pod.specs.Written.{bytes, many-bytes, instruction-bytes, routine-bytes}
 use Rattle.buffer.proofs.Put.{put-parts, opened}
 use Rattle.laws.proofs.Back.{length-bytes}
-use Rattle.laws.proofs.Layouts.{instruction-layout, read-to}
+use Rattle.laws.proofs.Layouts.{instruction-layout, read-to, read-within}
 use Rattle.laws.proofs.Place.{many-append}
+use Rattle.laws.proofs.Sizes.{instruction-size}
+use Rattle.value.proofs.Refusal.{told-instruction}
 use Rattle.machine.specs.Edits.{append, edited, appended, place, change-at, append-to, with-blocks}
 use Rattle.machine.specs.Machine.{Answer, edit, size}
 use Rattle.machine.specs.Journal.{trailer-bytes, entry, read-size}
@@ -42,6 +45,10 @@ pub not-past : {A : Type 0} (q : Res A) (e : ℕ) → no e ≡ span q → q ≡ 
 unfolding span
 not-past (ok x m) e h = let z : _≡_ {A = ℕ} 0 1 = cc in absurd (omega arith)
 not-past (no k) e h = cc
+
+-- an instruction has bytes
+pub some : (t : List ℕ) → Bytes t → Whole t → 29 ≤ length t
+some t b y = omega (arith, read-to instruction-layout false b (y .read), instruction-size (y .x))
 
 -- The image
 module _ (s : State) (r : Routine) (o : Sound s r) (i : ℕ) (h : i < length (r .explored-blocks)) (x : Instruction) where
@@ -100,14 +107,24 @@ module _ (s : State) (r : Routine) (o : Sound s r) (v : ℕ) (t : List ℕ) wher
   abbrev read : Res Instruction
   read = instruction as-it-comes t 0
 
-  -- the reading refusals, and 17
-  pub append-unread : (e : ℕ) → no e ≡ span read → (refused e, s) ≡ step (edit (append v t)) s
-  unfolding edited appended
-  append-unread e q = sym (refused-step s r o (append v t) e (rw (not-past read e q)))
+  -- the reading refusals, none of which is 0; and 17
+  pub append-unread : (a : Answer) (e : ℕ) → no e ≡ span read → _≡_ {A = Answer × State} (choose (eqb e 0) a (refused e), s) (step (edit (append v t)) s)
+  unfolding edited appended choose
+  append-unread a e q =
+      let n = not-past read e q in
+      let z : eqb e 0 ≡ false = ne-eqb e 0 (λ i. omega (arith, told-instruction t 0 e n)) in
+      rw z (sym (refused-step s r o (append v t) e (rw n)))
 
   pub append-leftover : (n : ℕ) → ok tt n ≡ span read → n < length t → (refused 17, s) ≡ step (edit (append v t)) s
   unfolding edited appended choose
   append-leftover n q l = let p = past read n q in sym (refused-step s r o (append v t) 17 (rw (p .1, lt-ltb n (length t) l)))
+
+  -- all of the bytes were read
+  pub all-read : Bytes t → (n : ℕ) → ok tt n ≡ span read → length t ≤ n → Whole t
+  all-read b n q l =
+      let p = past read n q in
+      let e : n ≡ length t = omega (arith, read-within instruction-layout false b (p .1)) in
+      record { x = p .0; read = p .1 ∙ ap (ok (p .0)) e }
 
   module _ (b : Bytes t) (y : Whole t) where
     abbrev x : Instruction

@@ -24,6 +24,7 @@ use Rattle.walk.proofs.Same.{many-ends, instruction-ends}
 use Rattle.machine.specs.Edits.{empty-block, block-at}
 use Rattle.machine.specs.Machine.{size}
 use Rattle.machine.specs.Book.{State, in-image}
+use Rattle.machine.proofs.Keeps.{instructions-few, weight-at}
 use Rattle.machine.proofs.Lists.{each-at}
 use Rattle.book.specs.Holding.{block-start, Sound}
 use Rattle.edits.proofs.Cuts.{before, behind, the-block, code-of, before-size, cut-here, here-size}
@@ -75,3 +76,7 @@ module _ (s : State) (r : Routine) (o : Sound s r) (i : ℕ) (h : i < length (r 
 
   pub code-ends : times (instructionEnd (s .image)) (length (b .instructions)) (block-start r i + 28) ≡ block-start r i + 28 + length (code-of (b .instructions))
   code-ends = code-end (b .instructions) (block-holds .instructions .each) code-stands
+
+  -- 29 bytes at least for each of its instructions
+  pub count-few : 29 * length (b .instructions) ≤ s .book .written
+  count-few = omega (arith, instructions-few b, weight-at r i (r .explored-blocks) h, o .written)
