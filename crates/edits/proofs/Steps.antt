@@ -3,47 +3,29 @@
 -- Assumes nothing.
 use mathlib.Core.Path.{_≡_, refl, sym, ap, _∙_}
 use mathlib.Core.Bool.{Bool, true, false}
-use mathlib.Core.List.{List, [], _∷_, _++_}
-use Prim.Native.Nat.{ℕ, suc, _+_, _-_, _≤_, _<_}
+use mathlib.Core.List.{List, [], _∷_}
+use Prim.Native.Nat.{ℕ, suc, _+_, _≤_, _<_}
 use native.Mathlib.Omega.{arith}
-use lib.ListN.{length, take, drop}
-use lib.Seq.{take-at, drop-at}
+use lib.ListN.{length}
 use lib.Dec.{leb, eqb}
 use borrow.Author.Tests.{le-leb, lt-leb}
-use Rattle.fields.specs.Bytes.{zeros, put}
+use Rattle.fields.specs.Bytes.{put}
 use Rattle.fields.specs.Parse.{choose}
 use Rattle.fields.specs.Outcome.{Outcome, refused, accepted}
-use Rattle.op.specs.Ops.{same}
-use Rattle.op.proofs.Same.{same-yes}
 use Rattle.pod.specs.Blocks.{vips, has}
 use Rattle.pod.specs.Values.{BasicBlock, Routine}
-use Rattle.pod.specs.Layout.{read-file}
-use Rattle.pod.specs.Written.{routine-bytes}
-use Rattle.laws.proofs.Layouts.{routine-layout, read-all}
 use Rattle.machine.specs.Edits.{Edit, edited, present, place}
-use Rattle.machine.specs.Machine.{Answer, Book, edit, size}
+use Rattle.machine.specs.Machine.{Answer, edit, size}
 use Rattle.machine.specs.Journal.{entry}
-use Rattle.machine.specs.Book.{State, in-image, whole, held, stored, edit-step, acted, step}
+use Rattle.machine.specs.Book.{State, in-image, stored, edit-step, acted, step}
 use Rattle.machine.proofs.Lists.{found}
-use Rattle.book.specs.Holding.{Sound, Holding}
-
-pub sound-held : (s : State) (r : Routine) → Sound s r → held s ≡ accepted r
-unfolding held whole choose in-image
-sound-held s r o =
-    let w : s .book .written ≤ length (s .image) = omega (arith, o .written, o .room) in
-    let t : take (s .book .written) (s .image) ≡ routine-bytes r
-    = ap (take (s .book .written)) (o .image) ∙ take-at (routine-bytes r) _ (s .book .written) (sym (o .written)) in
-    let d : drop (s .book .written) (s .image) ≡ zeros (length (s .image) - s .book .written)
-    = ap (drop (s .book .written)) (o .image) ∙ drop-at (routine-bytes r) _ (s .book .written) (sym (o .written))
-    ∙ ap (λ n. zeros (length (s .image) - n)) (sym (o .written)) in
-    let f = read-all routine-layout false r (o .holds) in
-    rw (le-leb _ _ (o .image-lent), le-leb _ _ (o .journal-lent), le-leb _ _ w, le-leb _ _ (o .used), t, f)
-    (rw (t, d, same-yes (routine-bytes r) _ refl, same-yes (zeros (length (s .image) - s .book .written)) _ refl))
+use Rattle.book.specs.Holding.{Sound}
+use Rattle.image.proofs.Inspects.{sound-held}
 
 module _ (s : State) (r : Routine) (o : Sound s r) (e : Edit) where
   by-edit : step (edit e) s ≡ edit-step e r s (edited e r)
   unfolding step acted
-  by-edit = rw (sound-held s r o)
+  by-edit = rw (sound-held o)
 
   pub refused-step : (k : ℕ) → edited e r ≡ refused k → step (edit e) s ≡ (refused k, s)
   unfolding edit-step
@@ -98,8 +80,3 @@ module _ (v : ℕ) (bs : List BasicBlock) where
       go : (t : Bool) → present v bs ≡ t → t ≡ false
       go true q = absurd (omega (arith, found v bs q .within))
       go false q = refl
-
--- what the readers of an image ask
-pub holding : (s : State) (r : Routine) → Sound s r → Holding (s .image) r
-unfolding in-image
-holding s r o = record { holds = o .holds; rest = zeros (length (s .image) - size r); is = o .image }

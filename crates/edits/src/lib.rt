@@ -3,6 +3,7 @@
 // Each function has a `requires` that the state is sound: they are for the crate above, whose calls inspect the lent image and the book first.
 ghost use mathlib.Core.Path.{_≡_};
 ghost use Prim.Native.Nat.{_+_, _≤_, _<_};
+ghost use lib.ListN.{length};
 ghost use Rattle.fields.specs.Bytes.{put};
 ghost use Rattle.laws.specs.Normal.{normalise, last-flag};
 ghost use Rattle.machine.specs.Edits.{create, append};
@@ -21,10 +22,8 @@ const EMPTY_BLOCK_SIZE: usize = 36;
 // What a create or an append costs of the journal: its entry is a trailer alone.
 const COST: usize = 20;
 
-// In a block, where the count of its instructions stands, and where these begin.
+// Where the count of its instructions stands in a block.
 const COUNT_AT: usize = 24;
-
-const CODE_AT: usize = 28;
 
 // A block with the vip goes last. The image is zeros after the blocks, so of the new block only its vip is stored.
 pub fn create_block(book: Book, image: &mut [u8], journal: &mut [u8], vip: Vip) -> Answer
@@ -34,7 +33,7 @@ pub fn create_block(book: Book, image: &mut [u8], journal: &mut [u8], vip: Vip) 
     let v = vip.0;
     let written = book.written as usize;
     let used = book.used as usize;
-    let spot = find(image, vip);
+    let spot = image::find(image, vip);
     let count = spot.count;
     if spot.place < count as usize {
         return Answer {
@@ -54,7 +53,7 @@ pub fn create_block(book: Book, image: &mut [u8], journal: &mut [u8], vip: Vip) 
             book,
         };
     }
-    let blocks = blocks_of(image);
+    let blocks = image::blocks_of(image);
     let start = blocks.start;
     buffer::put_u64(image, written, v);
     buffer::put_u32(image, start - 4, count + 1);
@@ -90,7 +89,7 @@ fn append_whole(book: Book, image: &mut [u8], journal: &mut [u8], vip: Vip, inst
     let written = book.written as usize;
     let used = book.used as usize;
     let size = instruction.len();
-    let spot = find(image, vip);
+    let spot = image::find(image, vip);
     let place = spot.place;
     let at = spot.at;
     if spot.count as usize <= place {
@@ -111,8 +110,8 @@ fn append_whole(book: Book, image: &mut [u8], journal: &mut [u8], vip: Vip, inst
             book,
         };
     }
-    let count = fields::four(image, at + COUNT_AT) as u32;
-    let end = walk::instructions_end(image, at + CODE_AT, count);
+    let count = walk::word32(image, at + COUNT_AT);
+    let end = image::instructions_end(image, at);
     buffer::move_within(image, end, end + size, written - end);
     put_instruction(image, end, instruction);
     buffer::put_u32(image, at + COUNT_AT, count + 1);
@@ -146,31 +145,4 @@ pub fn append(book: Book, image: &mut [u8], journal: &mut [u8], vip: Vip, instru
             append_whole(book, image, journal, vip, instruction)
         }
     }
-}
-// STAND-IN
-ghost use Rattle.pod.specs.Values.{Routine};
-ghost use lib.ListN.{length};
-ghost use Rattle.book.specs.Holding.{Holding, blocks-start};
-ghost use Rattle.edits.specs.Places.{Spotted};
-pub struct Blocks {
-    pub start: usize,
-    pub count: u32,
-}
-
-pub struct Spot {
-    pub place: usize,
-    pub at: usize,
-    pub count: u32,
-}
-
-pub fn blocks_of(image: &[u8]) -> Blocks
-    ensures { λ r. ⌜ ((x : Routine) → Holding (now (image .entry)) x → (r .start ≡ blocks-start x) × (r .count ≡ length (x .explored-blocks))) ⌝ }
-{
-    Blocks { start: 0, count: 0 }
-}
-
-pub fn find(image: &[u8], vip: Vip) -> Spot
-    ensures { λ r. ⌜ ((x : Routine) → Holding (now (image .entry)) x → Spotted x (vip .0) r) ⌝ }
-{
-    Spot { place: 0, at: 0, count: 0 }
 }

@@ -12,19 +12,12 @@ use Rattle.machine.proofs.Keeps.{blocks-few}
 use Rattle.laws.proofs.Sizes.{routine-size}
 use Rattle.book.specs.Says.{state}
 use Rattle.book.specs.Holding.{blocks-start}
-use Rattle.edits.specs.Places.{Spotted}
-use Rattle.edits.proofs.Steps.{holding}
+use Rattle.image.specs.Places.{Spotted}
+use Rattle.image.proofs.Inspects.{sound-holding}
 use Rattle.edits.proofs.Creates as C
 use borrow.Author.Needs.{needs}
 use Rattle.edits.proofs.create_block.Statement.{statement}
 use Rattle.edits.proofs.create_block.Tie as tie
-use Rattle.edits.proofs.create_block.Reads as reads
-use Rattle.edits.proofs.create_block.Lts as lts
-use Rattle.buffer.proofs.put_u32.Reads as put-u32-reads
-use Rattle.buffer.proofs.put_u64.Reads as put-u64-reads
-use Rattle.edits.proofs.blocks_of.Reads as blocks-of-reads
-use Rattle.edits.proofs.find.Reads as find-reads
-use Rattle.trailer.proofs.put_trailer.Reads as put-trailer-reads
 
 -- the state at entry, and the routine that it holds
 abbrev found-from : tie.After-find → tie.Start
@@ -37,7 +30,7 @@ abbrev R : tie.Start → Routine
 R s = s .pre .r
 
 spotted : (c : tie.After-find) → Spotted (R (found-from c)) (found-from c .args .vip .0) (c .find .result)
-spotted c = let s = found-from c in c .find .ensures (R s) (holding (S s) (R s) (s .pre .sound))
+spotted c = let s = found-from c in c .find .ensures (R s) (sound-holding (s .pre .sound))
 
 few : (s : tie.Start) → length (R s .explored-blocks) ≤ 16777216
 few s = omega (arith, blocks-few (R s) (R s .explored-blocks), s .pre .sound .room, s .pre .sound .image-lent)
@@ -46,7 +39,7 @@ absent : (c : tie.Else1) → length (R (found-from (c .before .before)) .explore
 absent c = let f = spotted (c .before .before) in omega (arith, c .if1 .left, f .place, f .count)
 
 begins : (c : tie.After-blocks-of) → c .blocks-of .result .start ≡ blocks-start (R (found-from (c .before .before .before .before .before .before)))
-begins c = let s = found-from (c .before .before .before .before .before .before) in c .blocks-of .ensures (R s) (holding (S s) (R s) (s .pre .sound)) .0
+begins c = let s = found-from (c .before .before .before .before .before .before) in c .blocks-of .ensures (R s) (sound-holding (s .pre .sound)) .0
 
 find-requires : tie.Need-find-requires
 find-requires c κs = search needs
