@@ -81,7 +81,13 @@ fn put_instruction(image: &mut [u8], at: usize, instruction: &[u8])
 }
 
 // One instruction goes last in the block with the vip: what stands after the block's instructions moves up to make room.
-fn append_whole(book: Book, image: &mut [u8], journal: &mut [u8], vip: Vip, instruction: &[u8]) -> Answer
+fn append_whole(
+    book: Book,
+    image: &mut [u8],
+    journal: &mut [u8],
+    vip: Vip,
+    instruction: &[u8],
+) -> Answer
     requires { ⌜ Held (state (now image) (now journal) book) × Whole (now instruction) ⌝ }
     ensures { λ r. ⌜ outcome r (now (image .exit)) (now (journal .exit)) ≡ step (edit (append (vip .0) (now (instruction .entry)))) (state (now (image .entry)) (now (journal .entry)) book) ⌝ }
 {
@@ -126,7 +132,13 @@ fn append_whole(book: Book, image: &mut [u8], journal: &mut [u8], vip: Vip, inst
 }
 
 // The instruction that `instruction` is, and nothing after it, goes last in the block with the vip.
-pub fn append(book: Book, image: &mut [u8], journal: &mut [u8], vip: Vip, instruction: &[u8]) -> Answer
+pub fn append(
+    book: Book,
+    image: &mut [u8],
+    journal: &mut [u8],
+    vip: Vip,
+    instruction: &[u8],
+) -> Answer
     requires { ⌜ Held (state (now image) (now journal) book) ⌝ }
     ensures { λ r. ⌜ outcome r (now (image .exit)) (now (journal .exit)) ≡ step (edit (append (vip .0) (now (instruction .entry)))) (state (now (image .entry)) (now (journal .entry)) book) ⌝ }
 {

@@ -11,10 +11,6 @@ use Rattle.edits.proofs.Appends as A
 use borrow.Author.Needs.{needs}
 use Rattle.edits.proofs.append.Statement.{statement}
 use Rattle.edits.proofs.append.Tie as tie
-use Rattle.edits.proofs.append.Reads as reads
-use Rattle.edits.proofs.append.Lts as lts
-use Rattle.edits.proofs.append_whole.Reads as append-whole-reads
-use Rattle.instruction.proofs.instruction_skip.Reads as instruction-skip-reads
 
 abbrev S : tie.Start → State
 S s = state (s .args .image .now) (s .args .journal .now) (s .args .book)

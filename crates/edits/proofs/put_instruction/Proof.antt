@@ -9,10 +9,6 @@ use Rattle.pod.specs.Written.{bytes}
 use borrow.Author.Needs.{needs}
 use Rattle.edits.proofs.put_instruction.Statement.{statement}
 use Rattle.edits.proofs.put_instruction.Tie as tie
-use Rattle.edits.proofs.put_instruction.Reads as reads
-use Rattle.edits.proofs.put_instruction.Lts as lts
-use Rattle.buffer.proofs.copy_at.Reads as copy-at-reads
-use Rattle.buffer.proofs.put_u8.Reads as put-u8-reads
 
 sub-last : tie.Need-sub-last
 sub-last c = search needs
