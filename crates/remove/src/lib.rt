@@ -1,0 +1,1 @@
+// Removing a block from the routine in an image.
