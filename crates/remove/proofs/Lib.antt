@@ -1,3 +1,5 @@
 pub mod Places
 pub mod Laid
 pub mod Moved
+pub mod Stands
+pub mod Steps
