@@ -40,11 +40,11 @@ absent-by v bs h = go (present v bs) refl
 pub present-by : (v : ℕ) (bs : List BasicBlock) → place v bs < length bs → present v bs ≡ true
 unfolding has place choose
 present-by v [] h = absurd (omega arith)
-present-by v (b ∷ bs) h = go (eqb (b .vip) v) h
+present-by v (b ∷ bs) h = go (present-by v bs) (eqb (b .vip) v) h
   where
-    go : (t : Bool) → choose t 0 (suc (place v bs)) < length (b ∷ bs) → choose t true (has v (vips bs)) ≡ true
-    go true h = refl
-    go false h = present-by v bs (omega arith)
+    go : (place v bs < length bs → present v bs ≡ true) → (t : Bool) → choose t 0 (suc (place v bs)) < length (b ∷ bs) → choose t true (has v (vips bs)) ≡ true
+    go f true h = refl
+    go f false h = f (omega arith)
 
 module _ (image journal : List ℕ) (book : Book) (r : Routine) (g : Sound (state image journal book) r) (q : held (state image journal book) ≡ accepted r) (v : ℕ) where
   abbrev blocks : List BasicBlock
