@@ -1,5 +1,7 @@
 pub mod Places
 pub mod Laid
-pub mod Moved
+pub mod Outs
 pub mod Stands
+pub mod Taken
+pub mod Sounds
 pub mod Steps

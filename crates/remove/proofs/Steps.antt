@@ -89,7 +89,7 @@ module _ (image journal : List ℕ) (book : Book) (r : Routine) (g : Sound (stat
     -- what the stores leave
     pub removed : (at end pl : ℕ) → at ≡ block-start r i → end ≡ at + weight b → pl ≡ i → book .used + (end - at + 20) ≤ length journal
         → (x j₁ j₂ i₁ : List ℕ) → x ≡ block-bytes b → j₁ ≡ put (book .used) x journal
-        → j₂ ≡ put (book .used + (end - at)) (trailer-bytes (named v pl (end - at) 2)) j₁ → i₁ ≡ in-image (length image) (with-blocks (remove-at pl blocks) r)
+        → j₂ ≡ put (book .used + (end - at)) (trailer-bytes (named v pl (end - at) 2)) j₁ → i₁ ≡ in-image (length image) r′
         → outcome (record { refusal = 0; book = record { written = book .written - (end - at); used = book .used + (end - at) + 20 } }) i₁ j₂
         ≡ step (edit (remove v)) (state image journal book)
     unfolding stored entry choose

@@ -1,4 +1,4 @@
--- The image after a block was taken out or put in: over the image's parts the last block and the block change places, and the count follows.
+-- The image after a block was taken out: over the image's parts the block and the last one change places, it is cleared, and the count follows.
 -- Assumes nothing.
 use mathlib.Core.Path.{_≡_, refl, sym, ap, ap₂, _∙_}
 use mathlib.Core.List.{List, [], _∷_, _++_, append-assoc, append-nil}
