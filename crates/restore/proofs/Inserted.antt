@@ -16,7 +16,7 @@ use Rattle.machine.specs.Edits.{with-blocks}
 use Rattle.machine.specs.Machine.{size}
 use Rattle.machine.specs.Book.{in-image}
 use Rattle.book.specs.Holding.{blocks-start}
-use Rattle.remove.proofs.Laid.{written, laid, upto, length-upto, laid-upto, in-laid, recount, written-size, written-parts, written-snoc, length-written, length-cons, length-one, zeros-join}
+use Rattle.parts.proofs.Laid.{written, laid, upto, length-upto, laid-upto, in-laid, recount, written-size, written-parts, written-snoc, length-written, length-cons, length-one, zeros-join}
 
 -- bytes put after the last block
 module _ (r : Routine) (N : ℕ) (bs : List BasicBlock) (x : List ℕ) (h : size (with-blocks bs r) + length x ≤ N) where

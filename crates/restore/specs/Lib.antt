@@ -1,0 +1,4 @@
+pub mod Entering
+pub mod Blocks
+pub mod Places
+pub mod Held

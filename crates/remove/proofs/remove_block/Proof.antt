@@ -18,7 +18,7 @@ use Rattle.book.specs.Holding.{block-start, Holding, Sound}
 use Rattle.remove.specs.Places.{Spotted}
 use Rattle.remove.specs.Leaving.{Leaving}
 use Rattle.remove.proofs.Sounds.{sound-held}
-use Rattle.remove.proofs.Stands as B
+use Rattle.parts.proofs.Stands as B
 use Rattle.remove.proofs.Steps as K
 use borrow.Author.Needs.{needs}
 use Rattle.remove.proofs.remove_block.Statement.{statement}

@@ -22,7 +22,7 @@ use Rattle.machine.proofs.Lists.{each-at}
 use Rattle.machine.proofs.Keeps.{weight}
 use Rattle.machine.specs.Book.{State, in-image}
 use Rattle.book.specs.Holding.{blocks-start, block-start, Holding, Sound}
-use Rattle.remove.proofs.Laid.{written, laid, upto, length-upto, laid-upto, written-size, written-laid, written-parts, length-written, length-cons}
+use Rattle.parts.proofs.Laid.{written, laid, upto, length-upto, laid-upto, written-size, written-laid, written-parts, length-written, length-cons}
 
 -- a sound state's image holds its routine
 pub sound-holding : (s : State) (r : Routine) → Sound s r → Holding (s .image) r
