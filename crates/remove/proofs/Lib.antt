@@ -1,4 +1,3 @@
 pub mod Outs
 pub mod Taken
-pub mod Sounds
 pub mod Steps

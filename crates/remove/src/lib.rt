@@ -2,16 +2,14 @@
 //
 // `remove_block` requires that the state is sound: it is for the crate above, whose call inspects the lent image and the book first.
 ghost use mathlib.Core.Path.{_≡_};
-ghost use Prim.Native.Nat.{ℕ, _≤_};
+ghost use Prim.Native.Nat.{ℕ};
 ghost use lib.ListN.{length};
 ghost use Rattle.pod.specs.Values.{Routine};
 ghost use Rattle.machine.specs.Edits.{remove, remove-at, with-blocks};
 ghost use Rattle.machine.specs.Machine.{edit};
 ghost use Rattle.machine.specs.Book.{in-image, step};
 ghost use Rattle.book.specs.Says.{state, outcome};
-ghost use Rattle.book.specs.Holding.{Holding, blocks-start, block-start};
 ghost use Rattle.remove.specs.Held.{Held};
-ghost use Rattle.remove.specs.Places.{Spotted};
 ghost use Rattle.remove.specs.Leaving.{Leaving, Leaves};
 use book::Answer;
 use book::Book;
@@ -28,7 +26,7 @@ fn take_out(image: &mut [u8], at: usize, end: usize, written: usize)
     requires { ⌜ Leaves (now image) at end written ⌝ }
     ensures { λ _. ⌜ ((r : Routine) (i : ℕ) → Leaving r i (now (image .entry)) at end written → now (image .exit) ≡ in-image (length (now (image .entry))) (with-blocks (remove-at i (r .explored-blocks)) r)) ⌝ }
 {
-    let blocks = blocks_of(image);
+    let blocks = image::blocks_of(image);
     let start = blocks.start;
     let count = blocks.count;
     if end == written {
@@ -36,7 +34,7 @@ fn take_out(image: &mut [u8], at: usize, end: usize, written: usize)
         buffer::put_u32(image, start - 4, count - 1);
         return;
     }
-    let last = block_offset(image, count as usize - 1);
+    let last = image::block_offset(image, count as usize - 1);
     let left = written - (end - at);
     buffer::exchange(image, at, end, last, written);
     buffer::clear(image, left, written);
@@ -51,7 +49,7 @@ pub fn remove_block(book: Book, image: &mut [u8], journal: &mut [u8], vip: Vip) 
     let v = vip.0;
     let written = book.written as usize;
     let used = book.used as usize;
-    let spot = find(image, vip);
+    let spot = image::find(image, vip);
     let place = spot.place;
     let at = spot.at;
     if spot.count as usize <= place {
@@ -78,33 +76,4 @@ pub fn remove_block(book: Book, image: &mut [u8], journal: &mut [u8], vip: Vip) 
             used: (used + size + TRAILER) as u64,
         },
     }
-}
-// STAND-IN
-pub struct Blocks {
-    pub start: usize,
-    pub count: u32,
-}
-
-pub struct Spot {
-    pub place: usize,
-    pub at: usize,
-    pub count: u32,
-}
-
-pub fn blocks_of(image: &[u8]) -> Blocks
-    ensures { λ r. ⌜ ((x : Routine) → Holding (now (image .entry)) x → (r .start ≡ blocks-start x) × (r .count ≡ length (x .explored-blocks))) ⌝ }
-{
-    Blocks { start: 0, count: 0 }
-}
-
-pub fn find(image: &[u8], vip: Vip) -> Spot
-    ensures { λ r. ⌜ ((x : Routine) → Holding (now (image .entry)) x → Spotted x (vip .0) r) ⌝ }
-{
-    Spot { place: 0, at: 0, count: 0 }
-}
-
-pub fn block_offset(image: &[u8], place: usize) -> usize
-    ensures { λ r. ⌜ ((x : Routine) → Holding (now (image .entry)) x → place ≤ length (x .explored-blocks) → r ≡ block-start x place) ⌝ }
-{
-    0
 }

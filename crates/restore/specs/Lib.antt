@@ -1,4 +1,3 @@
 pub mod Entering
 pub mod Blocks
-pub mod Places
 pub mod Held

@@ -11,10 +11,9 @@ ghost use Rattle.machine.specs.Machine.{size};
 ghost use Rattle.machine.specs.Journal.{undo-remove};
 ghost use Rattle.machine.specs.Book.{in-image, restored};
 ghost use Rattle.book.specs.Says.{state, outcome};
-ghost use Rattle.book.specs.Holding.{Holding, Sound, blocks-start, block-start};
+ghost use Rattle.book.specs.Holding.{Holding, Sound};
 ghost use Rattle.trailer.specs.Says.{trailer-of};
 ghost use Rattle.restore.specs.Held.{Held};
-ghost use Rattle.restore.specs.Places.{Spotted};
 ghost use Rattle.restore.specs.Blocks.{is-block, may-enter};
 ghost use Rattle.restore.specs.Entering.{Entering, Enters};
 use book::Answer;
@@ -44,7 +43,7 @@ fn put_in(image: &mut [u8], place: usize, written: usize, block: &[u8])
     requires { ⌜ Enters (now image) place written (length (now block)) ⌝ }
     ensures { λ _. ⌜ ((r : Routine) (b : BasicBlock) → Entering r (now (image .entry)) place written (length (now (block .entry))) → now (block .entry) ≡ block-bytes b → now (image .exit) ≡ in-image (length (now (image .entry))) (with-blocks (insert-at place b (r .explored-blocks)) r)) ⌝ }
 {
-    let blocks = blocks_of(image);
+    let blocks = image::blocks_of(image);
     let start = blocks.start;
     let count = blocks.count;
     if count as usize <= place {
@@ -52,7 +51,7 @@ fn put_in(image: &mut [u8], place: usize, written: usize, block: &[u8])
         buffer::put_u32(image, start - 4, count + 1);
         return;
     }
-    let at = block_offset(image, place);
+    let at = image::block_offset(image, place);
     let next = walk::block_end(image, at);
     buffer::copy_at(image, written, block);
     buffer::exchange(image, at, next, written, written + block.len());
@@ -68,7 +67,7 @@ fn may_enter(image: &[u8], written: usize, block: &[u8], vip: u64, place: u32) -
     if !is_block(block, vip) {
         return false;
     }
-    let spot = find(image, Vip(vip));
+    let spot = image::find(image, Vip(vip));
     let count = spot.count;
     if spot.place < count as usize {
         return false;
@@ -112,33 +111,4 @@ pub fn undo_remove(book: Book, image: &mut [u8], journal: &mut [u8], t: Trailer)
             used: from as u64,
         },
     }
-}
-// STAND-IN
-pub struct Blocks {
-    pub start: usize,
-    pub count: u32,
-}
-
-pub struct Spot {
-    pub place: usize,
-    pub at: usize,
-    pub count: u32,
-}
-
-pub fn blocks_of(image: &[u8]) -> Blocks
-    ensures { λ r. ⌜ ((x : Routine) → Holding (now (image .entry)) x → (r .start ≡ blocks-start x) × (r .count ≡ length (x .explored-blocks))) ⌝ }
-{
-    Blocks { start: 0, count: 0 }
-}
-
-pub fn find(image: &[u8], vip: Vip) -> Spot
-    ensures { λ r. ⌜ ((x : Routine) → Holding (now (image .entry)) x → Spotted x (vip .0) r) ⌝ }
-{
-    Spot { place: 0, at: 0, count: 0 }
-}
-
-pub fn block_offset(image: &[u8], place: usize) -> usize
-    ensures { λ r. ⌜ ((x : Routine) → Holding (now (image .entry)) x → place ≤ length (x .explored-blocks) → r ≡ block-start x place) ⌝ }
-{
-    0
 }

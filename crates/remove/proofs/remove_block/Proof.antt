@@ -15,9 +15,9 @@ use Rattle.machine.specs.Book.{State, held}
 use Rattle.machine.proofs.Keeps.{weight}
 use Rattle.book.specs.Says.{state}
 use Rattle.book.specs.Holding.{block-start, Holding, Sound}
-use Rattle.remove.specs.Places.{Spotted}
+use Rattle.image.specs.Places.{Spotted}
 use Rattle.remove.specs.Leaving.{Leaving}
-use Rattle.remove.proofs.Sounds.{sound-held}
+use Rattle.image.proofs.Inspects.{sound-held, sound-holding}
 use Rattle.parts.proofs.Stands as B
 use Rattle.remove.proofs.Steps as K
 use borrow.Author.Needs.{needs}
@@ -26,7 +26,7 @@ use Rattle.remove.proofs.remove_block.Tie as tie
 use Rattle.remove.proofs.remove_block.Reads as reads
 use Rattle.remove.proofs.remove_block.Lts as lts
 use Rattle.buffer.proofs.copy_at.Reads as copy-at-reads
-use Rattle.remove.proofs.find.Reads as find-reads
+use Rattle.image.proofs.find.Reads as find-reads
 use Rattle.remove.proofs.take_out.Reads as take-out-reads
 use Rattle.trailer.proofs.put_trailer.Reads as put-trailer-reads
 use Rattle.walk.proofs.block_end.Reads as block-end-reads
@@ -45,10 +45,10 @@ abbrev b : tie.Start → BasicBlock
 b s = block-at (P s) (R s .explored-blocks)
 
 holds : (s : tie.Start) → held (L s) ≡ accepted (R s)
-holds s = sound-held (L s) (R s) (s .pre .sound)
+holds s = sound-held (s .pre .sound)
 
 holding : (s : tie.Start) → Holding (s .args .image .now) (R s)
-holding s = B.sound-holding (L s) (R s) (s .pre .sound)
+holding s = sound-holding (s .pre .sound)
 
 abbrev start : tie.After-find → tie.Start
 start c = c .before .before .before .before

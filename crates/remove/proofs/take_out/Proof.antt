@@ -17,8 +17,8 @@ use Rattle.remove.proofs.take_out.Lts as lts
 use Rattle.buffer.proofs.clear.Reads as clear-reads
 use Rattle.buffer.proofs.exchange.Reads as exchange-reads
 use Rattle.buffer.proofs.put_u32.Reads as put-u32-reads
-use Rattle.remove.proofs.block_offset.Reads as block-offset-reads
-use Rattle.remove.proofs.blocks_of.Reads as blocks-of-reads
+use Rattle.image.proofs.block_offset.Reads as block-offset-reads
+use Rattle.image.proofs.blocks_of.Reads as blocks-of-reads
 
 abbrev start : tie.After-blocks-of → tie.Start
 start c = c .before .before .before

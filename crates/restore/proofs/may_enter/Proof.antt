@@ -3,7 +3,7 @@ use Rattle.restore.proofs.may_enter.Statement.{statement}
 use Rattle.restore.proofs.may_enter.Tie as tie
 use Rattle.restore.proofs.may_enter.Reads as reads
 use Rattle.restore.proofs.may_enter.Lts as lts
-use Rattle.restore.proofs.find.Reads as find-reads
+use Rattle.image.proofs.find.Reads as find-reads
 use Rattle.restore.proofs.is_block.Reads as is-block-reads
 
 -- src/lib.rt:68:9

@@ -6,8 +6,8 @@ use Rattle.restore.proofs.put_in.Lts as lts
 use Rattle.buffer.proofs.copy_at.Reads as copy-at-reads
 use Rattle.buffer.proofs.exchange.Reads as exchange-reads
 use Rattle.buffer.proofs.put_u32.Reads as put-u32-reads
-use Rattle.restore.proofs.block_offset.Reads as block-offset-reads
-use Rattle.restore.proofs.blocks_of.Reads as blocks-of-reads
+use Rattle.image.proofs.block_offset.Reads as block-offset-reads
+use Rattle.image.proofs.blocks_of.Reads as blocks-of-reads
 use Rattle.walk.proofs.block_end.Reads as block-end-reads
 
 -- src/lib.rt:47:9
