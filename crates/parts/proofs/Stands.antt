@@ -35,7 +35,7 @@ module _ (r : Routine) (i : ℕ) (h : i < length (r .explored-blocks)) where
 
   module _ (image : List ℕ) (held : Holding image r) where
     stands : At image (block-start r i) (block-bytes here)
-    stands = block-stands image r held i h
+    stands = block-stands held i h
 
     -- the part that the code copies
     pub part-here : (at end : ℕ) → at ≡ block-start r i → end ≡ at + weight here → take (end - at) (drop at image) ≡ block-bytes here
@@ -44,4 +44,4 @@ module _ (r : Routine) (i : ℕ) (h : i < length (r .explored-blocks)) where
         rw (k, a) (ap (take (weight here)) (stands .is) ∙ take-at (block-bytes here) (stands .rest) (weight here) refl)
 
     pub end-here : (at : ℕ) → at ≡ block-start r i → blockEnd image at ≡ at + weight here
-    end-here at e = rw e (block-far image (block-start r i) here (block-holds image r held i h) stands)
+    end-here at e = rw e (block-far (block-start r i) here (block-holds held i h) stands)
