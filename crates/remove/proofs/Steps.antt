@@ -7,44 +7,26 @@ use mathlib.Core.List.{List, [], _∷_, _++_}
 use Prim.Native.Nat.{ℕ, suc, _+_, _-_, _≤_, _<_}
 use native.Mathlib.Omega.{arith}
 use lib.ListN.{length, take, drop, length-append}
-use lib.Dec.{leb, eqb}
-use borrow.Author.Tests.{le-leb, lt-leb, eqb-true, eqb-false}
+use lib.Dec.{leb}
+use borrow.Author.Tests.{le-leb, lt-leb}
 use Rattle.fields.specs.Bytes.{put}
 use Rattle.fields.specs.Parse.{choose}
 use Rattle.fields.specs.Outcome.{Outcome, refused, accepted}
 use Rattle.pod.specs.Values.{BasicBlock, Routine}
-use Rattle.pod.specs.Blocks.{vips, has}
 use Rattle.pod.specs.Written.{block-bytes}
 use Rattle.buffer.proofs.Put.{put-put}
-use Rattle.machine.specs.Edits.{present, place, remove, block-at, remove-at, with-blocks, edited}
+use Rattle.machine.specs.Edits.{place, remove, block-at, remove-at, with-blocks, edited}
 use Rattle.machine.specs.Machine.{edit, size}
 use Rattle.machine.specs.Journal.{trailer-bytes, entry}
 use Rattle.machine.specs.Book.{held, in-image, stored, edit-step, acted, step}
-use Rattle.machine.proofs.Lists.{found}
 use Rattle.machine.proofs.Keeps.{weight, removed-size}
 use Rattle.machine.proofs.Undo.{trailer-size}
 use Rattle.book.specs.Says.{state, outcome}
 use Rattle.book.specs.Holding.{block-start, Sound}
 use Rattle.book.specs.declared.Book.{Book}
 use Rattle.book.specs.declared.Answer.{Answer}
+use Rattle.parts.proofs.Places.{absent-by, present-by}
 use Rattle.trailer.specs.Says.{named}
-
--- the place of a vip says whether it is present
-pub absent-by : (v : ℕ) (bs : List BasicBlock) → length bs ≤ place v bs → present v bs ≡ false
-absent-by v bs h = go (present v bs) refl
-  where
-    go : (t : Bool) → present v bs ≡ t → present v bs ≡ false
-    go true q = absurd (omega (arith, found v bs q .within))
-    go false q = q
-
-pub present-by : (v : ℕ) (bs : List BasicBlock) → place v bs < length bs → present v bs ≡ true
-unfolding has place choose
-present-by v [] h = absurd (omega arith)
-present-by v (b ∷ bs) h = go (present-by v bs) (eqb (b .vip) v) h
-  where
-    go : (place v bs < length bs → present v bs ≡ true) → (t : Bool) → choose t 0 (suc (place v bs)) < length (b ∷ bs) → choose t true (has v (vips bs)) ≡ true
-    go f true h = refl
-    go f false h = f (omega arith)
 
 module _ (image journal : List ℕ) (book : Book) (r : Routine) (g : Sound (state image journal book) r) (q : held (state image journal book) ≡ accepted r) (v : ℕ) where
   abbrev blocks : List BasicBlock

@@ -40,8 +40,8 @@ fn is_block(s: &[u8], vip: u64) -> bool
 
 // The block goes to its place, and the one standing there goes last: it is written after the last block, and then the two change places.
 fn put_in(image: &mut [u8], place: usize, written: usize, block: &[u8])
-    requires { ⌜ Enters (now image) place written (length (now block)) ⌝ }
-    ensures { λ _. ⌜ ((r : Routine) (b : BasicBlock) → Entering r (now (image .entry)) place written (length (now (block .entry))) → now (block .entry) ≡ block-bytes b → now (image .exit) ≡ in-image (length (now (image .entry))) (with-blocks (insert-at place b (r .explored-blocks)) r)) ⌝ }
+    requires { ⌜ Enters (now image) place written (now block) ⌝ }
+    ensures { λ _. ⌜ ((r : Routine) (b : BasicBlock) → Entering r (now (image .entry)) place written (now (block .entry)) → now (block .entry) ≡ block-bytes b → now (image .exit) ≡ in-image (length (now (image .entry))) (with-blocks (insert-at place b (r .explored-blocks)) r)) ⌝ }
 {
     let blocks = image::blocks_of(image);
     let start = blocks.start;
