@@ -1,19 +1,15 @@
 -- A block that leaves or enters the list of blocks at a place, over the list's parts: the blocks before the place, the block, those between, and the
--- last; and what the place of a vip says. By going to the place.
+-- last. By going to the place.
 -- Assumes nothing.
 use mathlib.Core.Path.{_≡_, refl, sym, ap, _∙_}
-use mathlib.Core.Bool.{Bool, true, false}
 use mathlib.Core.List.{List, [], _∷_, _++_, append-assoc}
 use Prim.Native.Nat.{ℕ, zero, suc, _+_, _-_, _≤_, _<_}
 use native.Mathlib.Omega.{arith}
 use lib.ListN.{length, take, drop, length-append, length-drop}
 use lib.Seq.{split-at, take-at, length-take-le}
-use lib.Dec.{eqb}
-use Rattle.fields.specs.Parse.{choose}
 use Rattle.pod.specs.Values.{BasicBlock}
-use Rattle.pod.specs.Blocks.{vips, has}
-use Rattle.machine.specs.Edits.{present, place, empty-block, block-at, last-of, but-last, remove-at, insert-at}
-use Rattle.machine.proofs.Lists.{total, total-snoc, but-last-snoc, snoc-but-last, snoc-last, found}
+use Rattle.machine.specs.Edits.{empty-block, block-at, last-of, but-last, remove-at, insert-at}
+use Rattle.machine.proofs.Lists.{total, total-snoc, but-last-snoc, snoc-but-last, snoc-last}
 
 -- the last block goes
 pub remove-end : (p : List BasicBlock) (b : BasicBlock) → remove-at (length p) (p ++ (b ∷ [])) ≡ p
@@ -71,20 +67,3 @@ but-end i bs w =
     let q : bs ≡ f ++ (w .end ∷ []) = w .is ∙ sym (append-assoc (take i bs) (block-at i bs ∷ w .middle) (w .end ∷ [])) in
     let n : length f ≡ length bs - 1 = omega (arith, ap length q, length-append f (w .end ∷ [])) in
     ap (take (length bs - 1)) q ∙ take-at f (w .end ∷ []) (length bs - 1) n
-
--- the place of a vip says whether it is present
-pub absent-by : (v : ℕ) (bs : List BasicBlock) → length bs ≤ place v bs → present v bs ≡ false
-absent-by v bs h = go (present v bs) refl
-  where
-    go : (t : Bool) → present v bs ≡ t → present v bs ≡ false
-    go true q = absurd (omega (arith, found v bs q .within))
-    go false q = q
-
-pub present-by : (v : ℕ) (bs : List BasicBlock) → place v bs < length bs → present v bs ≡ true
-unfolding has place choose
-present-by v [] h = absurd (omega arith)
-present-by v (b ∷ bs) h = go (present-by v bs) (eqb (b .vip) v) h
-  where
-    go : (place v bs < length bs → present v bs ≡ true) → (t : Bool) → choose t 0 (suc (place v bs)) < length (b ∷ bs) → choose t true (has v (vips bs)) ≡ true
-    go f true h = refl
-    go f false h = f (omega arith)

@@ -19,7 +19,7 @@ use Rattle.walk.specs.Ends.{word}
 use Rattle.walk.proofs.Same.{block-vip}
 use Rattle.machine.specs.Edits.{present, place}
 use Rattle.machine.specs.Machine.{size}
-use Rattle.parts.proofs.Places.{absent-by, present-by}
+use Rattle.edits.proofs.Steps.{present-before, absent-after}
 use Rattle.restore.specs.Blocks.{fits-block, is-block, may-enter}
 
 module _ (v : ℕ) (s : List ℕ) where
@@ -64,15 +64,15 @@ module _ (N : ℕ) (r : Routine) (v i : ℕ) (s : List ℕ) where
   module _ (b : is-block v s ≡ true) where
     pub vip-there : place v (r .explored-blocks) < length (r .explored-blocks) → false ≡ may-enter N r v i s
     unfolding may-enter
-    vip-there h = rw (b, present-by v (r .explored-blocks) h)
+    vip-there h = rw (b, present-before v (r .explored-blocks) h)
 
     module _ (a : length (r .explored-blocks) ≤ place v (r .explored-blocks)) where
       pub no-place : length (r .explored-blocks) < i → false ≡ may-enter N r v i s
       unfolding may-enter
-      no-place h = rw (b, absent-by v (r .explored-blocks) a, lt-leb i (length (r .explored-blocks)) h)
+      no-place h = rw (b, absent-after v (r .explored-blocks) a, lt-leb i (length (r .explored-blocks)) h)
 
       pub by-room : i ≤ length (r .explored-blocks) → (w : ℕ) → w ≡ size r → w ≤ N → leb (length s) (N - w) ≡ may-enter N r v i s
       unfolding may-enter
       by-room h w e l =
-          rw (b, absent-by v (r .explored-blocks) a, le-leb i (length (r .explored-blocks)) h)
+          rw (b, absent-after v (r .explored-blocks) a, le-leb i (length (r .explored-blocks)) h)
           (leb-sub _ _ _ l ∙ ap (λ (k : ℕ). leb (k + length s) N) e)

@@ -13,7 +13,7 @@ ghost use Rattle.machine.specs.Book.{in-image, restored};
 ghost use Rattle.book.specs.Says.{state, outcome};
 ghost use Rattle.book.specs.Holding.{Holding, Sound};
 ghost use Rattle.trailer.specs.Says.{trailer-of};
-ghost use Rattle.restore.specs.Held.{Held};
+ghost use Rattle.edits.specs.Held.{Held};
 ghost use Rattle.restore.specs.Blocks.{is-block, may-enter};
 ghost use Rattle.restore.specs.Entering.{Entering, Enters};
 use book::Answer;
