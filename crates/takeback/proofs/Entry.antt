@@ -1,17 +1,14 @@
 -- What taking back is, by the tests that the code makes: nothing is used, less than a trailer is used, or the trailer that ends the used part says
 -- the kind. The trailer is read the same from the used part and from the whole journal.
 -- Assumes nothing.
-use mathlib.Core.Path.{_≡_, refl, sym, ap, _∙_}
-use mathlib.Core.Bool.{true, false}
+use mathlib.Core.Path.{_≡_, ap, _∙_}
 use mathlib.Core.List.{List}
 use Prim.Native.Nat.{ℕ, _+_, _-_, _≤_, _<_}
 use native.Mathlib.Omega.{arith}
 use lib.ListN.{length, take}
 use lib.Seq.{length-take-le}
-use lib.Dec.{leb, eqb}
 use borrow.Author.Tests.{eq-eqb, ne-eqb, lt-leb}
 use Rattle.fields.specs.Parse.{ok, choose}
-use Rattle.fields.specs.Outcome.{Outcome, refused, accepted}
 use Rattle.pod.specs.Values.{Routine}
 use Rattle.machine.specs.Machine.{undo}
 use Rattle.machine.specs.Journal.{Trailer, trailer, undo-create, undo-remove, undo-append, undo-entry, undone}
@@ -19,7 +16,6 @@ use Rattle.machine.specs.Book.{State, restored, undo-step, acted, step}
 use Rattle.book.specs.Says.{state, outcome}
 use Rattle.book.specs.Holding.{Sound}
 use Rattle.book.specs.declared.Book.{Book}
-use Rattle.book.specs.declared.Answer.{Answer}
 use Rattle.image.proofs.Inspects.{sound-held}
 use Rattle.trailer.proofs.Trailers.{undone-by}
 

@@ -4,7 +4,7 @@
 use mathlib.Core.Path.{_≡_, sym, ap, _∙_}
 use mathlib.Core.Bool.{true}
 use mathlib.Core.List.{List}
-use Prim.Native.Nat.{ℕ, _+_, _-_, _≤_, _<_}
+use Prim.Native.Nat.{ℕ, _-_, _≤_}
 use native.Mathlib.Omega.{arith}
 use lib.ListN.{length, take}
 use borrow.Author.Tests.{not-true, not-false}
@@ -23,11 +23,6 @@ use Rattle.restore.proofs.Entries as K
 use borrow.Author.Needs.{needs}
 use Rattle.restore.proofs.undo_remove.Statement.{statement}
 use Rattle.restore.proofs.undo_remove.Tie as tie
-use Rattle.restore.proofs.undo_remove.Reads as reads
-use Rattle.restore.proofs.undo_remove.Lts as lts
-use Rattle.buffer.proofs.clear.Reads as clear-reads
-use Rattle.restore.proofs.may_enter.Reads as may-enter-reads
-use Rattle.restore.proofs.put_in.Reads as put-in-reads
 
 abbrev L : tie.Start → State
 L s = state (s .args .image .now) (s .args .journal .now) (s .args .book)

@@ -11,12 +11,6 @@ use Rattle.takeback.proofs.Entry as K
 use borrow.Author.Needs.{needs}
 use Rattle.takeback.proofs.undo.Statement.{statement}
 use Rattle.takeback.proofs.undo.Tie as tie
-use Rattle.takeback.proofs.undo.Reads as reads
-use Rattle.takeback.proofs.undo.Lts as lts
-use Rattle.restore.proofs.undo_remove.Reads as undo-remove-reads
-use Rattle.takeback.proofs.undo_append.Reads as undo-append-reads
-use Rattle.takeback.proofs.undo_create.Reads as undo-create-reads
-use Rattle.trailer.proofs.read_trailer.Reads as read-trailer-reads
 
 abbrev L : tie.Start → State
 L s = state (s .args .image .now) (s .args .journal .now) (s .args .book)
