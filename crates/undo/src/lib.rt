@@ -1,4 +1,4 @@
-// Taking back a create and an append, from the trailer of the journal's last entry.
+// Taking back a create and an append, from the trailer of the journal's last entry, which is all of that entry.
 //
 // Each function has a `requires` that the state is sound, or that an image holds a block: they are for the crate above, whose call inspects the lent
 // image and the book first, and reads the trailer.
@@ -18,12 +18,6 @@ ghost use Rattle.edits.specs.Held.{Held};
 use book::Answer;
 use book::Book;
 use trailer::Trailer;
-
-// What the entry of a create or an append takes of the journal.
-const COST: usize = 20;
-
-// Where the count of its instructions stands in a block.
-const COUNT_AT: usize = 24;
 
 // Whether the block at `at` is as create left it: no list has an element, and the fields before them but the vip are 0. Where a list is empty, the
 // count of the next follows its own.
@@ -86,12 +80,12 @@ pub fn undo_create(book: Book, image: &mut [u8], journal: &mut [u8], last: Trail
     }
     buffer::clear(image, at, written);
     buffer::put_u32(image, start - 4, place);
-    buffer::clear(journal, used - COST, used);
+    buffer::clear(journal, used - trailer::TRAILER_SIZE, used);
     Answer {
         refusal: 0,
         book: Book {
             written: at as u64,
-            used: (used - COST) as u64,
+            used: (used - trailer::TRAILER_SIZE) as u64,
         },
     }
 }
@@ -119,7 +113,7 @@ pub fn undo_append(book: Book, image: &mut [u8], journal: &mut [u8], last: Trail
             book,
         };
     }
-    let count = walk::word32(image, at + COUNT_AT);
+    let count = walk::word32(image, at + edits::COUNT_AT);
     if count == 0 {
         return Answer {
             refusal: book::SPOILED_BOOK,
@@ -136,13 +130,13 @@ pub fn undo_append(book: Book, image: &mut [u8], journal: &mut [u8], last: Trail
     }
     buffer::move_within(image, end, from, written - end);
     buffer::clear(image, written - size, written);
-    buffer::put_u32(image, at + COUNT_AT, count - 1);
-    buffer::clear(journal, used - COST, used);
+    buffer::put_u32(image, at + edits::COUNT_AT, count - 1);
+    buffer::clear(journal, used - trailer::TRAILER_SIZE, used);
     Answer {
         refusal: 0,
         book: Book {
             written: (written - size) as u64,
-            used: (used - COST) as u64,
+            used: (used - trailer::TRAILER_SIZE) as u64,
         },
     }
 }

@@ -1,8 +1,8 @@
 -- `undo::undo_append` meets its contract: each answer is one law of taking back an append, with what the image's readers tell of the routine held.
 -- Assumes nothing.
-use mathlib.Core.Path.{_≡_, refl, sym, ap, ap₂, _∙_}
+use mathlib.Core.Path.{_≡_, sym, ap, ap₂, _∙_}
 use native.Mathlib.Omega.{arith}
-use Prim.Native.Nat.{ℕ, _+_, _-_, _≤_, _<_}
+use Prim.Native.Nat.{_+_, _-_, _≤_, _<_}
 use lib.ListN.{length, take}
 use lib.Seq.{take-length}
 use Rattle.fields.specs.Parse.{choose}
@@ -27,17 +27,6 @@ use Rattle.undo.proofs.Unappends as U
 use borrow.Author.Needs.{needs}
 use Rattle.undo.proofs.undo_append.Statement.{statement}
 use Rattle.undo.proofs.undo_append.Tie as tie
-use Rattle.undo.proofs.undo_append.Reads as reads
-use Rattle.undo.proofs.undo_append.Lts as lts
-use Rattle.buffer.proofs.clear.Reads as clear-reads
-use Rattle.buffer.proofs.move_within.Reads as move-within-reads
-use Rattle.buffer.proofs.put_u32.Reads as put-u32-reads
-use Rattle.image.proofs.block_offset.Reads as block-offset-reads
-use Rattle.image.proofs.blocks_of.Reads as blocks-of-reads
-use Rattle.image.proofs.instruction_offset.Reads as instruction-offset-reads
-use Rattle.image.proofs.instructions_end.Reads as instructions-end-reads
-use Rattle.walk.proofs.word32.Reads as word32-reads
-use Rattle.walk.proofs.word64.Reads as word64-reads
 
 -- the state at entry, the routine that it holds, the trailer, and the block at its place
 abbrev S : tie.Start → State
