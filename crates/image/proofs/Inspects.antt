@@ -4,15 +4,12 @@
 use mathlib.Core.Path.{_≡_, refl, sym, ap, ap₂, _∙_}
 use mathlib.Core.Bool.{Bool, true, false, _&&_}
 use mathlib.Core.List.{List, [], _∷_, _++_, append-nil}
-use Prim.Native.Nat.{ℕ, zero, suc, _+_, _-_, _≤_, _<_}
-use native.Mathlib.Nat.{zero-add}
+use Prim.Native.Nat.{ℕ, zero, suc, _-_, _≤_, _<_}
 use native.Mathlib.Omega.{arith}
-use lib.Dec.{leb, eqb}
-use lib.ListN.{length, take, drop, getD, length-take, length-append, take-append-drop}
+use lib.Dec.{leb}
+use lib.ListN.{length, take, drop, length-take, take-append-drop}
 use lib.Seq.{take-at, drop-at}
-use mir.Syntax.{w8}
-use mir.Val.{Fits}
-use borrow.Author.Tests.{le-leb, lt-leb, leb-true, leb-false, eq-eqb, eqb-true}
+use borrow.Author.Tests.{le-leb, lt-leb, leb-true, eq-eqb, eqb-true}
 use Rattle.fields.specs.Bytes.{zeros}
 use Rattle.fields.specs.Parse.{Res, ok, no, choose, span}
 use Rattle.fields.specs.Outcome.{Outcome, refused, accepted}
@@ -20,9 +17,8 @@ use Rattle.fields.proofs.Le.{Bytes}
 use Rattle.op.specs.Ops.{same}
 use Rattle.op.proofs.Same.{same-yes, same-eq, same-no}
 use Rattle.pod.specs.Values.{Routine}
-use Rattle.pod.specs.Layout.{routine, read-file, as-written, as-it-comes}
+use Rattle.pod.specs.Layout.{routine, read-file, as-written}
 use Rattle.pod.specs.Written.{routine-bytes}
-use Rattle.laws.specs.Holds.{Routine-holds}
 use Rattle.laws.proofs.At.{At}
 use Rattle.laws.proofs.Layouts.{routine-layout, read-holds, read-to, read-all, exact-whole, exact-lenient, lenient-exact}
 use Rattle.machine.specs.Machine.{size}

@@ -1,9 +1,9 @@
 -- The search for a block: the walk stands at the beginning of block i, and none of the blocks before it has the vip. At the block with the vip, and at
 -- the end, that is what is looked for.
 -- Assumes nothing.
-use mathlib.Core.Path.{_≡_, refl, sym, ap, _∙_}
-use mathlib.Core.List.{List, [], _∷_}
-use Prim.Native.Nat.{ℕ, suc, _+_, _≤_, _<_}
+use mathlib.Core.Path.{_≡_, sym, ap, _∙_}
+use mathlib.Core.List.{List, []}
+use Prim.Native.Nat.{ℕ, suc, _+_, _<_}
 use native.Mathlib.Nat.{add-zero}
 use native.Mathlib.Numerals.{add-one}
 use native.Mathlib.Omega.{arith}
@@ -11,8 +11,8 @@ use lib.ListN.{length, drop, drop-of-length-le}
 use lib.Seq.{drop-cons}
 use borrow.Author.Tests.{eq-eqb, ne-eqb}
 use Rattle.fields.specs.Parse.{choose}
-use Rattle.pod.specs.Values.{BasicBlock, Routine}
-use Rattle.pod.specs.Written.{many-bytes, block-bytes}
+use Rattle.pod.specs.Values.{Routine}
+use Rattle.pod.specs.Written.{many-bytes}
 use Rattle.machine.specs.Edits.{place, block-at, empty-block}
 use Rattle.book.specs.Holding.{Holding, blocks-start, block-start}
 use Rattle.walk.specs.Ends.{word, blockEnd}

@@ -1,15 +1,15 @@
 -- Where the parts of a routine stand in an image that holds it, and that the walk comes there: a written form is taken apart, and of each part that
 -- stands in the image the walk finds the end, since the part is read there.
 -- Assumes nothing.
-use mathlib.Core.Path.{_≡_, refl, sym, ap, subst, _∙_}
+use mathlib.Core.Path.{_≡_, sym, ap, _∙_}
 use mathlib.Core.List.{List, [], _∷_, _++_}
 use mathlib.Core.Bool.{false}
 use Prim.Native.Nat.{ℕ, zero, suc, _+_, _*_, _-_, _^_, _≤_, _<_}
 use native.Mathlib.Nat.{add-zero, zero-add, le-of-suc-le-suc}
 use native.Mathlib.Omega.{arith}
 use lib.ListN.{length, take, drop, getD, length-append}
-use lib.Seq.{take-suc, drop-cons, take-length}
-use Rattle.laws.specs.Holds.{Each, Convention-holds, Block-holds, Instruction-holds, Routine-holds}
+use lib.Seq.{take-suc, take-length}
+use Rattle.laws.specs.Holds.{Each, Convention-holds, Block-holds, Instruction-holds}
 use Rattle.laws.proofs.At.{At, fits, left, right}
 use Rattle.laws.proofs.Back.{length-bytes, uint-reads}
 use Rattle.laws.proofs.Layouts.{convention-layout, block-layout, instruction-layout}

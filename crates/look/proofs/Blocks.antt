@@ -1,7 +1,7 @@
 -- What the looks at a block read is what stands there: each field of the block's head, its counts, its instructions and its vips.
 -- Assumes nothing.
-use mathlib.Core.Path.{_≡_, refl, sym, ap, ap₂, _∙_}
-use mathlib.Core.Bool.{Bool, true, false}
+use mathlib.Core.Path.{_≡_, refl, sym, ap, _∙_}
+use mathlib.Core.Bool.{false}
 use mathlib.Core.List.{List, [], _++_}
 use Prim.Native.Nat.{ℕ, zero, suc, _+_, _*_, _-_, _≤_, _<_}
 use native.Mathlib.Omega.{arith}
@@ -12,8 +12,8 @@ use mir.Syntax.{w64}
 use mir.Val.{toZ, ofZ}
 use mir.ValLaws.{toZ-ofZ, ofZ-fits}
 use borrow.Author.Tests.{ne-eqb}
-use Rattle.fields.specs.Outcome.{Outcome, refused, accepted, after}
-use Rattle.fields.specs.Parse.{ok, choose, int, u64}
+use Rattle.fields.specs.Outcome.{refused, accepted, after}
+use Rattle.fields.specs.Parse.{choose, int, u64}
 use Rattle.pod.specs.Values.{Instruction, BasicBlock, Routine}
 use Rattle.pod.specs.Layout.{instruction, as-it-comes}
 use Rattle.pod.specs.Written.{bytes, block-bytes, block-head-bytes, instruction-bytes, many-bytes, counted-bytes}

@@ -1,13 +1,13 @@
 -- The element at a place of a list: it is there below the list's length, and is 15 from there on; and where it stands in a counted list whose
 -- elements all have the same size.
 -- Assumes nothing.
-use mathlib.Core.Path.{_≡_, refl, sym, ap, _∙_}
+use mathlib.Core.Path.{_≡_, refl, ap, _∙_}
 use mathlib.Core.List.{List, [], _∷_}
 use Prim.Native.Nat.{ℕ, zero, suc, _+_, _*_, _≤_, _<_}
 use native.Mathlib.Nat.{not-suc-le-zero, le-of-suc-le-suc}
 use native.Mathlib.Omega.{arith}
 use lib.ListN.{length, getD, take, length-take}
-use Rattle.fields.specs.Outcome.{Outcome, refused, accepted}
+use Rattle.fields.specs.Outcome.{refused, accepted}
 use Rattle.pod.specs.Written.{bytes, many-bytes, counted-bytes}
 use Rattle.laws.proofs.At.{At, left, right}
 use Rattle.laws.proofs.Back.{length-bytes}

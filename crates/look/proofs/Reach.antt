@@ -2,7 +2,6 @@
 -- Assumes nothing.
 use mathlib.Core.Path.{_≡_, refl, sym, ap, _∙_}
 use mathlib.Core.Bool.{Bool, true, false}
-use mathlib.Core.List.{List}
 use Prim.Native.Nat.{ℕ, _+_, _≤_, _<_}
 use native.Mathlib.Omega.{arith}
 use lib.Dec.{leb}
@@ -18,7 +17,7 @@ use Rattle.laws.specs.Holds.{Block-holds}
 use Rattle.laws.proofs.At.{At}
 use Rattle.machine.specs.Edits.{block-at, empty-block}
 use Rattle.machine.specs.Book.{State, held}
-use Rattle.machine.specs.Look.{element, look-block}
+use Rattle.machine.specs.Look.{look-block}
 use Rattle.book.specs.Says.{refusal-of}
 use Rattle.book.specs.Holding.{Holding, blocks-start, block-start}
 use Rattle.walk.specs.Ends.{times, blockEnd}
@@ -29,10 +28,10 @@ use Rattle.look.specs.declared.Reached.{Reached}
 use Rattle.look.proofs.Elements.{element-is, element-no}
 
 -- a routine is held, and no refusal
-never : {o : Outcome Routine} {x : Routine} {k : ℕ} → o ≡ accepted x → o ≡ refused k → ⊥
+pub never : {o : Outcome Routine} {x : Routine} {k : ℕ} → o ≡ accepted x → o ≡ refused k → ⊥
 never p q = let z : _≡_ {A = ℕ} 0 1 = cc in omega arith
 
-one : {o : Outcome Routine} {x y : Routine} → o ≡ accepted x → o ≡ accepted y → x ≡ y
+pub one : {o : Outcome Routine} {x y : Routine} → o ≡ accepted x → o ≡ accepted y → x ≡ y
 one p q = cc
 
 module _ (s : State) (i : ℕ) where

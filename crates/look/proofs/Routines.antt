@@ -1,14 +1,13 @@
 -- What the look at a routine reads is what stands there.
 -- Assumes nothing.
-use mathlib.Core.Path.{_≡_, refl, sym, ap, _∙_}
-use mathlib.Core.List.{List, []}
-use Prim.Native.Nat.{ℕ, _+_, _%_, _≤_, _<_}
+use mathlib.Core.Path.{_≡_, sym, ap, _∙_}
+use mathlib.Core.List.{[]}
+use Prim.Native.Nat.{ℕ, _%_, _<_}
 use native.Mathlib.Omega.{arith}
 use lib.ListN.{length, getD}
 use Rattle.fields.specs.Outcome.{refused}
-use Rattle.pod.specs.Values.{Routine}
 use Rattle.pod.specs.Written.{bytes}
-use Rattle.laws.proofs.At.{At, fits, first}
+use Rattle.laws.proofs.At.{fits, first}
 use Rattle.laws.proofs.Back.{length-bytes}
 use Rattle.machine.specs.Book.{State, held}
 use Rattle.book.specs.Says.{refusal-of}

@@ -1,6 +1,5 @@
 -- What the answers say: refusal 0 and what was looked at, or the refusal's number and zeros.
 use Prim.Native.Nat.{ℕ}
-use mathlib.Core.List.{List}
 use lib.ListN.{length}
 use lib.IntN.{pos}
 use Rattle.fields.specs.Outcome.{Outcome, refused, accepted}

@@ -1,6 +1,6 @@
 -- The walk stands at the beginning of block i, and no block before it has the vip. The measure is how many blocks are left.
-use mathlib.Core.Path.{_≡_, refl}
-use Prim.Native.Nat.{ℕ, _-_, _≤_, _<_}
+use mathlib.Core.Path.{refl}
+use Prim.Native.Nat.{_-_, _≤_, _<_}
 use native.Mathlib.Omega.{arith}
 use lib.ListN.{length}
 use Rattle.pod.specs.Values.{Routine}

@@ -1,8 +1,8 @@
 -- Each answer by the law of its test: 10 for each lending, 13 for each length, for what is no routine and for what is not 0 after it.
-use mathlib.Core.Path.{_≡_, refl, sym, _∙_}
-use mathlib.Core.Bool.{true, false}
+use mathlib.Core.Path.{_≡_, sym, _∙_}
+use mathlib.Core.Bool.{true}
 use native.Mathlib.Omega.{arith}
-use lib.ListN.{length, take, drop, length-take}
+use lib.ListN.{take, length-take}
 use Rattle.machine.specs.Book.{State}
 use Rattle.book.specs.Says.{state}
 use Rattle.image.specs.Places.{is-routine}

@@ -1,6 +1,5 @@
 -- A refusal is that of reaching the block; then 15 by the list and by its count; else the vip that stands there is read.
 use mathlib.Core.Path.{_≡_, _∙_}
-use native.Mathlib.Omega.{arith}
 use Rattle.machine.specs.Book.{State}
 use Rattle.book.specs.Says.{state}
 use Rattle.look.specs.Reached.{vips-start}

@@ -1,0 +1,3 @@
+pub mod Registers
+pub mod Reach
+pub mod Conventions
