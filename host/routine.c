@@ -1,5 +1,5 @@
 /* routine: the command for VTIL routine files. It finds the subcommand; each has its own file. */
-#define _POSIX_C_SOURCE 200809L
+#define _XOPEN_SOURCE 700
 
 #include <ctype.h>
 #include <errno.h>
@@ -285,8 +285,9 @@ int main(int argc, char **argv)
 {
     if (!guard_streams())
         return TROUBLE;
-    /* A closed pipe then fails the write, which is reported, instead of ending the process silently. */
+    /* A closed pipe or a file over the user's limit then fails the write, which is reported, instead of ending the process. */
     signal(SIGPIPE, SIG_IGN);
+    signal(SIGXFSZ, SIG_IGN);
     enum status status = run(argc, argv);
     return (int)worse(status, finish_output());
 }
