@@ -1,6 +1,6 @@
 #include "operations.h"
 
-/* By number. host/tests/operations.sh holds this table to the library's. */
+/* By number. host/tests/format.sh holds this table to the library's. */
 static const char *const names[] = {
     "mov",  "movsx",  "str",    "ldd",    "neg",  "add",   "sub",   "mul",   "mulhi",  "imul",
     "imulhi", "div",  "rem",    "idiv",   "irem", "popcnt", "bsf",  "bsr",   "not",    "shr",

@@ -53,7 +53,7 @@ left_out() {
 }
 
 run bash host/tests/samples.sh
-run bash host/tests/operations.sh
+run bash host/tests/format.sh
 run bash host/tests/header.sh "$LIB" "$scratch/header"
 build_guard guard
 run "$scratch/guard" samples/*.vtil

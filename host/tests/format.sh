@@ -1,8 +1,8 @@
 #!/usr/bin/env bash
-# The command's table of operation names and the page on the format say what the library does.
-# The current folder is the repository root.
+# The command's table of operation names is the library's, and docs/FORMAT.md says what is so: its table of
+# operations, and the bytes of its example. The current folder is the repository root.
 set -u
-script=operations
+script=format
 . host/tests/count.sh
 
 # The library's names, one a line, out of its constant table: six bytes for each, with zeros after it.
@@ -34,6 +34,22 @@ library_rows() {
     paste -d ' ' <(seq 0 48) <(library_names) <(library_counts)
 }
 
+# The rows of the example: | offset | `bytes` | .., as lines of offset and bytes in hexadecimal.
+example_rows() {
+    sed -n 's/^| *\([0-9][0-9]*\) *| *`\([0-9a-f][0-9a-f]\( [0-9a-fx]*\)*\)` *|.*/\1 \2/p' docs/FORMAT.md |
+        awk '$3 == "x" { line = $1; for (i = 0; i < $4; i++) line = line " " $2; print line; next } { print }'
+}
+
+# The example's bytes, and whether each row's offset is where the row before it ends.
+example_bytes() {
+    example_rows | awk '$1 != at { print "a row at " $1 " where " at + 0 " is due" }
+        { for (i = 2; i <= NF; i++) { print $i; at++ } }'
+}
+
+sample_bytes() {
+    od -An -v -tx1 -w1 samples/odd-flags.vtil | tr -d ' '
+}
+
 # same NAME A B: two lists of 49 lines are the same.
 same() {
     if [ "$(wc -l <<<"$2")" = 49 ] && diff <(echo "$2") <(echo "$3"); then pass "$1"; else fail "$1"; fi
@@ -41,4 +57,6 @@ same() {
 
 same "the command's 49 names are the library's" "$(library_names)" "$(command_names)"
 same "the 49 operations of docs/FORMAT.md are the library's" "$(library_rows)" "$(page_rows)"
+name="the example of docs/FORMAT.md is samples/odd-flags.vtil"
+if diff <(example_bytes) <(sample_bytes); then pass "$name"; else fail "$name"; fi
 finish
