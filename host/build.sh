@@ -63,7 +63,7 @@ has_edits() {
 build_routine() {
     local sources=(host/{check,file,routine,words}.c) without=()
     if has_books; then
-        sources+=(host/{book,json,normalize,operations,output,pages,same,show,text}.c)
+        sources+=(host/{book,json,normalize,operations,output,pages,parts,same,show,text}.c)
     else
         without+=(-DROUTINE_WITHOUT_BOOKS)
     fi

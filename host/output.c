@@ -141,9 +141,14 @@ static const char *replace(const char *path, const struct stat *old, const uint8
     return problem;
 }
 
-/* Through a symbolic link the file that it leads to is replaced, and the link stays. */
+/*
+ * Through a symbolic link the file that it leads to is replaced, and the link stays.
+ * What the user may not write is not replaced either, though its folder would allow it.
+ */
 static const char *replace_existing(const char *path, const struct stat *old, const uint8_t *bytes, size_t len)
 {
+    if (access(path, W_OK) != 0)
+        return strerror(errno);
     char *real = realpath(path, NULL);
     if (real == NULL)
         return strerror(errno);

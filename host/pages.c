@@ -3,91 +3,117 @@
 #include <stdlib.h>
 #include <string.h>
 
-/* Header, entry vip, two empty conventions and two counts: the smallest routine. */
-#define SMALLEST 114
+#include "parts.h"
 
-/* A routine of one block, up to that block: machine 2, all else 0 but the number of blocks. */
-static const uint8_t before_block[SMALLEST] = {
-    [0] = 'V', [1] = 'T', [2] = 'I', [3] = 'L', [4] = 2, [6] = 0xad, [7] = 0xde, [SMALLEST - 4] = 1,
-};
+#define EMPTY_CONVENTION 45
 
-static uint64_t registers(const vtil_convention_look *look)
+bool pages_start(struct pages *pages, size_t len)
 {
-    return look->volatile_registers + look->param_registers + look->retval_registers;
-}
-
-/* Where the first block begins: after header, entry vip, the conventions, and two counts. */
-static uint64_t find_blocks(const struct book *book, size_t *at)
-{
-    vtil_routine_look routine =
-        vtil_routine(book->numbers, book->image, book->image_len, book->journal, book->journal_len);
-    if (routine.refusal != 0)
-        return routine.refusal;
-    *at = 8 + 8 + 4 + 4;
-    for (uint64_t i = 0; i < 2 + routine.spec_conventions; i++) {
-        vtil_convention_look look =
-            vtil_convention(book->numbers, book->image, book->image_len, book->journal, book->journal_len, i);
-        if (look.refusal != 0)
-            return look.refusal;
-        *at += 45 + 24 * registers(&look);
-    }
-    return 0;
-}
-
-uint64_t pages_start(const struct book *book, struct pages *out)
-{
-    out->len = (size_t)book->numbers.written;
-    out->bytes = malloc(out->len);
-    out->image = malloc(out->len);
-    if (out->bytes == NULL || out->image == NULL)
-        return VTIL_IMAGE_FULL;
-    memcpy(out->bytes, book->image, out->len);
-    uint64_t refusal = find_blocks(book, &out->blocks);
-    out->at = out->blocks;
-    return refusal;
-}
-
-/* Opens the first `len` bytes at `bytes`. */
-static uint64_t open_page(struct pages *pages, const uint8_t *bytes, size_t len, struct book *page)
-{
-    vtil_answer answer = vtil_open(bytes, len, pages->image, len, NULL, 0);
-    page->image = pages->image;
-    page->image_len = len;
-    page->journal = NULL;
-    page->journal_len = 0;
-    page->numbers = answer.book;
-    return answer.refusal;
-}
-
-uint64_t pages_front(struct pages *pages, struct book *page)
-{
-    if (pages->blocks > pages->len)
-        return VTIL_SPOILED_BOOK;
-    memset(pages->bytes + pages->blocks - 4, 0, 4); /* no blocks */
-    return open_page(pages, pages->bytes, pages->blocks, page);
-}
-
-uint64_t pages_block(struct pages *pages, struct book *page)
-{
-    if (pages->at > pages->len)
-        return VTIL_SPOILED_BOOK;
-    uint8_t *from = pages->bytes + pages->at - SMALLEST;
-    memcpy(from, before_block, SMALLEST);
-    /* Bytes after a routine are ignored, so the check finds where the block ends. */
-    int64_t len = vtil_check(from, pages->len - pages->at + SMALLEST);
-    if (len < 0)
-        return (uint64_t)-len;
-    pages->at += (size_t)len - SMALLEST;
-    return open_page(pages, from, (size_t)len, page);
+    /* A page has at most the part, an empty routine and an empty block. */
+    pages->room = len + 200;
+    pages->file = malloc(pages->room);
+    pages->book = (struct book){.image = malloc(pages->room)};
+    return pages->file != NULL && pages->book.image != NULL;
 }
 
 void pages_free(struct pages *pages)
 {
-    free(pages->bytes);
-    free(pages->image);
+    free(pages->file);
+    free(pages->book.image);
 }
 
-const char *pages_problem(uint64_t refusal)
+static void put_bytes(struct pages *pages, const uint8_t *bytes, size_t len)
 {
-    return refusal == VTIL_IMAGE_FULL ? "too large for memory" : "a part of it could not be opened";
+    memcpy(pages->file + pages->len, bytes, len);
+    pages->len += len;
+}
+
+static void put_zeros(struct pages *pages, size_t len)
+{
+    memset(pages->file + pages->len, 0, len);
+    pages->len += len;
+}
+
+static void put_count(struct pages *pages, size_t count)
+{
+    const uint8_t bytes[COUNT_SIZE] = {(uint8_t)count, (uint8_t)(count >> 8), (uint8_t)(count >> 16), (uint8_t)(count >> 24)};
+    put_bytes(pages, bytes, sizeof bytes);
+}
+
+/* Header and entry vip. */
+static void begin_page(struct pages *pages)
+{
+    static const uint8_t header[8] = {'V', 'T', 'I', 'L', 2, 0, 0xad, 0xde};
+    pages->len = 0;
+    put_bytes(pages, header, sizeof header);
+    put_zeros(pages, 8);
+}
+
+static void begin_block_page(struct pages *pages)
+{
+    begin_page(pages);
+    put_zeros(pages, 2 * EMPTY_CONVENTION + COUNT_SIZE);
+    put_count(pages, 1);
+}
+
+/* A page that is more or less than one routine would show something else than the part. */
+static uint64_t open_page(struct pages *pages)
+{
+    struct book *book = &pages->book;
+    book->image_len = pages->len;
+    vtil_answer answer = vtil_open(pages->file, pages->len, book->image, book->image_len, NULL, 0);
+    book->numbers = answer.book;
+    if (answer.refusal == 0 && answer.book.written != pages->len)
+        return VTIL_LEFTOVER;
+    return answer.refusal;
+}
+
+/* The subroutine's convention, and no special conventions and blocks. */
+static uint64_t open_convention_page(struct pages *pages)
+{
+    put_zeros(pages, EMPTY_CONVENTION + 2 * COUNT_SIZE);
+    return open_page(pages);
+}
+
+uint64_t open_convention(struct pages *pages, const uint8_t *bytes, size_t len)
+{
+    begin_page(pages);
+    put_bytes(pages, bytes, len);
+    return open_convention_page(pages);
+}
+
+uint64_t open_registers(struct pages *pages, const uint8_t *bytes, size_t len, size_t count)
+{
+    begin_page(pages);
+    put_count(pages, count);
+    put_bytes(pages, bytes, len);
+    put_zeros(pages, EMPTY_CONVENTION - COUNT_SIZE);
+    return open_convention_page(pages);
+}
+
+uint64_t open_block(struct pages *pages, const uint8_t *bytes, size_t len)
+{
+    begin_block_page(pages);
+    put_bytes(pages, bytes, len);
+    return open_page(pages);
+}
+
+uint64_t open_instructions(struct pages *pages, const uint8_t *bytes, size_t len, size_t count)
+{
+    begin_block_page(pages);
+    put_zeros(pages, BLOCK_HEAD);
+    put_count(pages, count);
+    put_bytes(pages, bytes, len);
+    put_zeros(pages, 2 * COUNT_SIZE);
+    return open_page(pages);
+}
+
+uint64_t open_vips(struct pages *pages, const uint8_t *bytes, size_t len, size_t count)
+{
+    begin_block_page(pages);
+    put_zeros(pages, BLOCK_HEAD + COUNT_SIZE);
+    put_count(pages, count);
+    put_bytes(pages, bytes, len);
+    put_zeros(pages, COUNT_SIZE);
+    return open_page(pages);
 }

@@ -1,8 +1,8 @@
 /*
- * A routine part by part. Every look at a book reads its whole image, so looking at
- * each instruction of a long routine in one book takes time by the square of its
- * length. Here each part is opened as a book of its own: first the routine without
- * its blocks, then each block by itself.
+ * Small books to look at. Every look at a book reads its whole image, so looking at
+ * each part of a long routine in one book takes time by the square of its length. A
+ * page is a routine that has one part of another and is empty otherwise; it is
+ * opened by the library as any file is, and looked at instead.
  */
 #ifndef ROUTINE_PAGES_H
 #define ROUTINE_PAGES_H
@@ -11,29 +11,29 @@
 
 #include "book.h"
 
+/* The most items of a list that are put into one page. */
+#define PAGE_ITEMS 32
+
 struct pages {
-    uint8_t *bytes; /* the written form; what was passed already is overwritten */
-    uint8_t *image; /* of the page that is open */
-    size_t len;
-    size_t blocks; /* where the first block begins */
-    size_t at;     /* where the next block begins */
+    uint8_t *file; /* the page before it is opened */
+    size_t len, room;
+    struct book book; /* the page that is open */
 };
 
-/*
- * Each answers 0, or a refusal. The library gives none to parts of a routine that
- * is open; VTIL_IMAGE_FULL is said where there is not enough memory.
- */
-uint64_t pages_start(const struct book *book, struct pages *out); /* pages_free is owed in any case */
-
-/* Opens the routine without its blocks. The page is the book's until the next page is opened; don't free it. */
-uint64_t pages_front(struct pages *pages, struct book *page);
-
-/* Opens the next block, as the only block of a routine. There has to be one. */
-uint64_t pages_block(struct pages *pages, struct book *page);
-
+/* Room for every page of a routine of `len` bytes. False without memory; pages_free is owed in any case. */
+bool pages_start(struct pages *pages, size_t len);
 void pages_free(struct pages *pages);
 
-/* The refusal of a page in words for the user. */
-const char *pages_problem(uint64_t refusal);
+/*
+ * Each opens a page of bytes of the written form, and answers 0, or a refusal: the
+ * library gives none where the bytes are such a part and nothing else.
+ */
+uint64_t open_convention(struct pages *pages, const uint8_t *bytes, size_t len); /* as convention 0 */
+uint64_t open_block(struct pages *pages, const uint8_t *bytes, size_t len);      /* as block 0 */
+
+/* So many items of a list: as the volatile registers of convention 0, as the instructions and as the prev vips of block 0. */
+uint64_t open_registers(struct pages *pages, const uint8_t *bytes, size_t len, size_t count);
+uint64_t open_instructions(struct pages *pages, const uint8_t *bytes, size_t len, size_t count);
+uint64_t open_vips(struct pages *pages, const uint8_t *bytes, size_t len, size_t count);
 
 #endif

@@ -50,27 +50,40 @@ show_json() {
     done
 }
 
-# many_blocks COUNT: a routine of so many blocks of ten instructions.
-many_blocks() {
+# long_file KIND: a routine of many blocks, or one with long lists of every kind.
+long_file() {
     python3 -B - "$1" <<'END'
 import sys
 sys.path.insert(0, "samples")
 import make
-blocks = [make.block(7 * n, [make.instruction("add", make.reg(1, 5, 64, 0), make.imm(n))] * 10, [n], [n + 1])
-          for n in range(int(sys.argv[1]))]
-sys.stdout.buffer.write(make.routine(blocks=blocks))
+
+def many():
+    instructions = [make.instruction("add", make.reg(1, 5, 64, 0), make.imm(9))] * 10
+    return make.routine(blocks=[make.block(7 * n, instructions, [n], [n + 1]) for n in range(5000)])
+
+def lists():
+    instructions = [make.instruction("add", make.reg(1, n, 64, 0), make.imm(n), vip=n) for n in range(20000)]
+    registers = [make.register(1, n, 64, 0) for n in range(5000)]
+    return make.routine(own=make.convention(registers, registers[:33], registers[:32]),
+                        special=[make.convention(shadow=n) for n in range(5000)],
+                        blocks=[make.block(1, instructions, range(20000), range(31)), make.block(2, instructions[:65])])
+
+sys.stdout.buffer.write(globals()[sys.argv[1]]())
 END
 }
+# Every look reads a whole image, so showing by looks at one image would take minutes here.
 show_long() {
-    local name="show 5,000 blocks of ten instructions within ten seconds"
-    if ! command -v python3 >/dev/null; then
-        skip "$name" "there is no python3"
-        return
-    fi
-    many_blocks 5000 >"$scratch/many.vtil"
-    # A line for the routine, 2 x 5 for conventions, 14 for each block, and the end.
-    passes "$name" [ "$(timeout 10 "$routine" show "$scratch/many.vtil" | wc -l)" = $((1 + 10 + 14 * 5000 + 1)) ]
-    passes "show --json of it, read again" json_bytes "$scratch/many.vtil"
+    local kind file
+    for kind in many lists; do
+        file=$scratch/$kind.vtil
+        if ! command -v python3 >/dev/null; then
+            skip "show a long routine ($kind)" "there is no python3"
+            continue
+        fi
+        long_file $kind >"$file"
+        passes "show a long routine ($kind) within ten seconds" [ "$(timeout 10 "$routine" show "$file" | tail -n 1)" = end ]
+        passes "show --json of it, read again" json_bytes "$file"
+    done
 }
 
 show_refused() {

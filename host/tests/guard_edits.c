@@ -13,7 +13,7 @@
 #include "reference_book.h"
 #include "shelf.h"
 
-#define LISTS 500
+#define LISTS 350
 #define CALLS 60 /* in a list */
 #define DAMAGED_JOURNALS 6000
 #define MOST_LENT ((size_t)16777216)
