@@ -70,7 +70,7 @@ same_functions() {
 
 readme_example() {
     "$CC" -std=c11 "${strict[@]}" "$scratch/example.c" "$archive" -o "$scratch/example" || return 1
-    [ "$("$scratch/example" <samples/trailing.vtil)" = "a routine of 114 bytes" ] || return 1
+    [ "$("$scratch/example" <samples/trailing.vtil)" = "a routine of 150 bytes" ] || return 1
     [ "$("$scratch/example" <samples/wrong-mark.vtil)" = "refused 3" ]
 }
 
