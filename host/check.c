@@ -39,10 +39,10 @@ static enum status check_one(const char *name)
     return status;
 }
 
-enum status check_command(int count, char **operands)
+enum status check_command(const struct request *request)
 {
     enum status status = ALL_ACCEPTED;
-    for (int i = 0; i < count; i++)
-        status = worse(status, check_one(operands[i]));
+    for (int i = 0; i < request->count; i++)
+        status = worse(status, check_one(request->files[i]));
     return status;
 }

@@ -2,6 +2,8 @@
 #ifndef ROUTINE_COMMANDS_H
 #define ROUTINE_COMMANDS_H
 
+#include <stdbool.h>
+#include <stdint.h>
 #include <stdio.h>
 
 /* Exit statuses. Where several apply, the largest is given. */
@@ -16,13 +18,27 @@ static inline enum status worse(enum status a, enum status b)
     return a > b ? a : b;
 }
 
-/* Each subcommand gets its operands (options are taken out) and how many there are, at least one. */
-enum status check_command(int count, char **operands);
+/* What a subcommand was asked: as many files as it takes, and its options. */
+struct request {
+    int count;
+    char **files;
+    const char *out;    /* -o; NULL where it was not given */
+    const char *script; /* -s; NULL where it was not given */
+    bool json;          /* --json */
+};
+
+enum status check_command(const struct request *request);
+enum status show_command(const struct request *request);
+enum status normalize_command(const struct request *request);
+enum status same_command(const struct request *request);
+enum status edit_command(const struct request *request);
 
 /* Prints a file's name with control characters as \xNN, so that a line stays one line. */
 void print_name(FILE *to, const char *name);
 
-/* Says on standard error why `name` could not be read, after all that was printed before it. */
+/* These say on standard error what is wrong with `name`, after all that was printed before it. */
 void say_unread(const char *name, const char *problem);
+void say_unwritten(const char *name, const char *problem);
+void say_refused(const char *name, uint64_t refusal);
 
 #endif

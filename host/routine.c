@@ -1,24 +1,63 @@
 /* routine: the command for VTIL routine files. It finds the subcommand; each has its own file. */
-#define _POSIX_C_SOURCE 200809L
+#define _XOPEN_SOURCE 700
 
 #include <ctype.h>
 #include <errno.h>
+#include <fcntl.h>
+#include <inttypes.h>
+#include <limits.h>
 #include <signal.h>
 #include <stdbool.h>
 #include <stdio.h>
 #include <string.h>
+#include <unistd.h>
 
 #include "commands.h"
+#include "words.h"
 
 struct command {
     const char *name;
     const char *operands;
     const char *does;
-    enum status (*run)(int count, char **operands);
+    const char *more;    /* the rest of its help; "" where `does` says it all */
+    const char *options; /* which it takes: j for --json, o for -o, s for -s */
+    const char *needed;  /* which of them it can't do without */
+    int least, most;     /* how many files */
+    enum status (*run)(const struct request *request);
 };
 
+/* host/build.sh leaves out the subcommands whose library calls the archive does not have. */
 static const struct command commands[] = {
-    {"check", "FILE..", "say of each file whether it is a well-formed routine", check_command},
+    {"check", "FILE..", "say of each file whether it is a well-formed routine",
+     "Exit status: 0 every file was accepted; 1 some file was refused.\n", "", "", 1, INT_MAX, check_command},
+#ifndef ROUTINE_WITHOUT_BOOKS
+    {"show", "[--json] FILE", "print what the routine holds: conventions, blocks, instructions",
+     "Registers are shown by their numbers. The last line is `end`; a text without it is not whole.\n"
+     "  --json  print it as JSON, for programs. Numbers of 64 bits are strings there.\n"
+     "Exit status: 0 it was shown; 1 the file was refused.\n",
+     "j", "", 1, 1, show_command},
+    {"normalize", "FILE -o OUT", "write the routine in its written form: pad 0, flags 0 or 1, nothing after it",
+     "  -o OUT  the file to write; it may be FILE. It is replaced whole, or left as it was.\n"
+     "Exit status: 0 it was written; 1 the file was refused, and nothing was written.\n",
+     "o", "o", 1, 1, normalize_command},
+    {"same", "A B", "say whether two files hold one routine, and where their written forms first differ",
+     "Exit status: 0 one routine; 1 two routines; 2 a file was refused or could not be read.\n", "", "", 2, 2, same_command},
+#endif
+#ifndef ROUTINE_WITHOUT_EDITS
+    {"edit", "FILE -s SCRIPT [-o OUT]", "run the lines of a script on the routine, and say what each gives",
+     "A line of SCRIPT is one of:\n"
+     "  create VIP      an empty block after the last one\n"
+     "  remove VIP      the last block takes its place\n"
+     "  append VIP HEX  an instruction, its bytes in hexadecimal, after the block's last\n"
+     "  undo            take back the last edit that stands\n"
+     "VIP is decimal, or hexadecimal after 0x. After # a line is a comment.\n"
+     "A refused line leaves the routine as it was, and the next line follows.\n"
+     "  -s SCRIPT  the script. A line that is none of these stops it before the first call.\n"
+     "  -o OUT     after the last line, write the routine there; it may be FILE. It is\n"
+     "             replaced whole, or left as it was. Without -o nothing is written.\n"
+     "Exit status: 0 every line was accepted; 1 the file or some line was refused.\n",
+     "os", "s", 1, 1, edit_command},
+#endif
 };
 
 #define COMMANDS (sizeof commands / sizeof commands[0])
@@ -34,14 +73,34 @@ void print_name(FILE *to, const char *name)
     }
 }
 
-void say_unread(const char *name, const char *problem)
+/* Both streams may lead to one place: keep the order. A failure here is noticed at the end. */
+static void begin_complaint(const char *name)
 {
-    /* Both streams may lead to one place: keep the order. A failure here is noticed at the end. */
     fflush(stdout);
     fprintf(stderr, "routine: ");
     print_name(stderr, name);
+}
+
+void say_unread(const char *name, const char *problem)
+{
+    begin_complaint(name);
     fprintf(stderr, ": not read: %s\n", problem);
 }
+
+void say_unwritten(const char *name, const char *problem)
+{
+    begin_complaint(name);
+    fprintf(stderr, ": not written: %s\n", problem);
+}
+
+void say_refused(const char *name, uint64_t refusal)
+{
+    begin_complaint(name);
+    fprintf(stderr, ": refused %" PRIu64 ": %s\n", refusal, refusal_words((int64_t)refusal));
+}
+
+static const char conventions[] =
+    "A FILE of - is standard input, an OUT of - standard output. After -- nothing is an option.\n";
 
 static void print_help(FILE *to)
 {
@@ -49,18 +108,28 @@ static void print_help(FILE *to)
     for (size_t i = 0; i < COMMANDS; i++)
         fprintf(to, "  routine %s %s\n      %s\n", commands[i].name, commands[i].operands, commands[i].does);
     fprintf(to,
+            "  routine COMMAND --help\n"
+            "      say more about one of them\n"
             "  routine --help\n"
             "      print this text\n"
             "\n"
-            "A FILE of - is standard input. After -- nothing is an option.\n"
-            "Exit status: 0 every file was accepted; 1 some file was refused;\n"
-            "2 something could not be read or written, or the usage is wrong.\n");
+            "%s"
+            "Exit status: 0 all was accepted; 1 something was refused, or two routines differ;\n"
+            "2 something could not be read or written, or the usage is wrong.\n",
+            conventions);
+}
+
+static void print_command_help(const struct command *command)
+{
+    printf("usage: routine %s %s\n\n%s.\n%s\n%s", command->name, command->operands, command->does, command->more, conventions);
+    printf("Exit status 2: something could not be read or written, or the usage is wrong.\n");
 }
 
 static enum status bad_usage(const char *problem, const char *word)
 {
-    fprintf(stderr, "routine: %s%s\n", problem, word);
-    fprintf(stderr, "routine: try routine --help\n");
+    fprintf(stderr, "routine: %s", problem);
+    print_name(stderr, word);
+    fprintf(stderr, "\nroutine: try routine --help\n");
     return TROUBLE;
 }
 
@@ -83,10 +152,72 @@ static bool is_option(const char *word)
     return word[0] == '-' && word[1] != '\0';
 }
 
-/* Runs `command` on the words after its name. No subcommand has an option of its own. */
+/* The letter of an option; 0 where it is none. */
+static char option_letter(const char *word)
+{
+    if (strcmp(word, "--json") == 0)
+        return 'j';
+    if (strcmp(word, "-o") == 0)
+        return 'o';
+    if (strcmp(word, "-s") == 0)
+        return 's';
+    return 0;
+}
+
+static const char **option_value(struct request *request, char letter)
+{
+    return letter == 'o' ? &request->out : &request->script;
+}
+
+/*
+ * Takes the option at words[*at] and the word after it, where it has a value, and
+ * leaves *at at the last word that it took. False when it was none: then it was said.
+ */
+static bool take_option(const struct command *command, int count, char **words, int *at, struct request *request)
+{
+    const char *word = words[*at];
+    char letter = option_letter(word);
+    if (letter == 0 || strchr(command->options, letter) == NULL) {
+        bad_usage("unknown option (for a file of that name write ./ before it): ", word);
+        return false;
+    }
+    if (letter == 'j') {
+        request->json = true;
+        return true;
+    }
+    const char **value = option_value(request, letter);
+    if (*value != NULL) {
+        bad_usage("given twice: ", word);
+        return false;
+    }
+    if (*at + 1 == count) {
+        bad_usage("no file given after ", word);
+        return false;
+    }
+    *at += 1;
+    *value = words[*at];
+    return true;
+}
+
+static enum status run_request(const struct command *command, const struct request *request)
+{
+    if (request->count == 0)
+        return bad_usage("no file given to ", command->name);
+    if (request->count < command->least)
+        return bad_usage("too few files given to ", command->name);
+    if (request->count > command->most)
+        return bad_usage("too many files given to ", command->name);
+    if (strchr(command->needed, 'o') != NULL && request->out == NULL)
+        return bad_usage("-o OUT is missing for ", command->name);
+    if (strchr(command->needed, 's') != NULL && request->script == NULL)
+        return bad_usage("-s SCRIPT is missing for ", command->name);
+    return command->run(request);
+}
+
+/* Runs `command` on the words after its name. The files are gathered at the front of `words`. */
 static enum status run_command(const struct command *command, int count, char **words)
 {
-    int operands = 0;
+    struct request request = {0, words, NULL, NULL, false};
     bool options = true;
     for (int i = 0; i < count; i++) {
         if (options && strcmp(words[i], "--") == 0) {
@@ -94,16 +225,17 @@ static enum status run_command(const struct command *command, int count, char **
             continue;
         }
         if (options && is_help(words[i])) {
-            print_help(stdout);
+            print_command_help(command);
             return ALL_ACCEPTED;
         }
-        if (options && is_option(words[i]))
-            return bad_usage("unknown option (for a file of that name write ./ before it): ", words[i]);
-        words[operands++] = words[i];
+        if (options && is_option(words[i])) {
+            if (!take_option(command, count, words, &i, &request))
+                return TROUBLE;
+            continue;
+        }
+        words[request.count++] = words[i];
     }
-    if (operands == 0)
-        return bad_usage("no file given to ", command->name);
-    return command->run(operands, words);
+    return run_request(command, &request);
 }
 
 static enum status run(int argc, char **argv)
@@ -133,10 +265,29 @@ static enum status finish_output(void)
     return TROUBLE;
 }
 
+/*
+ * A standard stream that is closed at the start would be given to the next file that is opened,
+ * and what is printed would land in that file. So its place is taken, by something on which
+ * reading or writing fails as on a closed stream.
+ */
+static bool guard_streams(void)
+{
+    for (int fd = 0; fd <= 2; fd++) {
+        if (fcntl(fd, F_GETFD) != -1 || errno != EBADF)
+            continue;
+        if (open("/dev/null", fd == 0 ? O_WRONLY : O_RDONLY) != fd)
+            return false;
+    }
+    return true;
+}
+
 int main(int argc, char **argv)
 {
-    /* A closed pipe then fails the write, which is reported, instead of ending the process silently. */
+    if (!guard_streams())
+        return TROUBLE;
+    /* A closed pipe or a file over the user's limit then fails the write, which is reported, instead of ending the process. */
     signal(SIGPIPE, SIG_IGN);
+    signal(SIGXFSZ, SIG_IGN);
     enum status status = run(argc, argv);
     return (int)worse(status, finish_output());
 }

@@ -43,6 +43,8 @@ enum vtil_refusal {
     VTIL_LEFTOVER = 17              /* leftover: bytes after the appended instruction */
 };
 
+/* ==== Checking a file ============================================================ */
+
 /*
  * vtil_check reads a routine file that lies in memory and says whether it is
  * well formed.
@@ -60,6 +62,251 @@ enum vtil_refusal {
  * 0 is never answered. No byte outside the file is read and no byte is written.
  */
 int64_t vtil_check(const uint8_t *file, size_t file_len);
+
+/* ==== Books: opening a file, writing an instruction, looking ====================== */
+
+/*
+ * A book is a routine that is open for looking and editing. It has three parts,
+ * all kept by the caller:
+ *
+ *   image    lent memory that holds the routine's written form, then zeros. The
+ *            written form is the routine as a file would hold it, with the pad 0
+ *            and every flag 0 or 1. It is what to save.
+ *   journal  lent memory that holds what vtil_undo needs. It may have length 0:
+ *            then the book can be looked at, but every edit is refused.
+ *   book     two numbers: how many bytes of the image are the written form, and
+ *            how many bytes of the journal are used.
+ *
+ * Keep the three together: hand to each call the book that the call before it
+ * answered, with the same image and journal at the same lengths, unchanged in
+ * between. A book that does not fit its image or journal is refused 13, not
+ * trusted: no call touches a byte outside what it was lent, whatever the numbers
+ * in the book and the bytes in image and journal are.
+ *
+ * Of every call here:
+ *   Each pointer has as many bytes behind it as the length after it says, and may
+ *   be NULL when that length is 0. Image, journal and whatever else is lent to one
+ *   call do not overlap. Nothing is kept after the call.
+ *   Image and journal have at most 16,777,216 bytes each; a longer one is refused
+ *   10 before anything else, and no byte of it is touched.
+ *   A refused call changes no byte of image and journal, and answers the book as
+ *   it was handed in (vtil_open: a book of zeros).
+ *   Every call on a book reads the whole image first, to see that it is not
+ *   spoiled: a call's time grows with the image's length.
+ */
+typedef struct {
+    uint64_t written; /* bytes of the image that are the written form */
+    uint64_t used;    /* bytes of the journal that are used */
+} vtil_book;
+
+typedef struct {
+    uint64_t refusal; /* 0: accepted */
+    vtil_book book;   /* to be handed to the next call */
+} vtil_answer;
+
+/*
+ * Values. Numbers are those of the file; bit_count is a width in bits.
+ */
+typedef struct {
+    uint64_t value; /* its 64 bits, whether they are meant signed or not */
+    uint32_t bit_count;
+} vtil_immediate_desc;
+
+typedef struct {
+    uint64_t flags;
+    uint64_t combined_id; /* divided by 2^56 at most 2 */
+    int32_t bit_count, bit_offset;
+} vtil_register_desc;
+
+/* The fields of the one that does not count are 0 when read and ignored when written. */
+typedef struct {
+    uint32_t kind; /* 0: the immediate counts, 1: the register counts */
+    vtil_immediate_desc immediate;
+    vtil_register_desc register_desc;
+} vtil_operand_desc;
+
+typedef struct {
+    uint32_t op;                   /* the operation's number, 0 to 48; docs/FORMAT.md has the names */
+    uint32_t count;                /* how many of the operands are used; each operation takes one number of them */
+    vtil_operand_desc operands[3]; /* unused ones are all 0 when read and ignored when written */
+    uint64_t vip;
+    int64_t sp_offset;
+    uint32_t sp_index;
+    uint8_t sp_reset; /* 0 or 1 when read; when written, anything but 0 is 1 */
+} vtil_instruction_desc;
+
+/*
+ * vtil_open reads a routine file and puts its written form into the image; the
+ * rest of the image and the whole journal become 0.
+ *
+ * Answers the book of the routine; its written length is what vtil_check answers
+ * for the same file, and nothing of the journal is used. The file may be let go.
+ *
+ * Refusals, in this order: 10; 1 to 9, as vtil_check; 11 when the written form is
+ * longer than the image. The journal is not a reason: any length up to the limit
+ * will do.
+ */
+vtil_answer vtil_open(const uint8_t *file, size_t file_len, uint8_t *image, size_t image_len, uint8_t *journal,
+                      size_t journal_len);
+
+typedef struct {
+    uint64_t refusal; /* 0: written */
+    uint64_t size;    /* the number of bytes written */
+} vtil_written;
+
+/*
+ * vtil_write_instruction writes an instruction at the start of the lent bytes, as
+ * vtil_append takes it; the bytes after it are not touched. No book is involved:
+ * `image` is any memory; 119 bytes are always enough.
+ *
+ * Refusals, in this order: 10; 7 when the operation's number is over 48; 8 when
+ * the count is not the operation's; 5 when some used operand of kind 1 has a
+ * foreign register; 6 when some used operand has a kind other than 0 and 1; 11
+ * when the instruction is longer than the lent bytes.
+ */
+vtil_written vtil_write_instruction(vtil_instruction_desc value, uint8_t *image, size_t image_len);
+
+/*
+ * Looking. Each call answers a part of the routine, named by places that count
+ * from 0. Image and journal are only read. The other fields of a refused answer
+ * say nothing.
+ *
+ * Refusals, in this order: 10; 13 when the book is spoiled; 15 when there is no
+ * such block, convention, list or place.
+ */
+typedef struct {
+    uint64_t refusal;
+    uint64_t arch_id;          /* the machine: 0 Amd64, 1 Arm64, 2 Virtual */
+    uint64_t vip;              /* the entry vip */
+    uint64_t spec_conventions; /* how many special conventions there are, after convention 0 and 1 */
+    uint64_t blocks;           /* how many blocks there are */
+} vtil_routine_look;
+
+vtil_routine_look vtil_routine(vtil_book book, const uint8_t *image, size_t image_len, const uint8_t *journal,
+                               size_t journal_len);
+
+typedef struct {
+    uint64_t refusal;
+    uint64_t vip;
+    int64_t sp_offset;
+    uint32_t sp_index, last_temporary_index;
+    uint64_t instructions, prev_vips, next_vips; /* how many there are of each */
+} vtil_block_look;
+
+vtil_block_look vtil_block(vtil_book book, const uint8_t *image, size_t image_len, const uint8_t *journal,
+                           size_t journal_len, uint64_t place);
+
+typedef struct {
+    uint64_t refusal;
+    vtil_instruction_desc instruction;
+} vtil_instruction_look;
+
+vtil_instruction_look vtil_instruction(vtil_book book, const uint8_t *image, size_t image_len, const uint8_t *journal,
+                                       size_t journal_len, uint64_t block, uint64_t place);
+
+typedef struct {
+    uint64_t refusal;
+    uint64_t vip;
+} vtil_vip_look;
+
+/* list 0: the vips of the blocks before it (prev), 1: of those after it (next) */
+vtil_vip_look vtil_block_vip(vtil_book book, const uint8_t *image, size_t image_len, const uint8_t *journal,
+                             size_t journal_len, uint64_t block, uint64_t list, uint64_t place);
+
+typedef struct {
+    uint64_t refusal;
+    vtil_register_desc frame_register;
+    uint64_t shadow_space;
+    uint64_t purge_stack;                                            /* 0 or 1 */
+    uint64_t volatile_registers, param_registers, retval_registers; /* how many there are of each */
+} vtil_convention_look;
+
+/* place 0: the routine's convention, 1: the subroutine's, then the special ones */
+vtil_convention_look vtil_convention(vtil_book book, const uint8_t *image, size_t image_len, const uint8_t *journal,
+                                     size_t journal_len, uint64_t place);
+
+typedef struct {
+    uint64_t refusal;
+    vtil_register_desc register_desc;
+} vtil_register_look;
+
+/* list 0: volatile, 1: param, 2: retval */
+vtil_register_look vtil_convention_register(vtil_book book, const uint8_t *image, size_t image_len,
+                                            const uint8_t *journal, size_t journal_len, uint64_t convention,
+                                            uint64_t list, uint64_t place);
+
+/* ==== Editing ===================================================================== */
+
+/*
+ * Each accepted edit changes the routine in the image, writes an entry into the
+ * journal and answers the new book. The links between blocks (prev and next vips)
+ * are never adjusted. Every edit is refused 10 and then 13 as any call on a book;
+ * its own refusals come next; last come 11, when the new written form is longer
+ * than the image, and then 12, when the entry does not fit what is left of the
+ * journal.
+ */
+
+/*
+ * vtil_create_block adds an empty block with this vip after the last one; its
+ * other numbers are 0. The image needs 36 bytes more and the journal 20.
+ *
+ * Refusals, in this order: 10, 13; 14 when a block has this vip; 11, 12.
+ */
+vtil_answer vtil_create_block(vtil_book book, uint8_t *image, size_t image_len, uint8_t *journal, size_t journal_len,
+                              uint64_t vip);
+
+/*
+ * vtil_remove_block removes the block with this vip; the last block takes its
+ * place. The journal needs the block's size and 20 bytes more.
+ *
+ * Refusals, in this order: 10, 13; 15 when no block has this vip; 12.
+ */
+vtil_answer vtil_remove_block(vtil_book book, uint8_t *image, size_t image_len, uint8_t *journal, size_t journal_len,
+                              uint64_t vip);
+
+/*
+ * vtil_append adds an instruction after the last one of the block with this vip.
+ * The instruction is lent as its bytes in the file's layout, exactly one;
+ * vtil_write_instruction makes them. The image needs as many bytes more and the
+ * journal 20.
+ *
+ * Refusals, in this order: 10, 13; 1, 2, 5, 6, 7 or 8, whichever field of the
+ * instruction fails first (1: its bytes end too early); 17 when bytes are left
+ * after the instruction; 15 when no block has this vip; 11, 12.
+ */
+vtil_answer vtil_append(vtil_book book, uint8_t *image, size_t image_len, uint8_t *journal, size_t journal_len,
+                        uint64_t vip, const uint8_t *instruction, size_t instruction_len);
+
+/*
+ * vtil_undo takes back the last accepted edit that was not taken back yet: image
+ * and book are then as they were before it, and its entry in the journal is 0.
+ * Every edit since vtil_open can be taken back, one call for each.
+ *
+ * Refusals, in this order: 10, 13; 16 when there is nothing to take back; 13 when
+ * the journal's last entry does not fit the image, which never happens to a book
+ * from vtil_open whose image and journal nobody else wrote.
+ */
+vtil_answer vtil_undo(vtil_book book, uint8_t *image, size_t image_len, uint8_t *journal, size_t journal_len);
+
+/*
+ * vtil_run opens a file and runs a list of calls on the book, each as the calls
+ * above would, a refused one changing nothing and the next one following all the
+ * same.
+ *
+ *   words      four for each call: its kind (0 create, 1 remove, 2 append, 3
+ *              undo), its vip, and where its bytes begin and end in `texts`. Words
+ *              that a kind has no use for are ignored.
+ *   words_len  the number of words, not of bytes: four times the number of calls.
+ *   texts      the bytes of the instructions to append.
+ *
+ * Answers what the last call answers; where the list is empty or the opening is
+ * refused, what the opening answers.
+ */
+vtil_answer vtil_run(const uint8_t *file, size_t file_len, uint8_t *image, size_t image_len, uint8_t *journal,
+                     size_t journal_len, const uint64_t *words, size_t words_len, const uint8_t *texts,
+                     size_t texts_len);
+
+/* ==== The end ===================================================================== */
 
 #ifdef __cplusplus
 }

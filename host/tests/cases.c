@@ -1,8 +1,11 @@
 #include "cases.h"
 
 #include <stdbool.h>
+#include <stdio.h>
+#include <stdlib.h>
 #include <string.h>
 
+#include "group.h"
 #include "reference.h"
 
 static uint64_t state;
@@ -193,6 +196,50 @@ void make_routine(struct bytes *b)
         b->len = below(b->len);
     if (below(4) == 0)
         put(b, 8, any());
+}
+
+void make_good_routine(struct bytes *b)
+{
+    do
+        make_routine(b);
+    while (reference_check(b->at, b->len) < 0);
+}
+
+void make_appended(struct bytes *b)
+{
+    b->len = 0;
+    fault_rate = below(3) == 0 ? 8 : 0;
+    make_instruction(b);
+    if (below(12) == 0)
+        b->len = below(b->len);
+    if (below(12) == 0)
+        put(b, 1 + below(4), any());
+}
+
+/* Samples ---------------------------------------------------------------------- */
+
+static void load_sample(const char *path, struct bytes *out)
+{
+    FILE *from = fopen(path, "rb");
+    if (from == NULL)
+        stop(path);
+    out->len = fread(out->at, 1, BYTES_MAX, from);
+    if (ferror(from) || out->len == 0 || out->len == BYTES_MAX)
+        stop(path);
+    fclose(from);
+}
+
+size_t load_samples(char **paths, struct bytes **out)
+{
+    size_t count = 0;
+    while (paths[count] != NULL)
+        count++;
+    *out = calloc(count, sizeof **out);
+    if (*out == NULL)
+        stop("samples");
+    for (size_t i = 0; i < count; i++)
+        load_sample(paths[i], &(*out)[i]);
+    return count;
 }
 
 /* Damaged files --------------------------------------------------------------- */

@@ -36,6 +36,15 @@ void put_operation(struct bytes *b, const void *name, size_t len, uint32_t count
 /* A whole routine by the layouts; in two of three there is a chance of a fault at every field. */
 void make_routine(struct bytes *b);
 
+/* As make_routine, never with a fault, and with vips that differ. */
+void make_good_routine(struct bytes *b);
+
+/* One instruction by the layouts; now and then there is a fault in it, or it is cut off, or bytes follow. */
+void make_appended(struct bytes *b);
+
+/* The files at these paths, which NULL ends; answers how many they are. */
+size_t load_samples(char **paths, struct bytes **out);
+
 /* Damages `b` in one place; `other` is a second file to take pieces from. */
 void damage(struct bytes *b, const struct bytes *other);
 

@@ -1,51 +1,8 @@
 #!/usr/bin/env bash
-# command.sh ROUTINE SCRATCH: the command `routine`: its words and its exit status.
-# The current folder is the repository root. SCRATCH is an empty folder.
+# command.sh ROUTINE SCRATCH: the command `routine` and its `check`: words and exit status.
 set -u
 script="command"
-. host/tests/count.sh
-export LC_ALL=C
-routine=$(realpath "$1")
-scratch=$(realpath "$2")
-samples=$(realpath samples)
-refused_1="refused 1: short file: a field or name passes the end"
-refused_3="refused 3: wrong mark: either header mark differs"
-
-# hold NAME STATUS: what was just run gave this status, and out and err hold what is wanted.
-hold() {
-    if [ "$status" = "$2" ] && cmp -s "$scratch/out" "$scratch/want-out" && cmp -s "$scratch/err" "$scratch/want-err"; then
-        pass "$1"
-        return
-    fi
-    fail "$1"
-    echo "status $status where $2 is due"
-    diff "$scratch/want-out" "$scratch/out"
-    diff "$scratch/want-err" "$scratch/err"
-}
-
-# expect NAME STATUS OUT ERR COMMAND..: runs the command; OUT and ERR are its whole output and error
-# output. Standard input is that of the call.
-expect() {
-    local name=$1 due=$2
-    want "$3" "$4"
-    shift 4
-    status=0
-    "$@" >"$scratch/out" 2>"$scratch/err" || status=$?
-    hold "$name" "$due"
-}
-
-# A text that isn't empty ends in a line feed.
-want() {
-    if [ -n "$1" ]; then printf '%s\n' "$1"; fi >"$scratch/want-out"
-    if [ -n "$2" ]; then printf '%s\n' "$2"; fi >"$scratch/want-err"
-}
-
-# output_fails NAME REASON: as expect, for a command that was run with a standard output that fails.
-output_fails() {
-    : >"$scratch/out"
-    want "" "routine: standard output could not be written: $2"
-    hold "$1" 2
-}
+. host/tests/expect.sh
 
 all_samples() {
     expect "all samples" 1 "$(cat samples/EXPECTED)" "" "$routine" check samples/*.vtil
@@ -163,17 +120,11 @@ failing_output() {
 routine: standard output could not be written"
     hold "a full disk before a missing file" 2
 
-    # A pipe whose only reader, descriptor 3, is closed again before anything is written.
-    mkfifo "$scratch/closed"
-    exec 3<>"$scratch/closed" 4>"$scratch/closed" 3>&-
-    status=0
-    "$routine" check samples/minimal.vtil >&4 2>"$scratch/err" || status=$?
-    exec 4>&-
-    output_fails "a closed pipe" "Broken pipe"
+    closed_pipe "a closed pipe" "$routine" check samples/minimal.vtil
 }
 
 usage() {
-    local try="routine: try routine --help" help
+    local help
     help=$("$routine" --help)
     expect "no command" 2 "" "routine: no command given
 $try" "$routine"
@@ -183,7 +134,15 @@ $try" "$routine" chekc samples/minimal.vtil
 $try" "$routine" check
     expect "an unknown option" 2 "" "routine: unknown option (for a file of that name write ./ before it): -x
 $try" "$routine" check -x
-    expect "help for a command" 0 "$help" "" "$routine" check --help
+    expect "an option of another command" 2 "" "routine: unknown option (for a file of that name write ./ before it): --json
+$try" "$routine" check --json samples/minimal.vtil
+    expect "an unknown command of two lines" 2 "" "routine: unknown command: a\\x0ab
+$try" "$routine" $'a\nb'
+    if "$routine" check --help | grep -q '^usage: routine check FILE'; then
+        pass "help for a command"
+    else
+        fail "help for a command"
+    fi
     if [[ $help == "usage: routine COMMAND"*"routine check FILE.."*"Exit status:"* ]]; then
         pass "the help names usage, check and the exit statuses"
     else

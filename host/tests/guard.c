@@ -7,131 +7,39 @@
  * reading only. So a read past either end and any write is a crash, which is
  * reported with the case it happened in.
  */
-#define _GNU_SOURCE
-
-#include <errno.h>
 #include <inttypes.h>
-#include <signal.h>
 #include <stdbool.h>
 #include <stdio.h>
 #include <stdlib.h>
 #include <string.h>
-#include <sys/mman.h>
-#include <unistd.h>
 
 #include "cases.h"
+#include "group.h"
+#include "lent.h"
 #include "reference.h"
 #include "vtil.h"
 
 #define MUTATIONS 200000
 #define MADE 60000
-#define ANSWERS 10 /* accepted, and refusals 1 to 9 */
 
-static int passed, failed, skipped;
+/* What random files have to reach: accepted, and refusals 1 to 9. */
+static const int answers_of_reading[] = {0, 1, 2, 3, 4, 5, 6, 7, 8, 9, -1};
 
-/* The group of cases that runs, for messages. */
-static struct {
-    const char *name;
-    uint64_t cases, differ;
-    uint64_t answers[ANSWERS];
-} group;
+static struct room memory;
 
-static void stop(const char *what)
+static int64_t check_at(bool at_end, const uint8_t *file, size_t len)
 {
-    fprintf(stderr, "guard: %s: %s\n", what, strerror(errno));
-    exit(2);
-}
-
-/* The lent memory --------------------------------------------------------------- */
-
-static struct {
-    size_t page, len;
-    uint8_t *writable; /* the same bytes as `lent`, to fill it */
-    uint8_t *lent;     /* read only, between two pages without access */
-} memory;
-
-static void *map(void *at, size_t len, int access, int flags, int fd)
-{
-    void *got = mmap(at, len, access, flags, fd, 0);
-    if (got == MAP_FAILED)
-        stop("mmap");
-    return got;
-}
-
-static void set_up_memory(size_t len)
-{
-    memory.page = (size_t)sysconf(_SC_PAGESIZE);
-    memory.len = (len / memory.page + 1) * memory.page;
-    int fd = memfd_create("lent", 0);
-    if (fd < 0 || ftruncate(fd, (off_t)memory.len) != 0)
-        stop("memfd");
-    memory.writable = map(NULL, memory.len, PROT_READ | PROT_WRITE, MAP_SHARED, fd);
-    uint8_t *all = map(NULL, memory.len + 2 * memory.page, PROT_NONE, MAP_PRIVATE | MAP_ANONYMOUS, -1);
-    memory.lent = map(all + memory.page, memory.len, PROT_READ, MAP_SHARED | MAP_FIXED, fd);
-    close(fd);
-}
-
-static int64_t check_at(size_t offset, const uint8_t *file, size_t len)
-{
-    memcpy(memory.writable + offset, file, len);
-    return vtil_check(memory.lent + offset, len);
-}
-
-/* Runs in place of a crash. The fault is in the library, not inside stdio, so printing is safe here. */
-static void crashed(int signal_number)
-{
-    printf("guard: %s: case %" PRIu64 ": FAILED: signal %d: a byte outside the file was touched, or one was written\n",
-           group.name, group.cases, signal_number);
-    fflush(stdout);
-    _exit(1);
-}
-
-static void catch_crashes(void)
-{
-    static const int signals[] = {SIGSEGV, SIGBUS, SIGILL, SIGFPE};
-    struct sigaction action;
-    memset(&action, 0, sizeof action);
-    action.sa_handler = crashed;
-    for (size_t i = 0; i < sizeof signals / sizeof signals[0]; i++)
-        if (sigaction(signals[i], &action, NULL) != 0)
-            stop("sigaction");
-}
-
-/* Cases and groups ---------------------------------------------------------------- */
-
-static void begin(const char *name)
-{
-    memset(&group, 0, sizeof group);
-    group.name = name;
-}
-
-static void end(void)
-{
-    bool fine = group.differ == 0 && group.cases > 0;
-    printf("guard: %s: %s, %" PRIu64 " cases, %" PRIu64 " differ\n", group.name, fine ? "passed" : "FAILED", group.cases,
-           group.differ);
-    if (fine)
-        passed++;
-    else
-        failed++;
-}
-
-static void hold(const char *what, size_t len, int64_t got, int64_t want)
-{
-    if (got == want)
-        return;
-    group.differ++;
-    if (group.differ <= 5)
-        printf("guard: %s: case %" PRIu64 " (%zu bytes), %s: %" PRId64 " where %" PRId64 " is due\n", group.name, group.cases,
-               len, what, got, want);
+    struct lent lent = lend(&memory, len, at_end);
+    memcpy(lent.plain, file, len);
+    return vtil_check(lent.readable, len);
 }
 
 /* The answer is known: the library must give it, lent both ways. */
 static void expect(const uint8_t *file, size_t len, int64_t want)
 {
-    group.cases++;
-    hold("lent before a guard page", len, check_at(memory.len - len, file, len), want);
-    hold("lent after a guard page", len, check_at(0, file, len), want);
+    next_case();
+    hold("lent before a guard page", len, check_at(true, file, len), want);
+    hold("lent after a guard page", len, check_at(false, file, len), want);
 }
 
 /* The plain reader says what the answer is. */
@@ -146,23 +54,6 @@ static void compare(const uint8_t *file, size_t len)
 
 static struct bytes *samples;
 static size_t sample_count;
-
-static void load_samples(char **paths, size_t count)
-{
-    samples = calloc(count, sizeof *samples);
-    if (samples == NULL)
-        stop("samples");
-    sample_count = count;
-    for (size_t i = 0; i < count; i++) {
-        FILE *from = fopen(paths[i], "rb");
-        if (from == NULL)
-            stop(paths[i]);
-        samples[i].len = fread(samples[i].at, 1, BYTES_MAX, from);
-        if (ferror(from) || samples[i].len == 0 || samples[i].len == BYTES_MAX)
-            stop(paths[i]);
-        fclose(from);
-    }
-}
 
 /* An instance of document 01: its answer is written there, and holds of the plain reader too. */
 static void instance(const struct bytes *b, int64_t want)
@@ -340,21 +231,6 @@ static void copy_sample(struct bytes *b, const struct bytes *sample)
     memcpy(b->at, sample->at, sample->len);
 }
 
-/* Random cases are worth something only if they reach every answer. */
-static void end_of_random(void)
-{
-    printf("guard: %s: %" PRIu64 " accepted, refused", group.name, group.answers[0]);
-    for (int answer = 1; answer < ANSWERS; answer++)
-        printf(" %d: %" PRIu64 "%s", answer, group.answers[answer], answer + 1 < ANSWERS ? "," : "\n");
-    for (int answer = 0; answer < ANSWERS; answer++) {
-        if (group.answers[answer] >= 100)
-            continue;
-        printf("guard: %s: fewer than 100 cases of answer %d\n", group.name, answer);
-        group.differ++;
-    }
-    end();
-}
-
 static void mutations(void)
 {
     static struct bytes b;
@@ -366,7 +242,7 @@ static void mutations(void)
             damage(&b, &samples[below(sample_count)]);
         compare(b.at, b.len);
     }
-    end_of_random();
+    end_of_random(100, answers_of_reading);
 }
 
 static void made_routines(void)
@@ -378,7 +254,7 @@ static void made_routines(void)
         make_routine(&b);
         compare(b.at, b.len);
     }
-    end_of_random();
+    end_of_random(100, answers_of_reading);
 }
 
 /* A routine of one instruction with this name and count; its operands, immediates, are there. */
@@ -482,7 +358,7 @@ static void many_blocks(size_t count)
 
 static void hold_length(const uint8_t *file, size_t len, int64_t want)
 {
-    group.cases++;
+    next_case();
     hold("called directly", len, vtil_check(file, len), want);
 }
 
@@ -490,27 +366,27 @@ static void empty_files(void)
 {
     begin("length 0, with NULL and with pointers to pages without access");
     hold_length(NULL, 0, -1);
-    hold_length(memory.lent - memory.page, 0, -1);
-    hold_length(memory.lent + memory.len, 0, -1);
+    hold_length(memory.readable - 1, 0, -1);
+    hold_length(no_access(&memory), 0, -1);
     end();
 }
 
 static void huge_lengths(void)
 {
-    const uint8_t *no_access = memory.lent + memory.len;
+    const uint8_t *untouched = no_access(&memory);
     const size_t over = (size_t)1 << 63;
     begin("lengths over 2^63 - 1, with NULL and with a pointer to a page without access");
-    hold_length(no_access, over, -10);
-    hold_length(no_access, over + 114, -10);
-    hold_length(no_access, SIZE_MAX, -10);
+    hold_length(untouched, over, -10);
+    hold_length(untouched, over + 114, -10);
+    hold_length(untouched, SIZE_MAX, -10);
     hold_length(NULL, over, -10);
     hold_length(NULL, SIZE_MAX, -10);
     end();
 
     /* The largest length that isn't over: the first field is wrong, so nothing after the page is needed. */
     begin("length 2^63 - 1 is not over");
-    memset(memory.writable, 0, memory.page);
-    hold_length(memory.lent, over - 1, -3);
+    memset(memory.plain, 0, memory.len);
+    hold_length(memory.readable, over - 1, -3);
     end();
 }
 
@@ -525,10 +401,9 @@ int main(int argc, char **argv)
         fprintf(stderr, "usage: guard FILE..\n");
         return 2;
     }
-    setvbuf(stdout, NULL, _IOLBF, 0); /* what was run is seen even if a later case never ends */
-    load_samples(argv + 1, (size_t)argc - 1);
-    set_up_memory(114 + 36 * blocks > BYTES_MAX ? 114 + 36 * blocks : BYTES_MAX);
-    catch_crashes();
+    set_up_groups("guard");
+    sample_count = load_samples(argv + 1, &samples);
+    memory = make_room(114 + 36 * blocks > BYTES_MAX ? 114 + 36 * blocks : BYTES_MAX);
 
     instances();
     whole_samples();
@@ -540,12 +415,9 @@ int main(int argc, char **argv)
     made_routines();
     many_blocks(blocks);
     empty_files();
-    if (stand_in) {
-        printf("guard: lengths over 2^63 - 1: SKIPPED: VTIL_STANDIN=1, and the stand-in has no such limit\n");
-        skipped++;
-    } else {
+    if (stand_in)
+        skip("lengths over 2^63 - 1", "VTIL_STANDIN=1, and the stand-in has no such limit");
+    else
         huge_lengths();
-    }
-    printf("guard: %d passed, %d failed, %d skipped\n", passed, failed, skipped);
-    return failed == 0 ? 0 : 1;
+    return finish();
 }

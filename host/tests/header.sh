@@ -28,10 +28,33 @@ number_asserts() {
     done
 }
 
+# The structs as the archive lays them out: no field moves, so nothing that was compiled before breaks.
+size_asserts() {
+    local type size
+    while read -r type size; do
+        printf 'static_assert(sizeof(vtil_%s) == %d, "%s");\n' "$type" "$size" "$type"
+    done <<'END'
+book 16
+answer 24
+immediate_desc 16
+register_desc 24
+operand_desc 48
+instruction_desc 176
+routine_look 40
+block_look 56
+instruction_look 184
+vip_look 16
+convention_look 72
+register_look 32
+written 16
+END
+}
+
 write_sources() {
     # Included twice: the guard. Before anything else: the header includes what it needs.
     printf '#include "vtil.h"\n#include "vtil.h"\n' >"$scratch/alone.c"
     { cat "$scratch/alone.c"; printf '#include <assert.h>\n'; number_asserts; } >"$scratch/numbers.c"
+    { cat "$scratch/alone.c"; printf '#include <assert.h>\n'; size_asserts; } >"$scratch/sizes.c"
     printf '#include "vtil.h"\nint main() { return vtil_check(nullptr, 0) == -VTIL_SHORT_FILE ? 0 : 1; }\n' \
         >"$scratch/linked.cpp"
     awk '/^```c$/ { inside = 1; next } /^```$/ { inside = 0 } inside' README.md >"$scratch/example.c"
@@ -47,13 +70,18 @@ same_functions() {
 
 readme_example() {
     "$CC" -std=c11 "${strict[@]}" "$scratch/example.c" "$archive" -o "$scratch/example" || return 1
-    [ "$("$scratch/example" <samples/trailing.vtil)" = "a routine of 114 bytes" ] || return 1
+    [ "$("$scratch/example" <samples/trailing.vtil)" = "a routine of 150 bytes" ] || return 1
     [ "$("$scratch/example" <samples/wrong-mark.vtil)" = "refused 3" ]
 }
 
 write_sources
 try "alone as C11, included twice" "$CC" -std=c11 "${strict[@]}" -fsyntax-only "$scratch/alone.c"
 try "the numbers of the 17 refusals" "$CC" -std=c11 "${strict[@]}" -fsyntax-only "$scratch/numbers.c"
+if nm -g --defined-only "$archive" | grep -q ' T vtil_open$'; then
+    try "the sizes of the structs" "$CC" -std=c11 "${strict[@]}" -fsyntax-only "$scratch/sizes.c"
+else
+    skip "the sizes of the structs" "the archive has no vtil_open"
+fi
 if command -v "$CXX" >/dev/null; then
     try "alone as C++17, included twice" "$CXX" -x c++ -std=c++17 "${strict[@]}" -fsyntax-only "$scratch/alone.c"
     try "linked from C++" "$CXX" -std=c++17 "${strict[@]}" "$scratch/linked.cpp" "$archive" -o "$scratch/linked"

@@ -226,6 +226,25 @@ static void blocks(struct state *s)
     free(vips);
 }
 
+static int64_t told(const struct state *s)
+{
+    return fine(s) ? (int64_t)s->at : -(int64_t)s->refusal;
+}
+
+int64_t reference_instruction(const uint8_t *bytes, size_t len)
+{
+    struct state s = {bytes, len, 0, 0};
+    instruction(&s);
+    return told(&s);
+}
+
+int64_t reference_block(const uint8_t *bytes, size_t len)
+{
+    struct state s = {bytes, len, 0, 0};
+    block(&s);
+    return told(&s);
+}
+
 int64_t reference_check(const uint8_t *file, size_t len)
 {
     struct state s = {file, len, 0, 0};
@@ -235,5 +254,5 @@ int64_t reference_check(const uint8_t *file, size_t len)
     convention(&s);
     list(&s, convention);
     blocks(&s);
-    return fine(&s) ? (int64_t)s.at : -(int64_t)s.refusal;
+    return told(&s);
 }

@@ -17,4 +17,8 @@ extern const size_t operation_count;
 /* The consumed length of the routine at the start of `file`, or minus the refusal (1 to 9). */
 int64_t reference_check(const uint8_t *file, size_t len);
 
+/* The same of an instruction and of a block by itself; bytes after it are ignored. */
+int64_t reference_instruction(const uint8_t *bytes, size_t len);
+int64_t reference_block(const uint8_t *bytes, size_t len);
+
 #endif

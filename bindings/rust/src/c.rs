@@ -1,0 +1,214 @@
+//! The C interface, as include/vtil.h declares it.
+
+use std::mem::size_of;
+
+#[repr(C)]
+#[derive(Clone, Copy, Debug, Default)]
+pub struct Book {
+    pub written: u64,
+    pub used: u64,
+}
+
+#[repr(C)]
+pub struct Answer {
+    pub refusal: u64,
+    pub book: Book,
+}
+
+#[repr(C)]
+#[derive(Clone, Copy, Default)]
+pub struct ImmediateDesc {
+    pub value: u64,
+    pub bit_count: u32,
+}
+
+#[repr(C)]
+#[derive(Clone, Copy, Default)]
+pub struct RegisterDesc {
+    pub flags: u64,
+    pub combined_id: u64,
+    pub bit_count: i32,
+    pub bit_offset: i32,
+}
+
+#[repr(C)]
+#[derive(Clone, Copy, Default)]
+pub struct OperandDesc {
+    pub kind: u32,
+    pub immediate: ImmediateDesc,
+    pub register_desc: RegisterDesc,
+}
+
+#[repr(C)]
+#[derive(Clone, Copy, Default)]
+pub struct InstructionDesc {
+    pub op: u32,
+    pub count: u32,
+    pub operands: [OperandDesc; 3],
+    pub vip: u64,
+    pub sp_offset: i64,
+    pub sp_index: u32,
+    pub sp_reset: u8,
+}
+
+#[repr(C)]
+pub struct RoutineLook {
+    pub refusal: u64,
+    pub arch_id: u64,
+    pub vip: u64,
+    pub spec_conventions: u64,
+    pub blocks: u64,
+}
+
+#[repr(C)]
+pub struct BlockLook {
+    pub refusal: u64,
+    pub vip: u64,
+    pub sp_offset: i64,
+    pub sp_index: u32,
+    pub last_temporary_index: u32,
+    pub instructions: u64,
+    pub prev_vips: u64,
+    pub next_vips: u64,
+}
+
+#[repr(C)]
+pub struct InstructionLook {
+    pub refusal: u64,
+    pub instruction: InstructionDesc,
+}
+
+#[repr(C)]
+pub struct VipLook {
+    pub refusal: u64,
+    pub vip: u64,
+}
+
+#[repr(C)]
+pub struct ConventionLook {
+    pub refusal: u64,
+    pub frame_register: RegisterDesc,
+    pub shadow_space: u64,
+    pub purge_stack: u64,
+    pub volatile_registers: u64,
+    pub param_registers: u64,
+    pub retval_registers: u64,
+}
+
+#[repr(C)]
+pub struct RegisterLook {
+    pub refusal: u64,
+    pub register_desc: RegisterDesc,
+}
+
+#[repr(C)]
+pub struct Written {
+    pub refusal: u64,
+    pub size: u64,
+}
+
+// The sizes that host/tests/header.sh holds the header to.
+const _: () = {
+    assert!(size_of::<Book>() == 16);
+    assert!(size_of::<Answer>() == 24);
+    assert!(size_of::<InstructionDesc>() == 176);
+    assert!(size_of::<RoutineLook>() == 40);
+    assert!(size_of::<BlockLook>() == 56);
+    assert!(size_of::<InstructionLook>() == 184);
+    assert!(size_of::<VipLook>() == 16);
+    assert!(size_of::<ConventionLook>() == 72);
+    assert!(size_of::<RegisterLook>() == 32);
+    assert!(size_of::<Written>() == 16);
+};
+
+extern "C" {
+    pub fn vtil_check(file: *const u8, file_len: usize) -> i64;
+    pub fn vtil_open(
+        file: *const u8,
+        file_len: usize,
+        image: *mut u8,
+        image_len: usize,
+        journal: *mut u8,
+        journal_len: usize,
+    ) -> Answer;
+    pub fn vtil_write_instruction(value: InstructionDesc, image: *mut u8, image_len: usize) -> Written;
+    pub fn vtil_routine(
+        book: Book,
+        image: *const u8,
+        image_len: usize,
+        journal: *const u8,
+        journal_len: usize,
+    ) -> RoutineLook;
+    pub fn vtil_block(
+        book: Book,
+        image: *const u8,
+        image_len: usize,
+        journal: *const u8,
+        journal_len: usize,
+        place: u64,
+    ) -> BlockLook;
+    pub fn vtil_instruction(
+        book: Book,
+        image: *const u8,
+        image_len: usize,
+        journal: *const u8,
+        journal_len: usize,
+        block: u64,
+        place: u64,
+    ) -> InstructionLook;
+    pub fn vtil_block_vip(
+        book: Book,
+        image: *const u8,
+        image_len: usize,
+        journal: *const u8,
+        journal_len: usize,
+        block: u64,
+        list: u64,
+        place: u64,
+    ) -> VipLook;
+    pub fn vtil_convention(
+        book: Book,
+        image: *const u8,
+        image_len: usize,
+        journal: *const u8,
+        journal_len: usize,
+        place: u64,
+    ) -> ConventionLook;
+    pub fn vtil_convention_register(
+        book: Book,
+        image: *const u8,
+        image_len: usize,
+        journal: *const u8,
+        journal_len: usize,
+        convention: u64,
+        list: u64,
+        place: u64,
+    ) -> RegisterLook;
+    pub fn vtil_create_block(
+        book: Book,
+        image: *mut u8,
+        image_len: usize,
+        journal: *mut u8,
+        journal_len: usize,
+        vip: u64,
+    ) -> Answer;
+    pub fn vtil_remove_block(
+        book: Book,
+        image: *mut u8,
+        image_len: usize,
+        journal: *mut u8,
+        journal_len: usize,
+        vip: u64,
+    ) -> Answer;
+    pub fn vtil_append(
+        book: Book,
+        image: *mut u8,
+        image_len: usize,
+        journal: *mut u8,
+        journal_len: usize,
+        vip: u64,
+        instruction: *const u8,
+        instruction_len: usize,
+    ) -> Answer;
+    pub fn vtil_undo(book: Book, image: *mut u8, image_len: usize, journal: *mut u8, journal_len: usize) -> Answer;
+}

@@ -1,0 +1,195 @@
+//! The crate over the archive: document 01's instances, the samples, and every kind of call and refusal.
+
+use vtil::{
+    check, operation, Immediate, Instruction, Links, Operand, Overview, Refusal, Register, Registers, Routine, Vip,
+};
+
+fn sample(name: &str) -> Vec<u8> {
+    let path = format!("{}/../../samples/{name}.vtil", env!("CARGO_MANIFEST_DIR"));
+    std::fs::read(&path).unwrap_or_else(|error| panic!("{path}: {error}"))
+}
+
+fn nop() -> Instruction {
+    Instruction { op: operation("nop").unwrap(), ..Default::default() }
+}
+
+fn vips(routine: &Routine) -> Vec<u64> {
+    (0..routine.overview().blocks).map(|place| routine.block(place).unwrap().vip.0).collect()
+}
+
+#[test]
+fn samples_are_accepted_or_refused() {
+    let lines =
+        String::from_utf8(std::fs::read(format!("{}/../../samples/EXPECTED", env!("CARGO_MANIFEST_DIR"))).unwrap());
+    for line in lines.unwrap().lines() {
+        let (path, words) = line.split_once(": ").unwrap();
+        let file = sample(path.trim_start_matches("samples/").trim_end_matches(".vtil"));
+        match check(&file) {
+            Ok(consumed) => assert!(words.starts_with(&format!("accepted, {consumed} bytes consumed")), "{line}"),
+            Err(refusal) => assert_eq!(words, refusal.to_string()),
+        }
+        assert_eq!(Routine::open(&file).map(|routine| routine.written().len()), check(&file), "{line}");
+    }
+}
+
+#[test]
+fn refusals_have_numbers_and_words() {
+    for number in 1..=17 {
+        let refusal = Refusal::from_number(number).unwrap();
+        assert_eq!(refusal.number(), number);
+        assert_eq!(refusal.to_string(), format!("refused {number}: {}", refusal.words()));
+    }
+    assert_eq!(Refusal::from_number(0), None);
+    assert_eq!(Refusal::from_number(18), None);
+}
+
+#[test]
+fn the_written_form_is_normal() {
+    let file = sample("odd-flags");
+    let routine = Routine::open(&file).unwrap();
+    let changed: Vec<usize> = (0..file.len()).filter(|&i| file[i] != routine.written()[i]).collect();
+    assert_eq!(changed, [5, 60, 173]);
+    assert_eq!(Routine::open(routine.written()).unwrap().written(), routine.written());
+    assert_eq!(Routine::open(&sample("trailing")).unwrap().written(), sample("minimal"));
+}
+
+#[test]
+fn create_remove_and_undo() {
+    let mut routine = Routine::open(&sample("minimal")).unwrap();
+    assert_eq!(routine.undo(), Err(Refusal::NothingToTakeBack));
+    for vip in [5, 6, 7] {
+        routine.create_block(Vip(vip)).unwrap();
+    }
+    assert_eq!((vips(&routine), routine.written().len()), (vec![5, 6, 7], 222));
+    assert_eq!(routine.create_block(Vip(6)), Err(Refusal::BlockPresent));
+    routine.remove_block(Vip(5)).unwrap();
+    assert_eq!((vips(&routine), routine.written().len()), (vec![7, 6], 186));
+    assert_eq!(routine.remove_block(Vip(5)), Err(Refusal::NoSuchBlock));
+    routine.undo().unwrap();
+    assert_eq!(vips(&routine), [5, 6, 7]);
+    for _ in 0..3 {
+        routine.undo().unwrap();
+    }
+    assert_eq!(routine.written(), sample("minimal"));
+    assert_eq!(routine.undo(), Err(Refusal::NothingToTakeBack));
+}
+
+#[test]
+fn append_and_look() {
+    let register = Register { flags: 1, combined_id: 0x0200_0000_0000_0005, bit_count: 32, bit_offset: 8 };
+    let mov = Instruction {
+        op: operation("mov").unwrap(),
+        operands: vec![Operand::Register(register), Operand::Immediate(Immediate { value: u64::MAX, bit_count: 64 })],
+        vip: Vip(0x1000),
+        sp_offset: -8,
+        sp_index: 3,
+        sp_reset: true,
+    };
+    assert_eq!((nop().to_bytes().unwrap().len(), mov.to_bytes().unwrap().len()), (32, 76));
+    let mut routine = Routine::open(&sample("minimal")).unwrap();
+    assert_eq!(routine.append_instruction(Vip(1), &mov), Err(Refusal::NoSuchBlock));
+    routine.create_block(Vip(1)).unwrap();
+    routine.append_instruction(Vip(1), &mov).unwrap();
+    routine.append(Vip(1), &nop().to_bytes().unwrap()).unwrap();
+    assert_eq!(routine.instruction(0, 0), Ok(mov));
+    assert_eq!(routine.instruction(0, 1), Ok(nop()));
+    assert_eq!(routine.instruction(0, 2), Err(Refusal::NoSuchBlock));
+    assert_eq!(routine.instruction(1, 0), Err(Refusal::NoSuchBlock));
+    assert_eq!(routine.written().len(), 114 + 36 + 76 + 32);
+}
+
+#[test]
+fn refused_instructions() {
+    let foreign = Operand::Register(Register { combined_id: 3 << 56, ..Default::default() });
+    let jmp = operation("jmp").unwrap();
+    let with = |op, operands| Instruction { op, operands, ..Default::default() }.to_bytes();
+    assert_eq!(with(49, vec![]), Err(Refusal::UnknownOperation));
+    assert_eq!(with(jmp, vec![]), Err(Refusal::WrongOperandCount));
+    assert_eq!(with(jmp, vec![foreign; 4]), Err(Refusal::WrongOperandCount));
+    assert_eq!(with(jmp, vec![foreign]), Err(Refusal::ForeignRegister));
+
+    let mut routine = Routine::open(&sample("odd-flags")).unwrap();
+    let before = routine.written().to_vec();
+    let bytes = nop().to_bytes().unwrap();
+    let longer = [&bytes[..], &[0]].concat();
+    assert_eq!(routine.append(Vip(5), &[]), Err(Refusal::ShortFile));
+    assert_eq!(routine.append(Vip(5), &bytes[..31]), Err(Refusal::ShortFile));
+    assert_eq!(routine.append(Vip(5), &longer), Err(Refusal::Leftover));
+    assert_eq!(routine.append(Vip(6), &longer), Err(Refusal::Leftover));
+    assert_eq!(routine.append(Vip(5), &[1, 0, 0, 0, 0xff]), Err(Refusal::NameNotText));
+    assert_eq!(routine.append(Vip(5), b"\x03\0\0\0zzz\0\0\0\0"), Err(Refusal::UnknownOperation));
+    assert_eq!(routine.append(Vip(5), b"\x03\0\0\0jmp\x01\0\0\0\x02\0\0\0"), Err(Refusal::UnknownOperandKind));
+    assert_eq!(routine.written(), before);
+}
+
+#[test]
+fn every_operation_is_written_and_read() {
+    let mut routine = Routine::open(&sample("minimal")).unwrap();
+    routine.create_block(Vip(0)).unwrap();
+    let zero = Operand::Immediate(Immediate::default());
+    for (op, (name, count)) in vtil::OPERATIONS.into_iter().enumerate() {
+        let instruction = Instruction { op: op as u32, operands: vec![zero; count], ..Default::default() };
+        assert_eq!(instruction.name(), Some(name));
+        assert_eq!(&instruction.to_bytes().unwrap()[4..4 + name.len()], name.as_bytes());
+        routine.append_instruction(Vip(0), &instruction).unwrap();
+        assert_eq!(routine.instruction(0, op as u64), Ok(instruction));
+    }
+}
+
+#[test]
+fn looks_at_a_sample() {
+    let routine = Routine::open(&sample("blocks")).unwrap();
+    let overview = Overview { machine: 0, entry_vip: Vip(0x1000), special_conventions: 2, blocks: 3 };
+    assert_eq!(routine.overview(), overview);
+    let first = routine.block(0).unwrap();
+    assert_eq!((first.instructions, first.prev_vips, first.next_vips, first.last_temporary_index), (4, 0, 2, 6));
+    assert_eq!(routine.block_vip(0, Links::Next, 1), Ok(Vip(0x1020)));
+    assert_eq!(routine.block_vip(0, Links::Prev, 0), Err(Refusal::NoSuchBlock));
+    assert_eq!(routine.block(3), Err(Refusal::NoSuchBlock));
+    assert_eq!(routine.instruction(2, 1).unwrap().sp_offset, i64::MIN);
+
+    let own = routine.convention(0).unwrap();
+    assert_eq!((own.shadow_space, own.purge_stack, own.volatile_registers), (32, true, 2));
+    assert_eq!(own.frame_register, Register { flags: 9, combined_id: 0, bit_count: 64, bit_offset: 0 });
+    assert_eq!(routine.convention_register(0, Registers::Volatile, 1).unwrap().combined_id, 0x26);
+    assert_eq!(routine.convention_register(3, Registers::Param, 0).unwrap().combined_id, 0x0100_0000_0000_00c7);
+    assert_eq!(routine.convention_register(1, Registers::Param, 0), Err(Refusal::NoSuchBlock));
+    assert_eq!(routine.convention(4), Err(Refusal::NoSuchBlock));
+}
+
+/// Image and journal grow: more blocks than the first room holds, all taken back.
+#[test]
+fn room_grows() {
+    let mut routine = Routine::open(&sample("minimal")).unwrap();
+    for vip in 0..1000 {
+        routine.create_block(Vip(vip)).unwrap();
+    }
+    for vip in 0..500 {
+        routine.remove_block(Vip(vip)).unwrap();
+    }
+    assert_eq!(routine.overview().blocks, 500);
+    while routine.undo().is_ok() {}
+    assert_eq!(routine.written(), sample("minimal"));
+}
+
+#[test]
+fn a_copy_is_another_routine() {
+    let mut one = Routine::open(&sample("minimal")).unwrap();
+    one.create_block(Vip(1)).unwrap();
+    let mut two = one.clone();
+    two.undo().unwrap();
+    assert_eq!((one.overview().blocks, two.overview().blocks), (1, 0));
+}
+
+/// Over the limit there is no room: a routine of one block with so many links.
+#[test]
+fn the_limit() {
+    let mut file = sample("minimal");
+    let links = 2_097_152u32;
+    file[110] = 1;
+    file.extend([0; 28]);
+    file.extend(links.to_le_bytes());
+    file.resize(file.len() + 8 * links as usize + 4, 0);
+    assert_eq!(check(&file), Ok(file.len()));
+    assert_eq!(Routine::open(&file).err(), Some(Refusal::ImageFull));
+}

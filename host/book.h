@@ -1,0 +1,30 @@
+/* A routine file that is open: an image and a journal of our own, and their book. */
+#ifndef ROUTINE_BOOK_H
+#define ROUTINE_BOOK_H
+
+#include <stddef.h>
+#include <stdint.h>
+
+#include "commands.h"
+#include "vtil.h"
+
+/* The library takes no image and no journal that is longer. */
+#define MOST_LENT ((size_t)16777216)
+
+struct book {
+    uint8_t *image, *journal;
+    size_t image_len, journal_len;
+    vtil_book numbers;
+};
+
+/*
+ * Opens the file `name` ("-": standard input) into an image with `room` bytes for
+ * it to grow, as far as the library's limit goes, and a journal of `journal_len`
+ * bytes. ALL_ACCEPTED when it is open: then book_free is owed. Otherwise it was
+ * said why, and nothing is owed.
+ */
+enum status book_open(const char *name, size_t room, size_t journal_len, struct book *out);
+
+void book_free(struct book *book);
+
+#endif

@@ -1,0 +1,112 @@
+/* routine edit FILE -s SCRIPT [-o OUT]: runs the script's lines as calls on the routine. */
+#include "commands.h"
+
+#include <inttypes.h>
+#include <stdio.h>
+#include <string.h>
+
+#include "book.h"
+#include "output.h"
+#include "script.h"
+#include "words.h"
+
+#define EMPTY_BLOCK 36
+
+/* How many bytes the routine can grow by. The library's limit makes more than that useless. */
+static size_t growth(const struct script *script)
+{
+    size_t room = 0;
+    for (size_t i = 0; i < script->count && room < MOST_LENT; i++)
+        room += script->lines[i].call == CREATE ? EMPTY_BLOCK : script->lines[i].len;
+    return room;
+}
+
+static vtil_answer run_line(const struct line *line, struct book *book)
+{
+    switch (line->call) {
+    case CREATE:
+        return vtil_create_block(book->numbers, book->image, book->image_len, book->journal, book->journal_len, line->vip);
+    case REMOVE:
+        return vtil_remove_block(book->numbers, book->image, book->image_len, book->journal, book->journal_len, line->vip);
+    case APPEND:
+        return vtil_append(book->numbers, book->image, book->image_len, book->journal, book->journal_len, line->vip,
+                           line->bytes, line->len);
+    default:
+        return vtil_undo(book->numbers, book->image, book->image_len, book->journal, book->journal_len);
+    }
+}
+
+static void print_line(FILE *to, const struct line *line)
+{
+    fprintf(to, "line %zu: ", line->number);
+    switch (line->call) {
+    case CREATE: fprintf(to, "create 0x%" PRIx64, line->vip); break;
+    case REMOVE: fprintf(to, "remove 0x%" PRIx64, line->vip); break;
+    case APPEND: fprintf(to, "append 0x%" PRIx64 ", %zu bytes", line->vip, line->len); break;
+    default: fprintf(to, "undo"); break;
+    }
+}
+
+static void print_answer(FILE *to, vtil_answer answer)
+{
+    if (answer.refusal != 0)
+        fprintf(to, ": refused %" PRIu64 ": %s\n", answer.refusal, refusal_words((int64_t)answer.refusal));
+    else
+        fprintf(to, ": accepted, %" PRIu64 " bytes written, %" PRIu64 " of the journal used\n", answer.book.written,
+                answer.book.used);
+}
+
+/* Answers how many lines were refused. */
+static size_t run_lines(FILE *to, const struct script *script, struct book *book)
+{
+    size_t refused = 0;
+    for (size_t i = 0; i < script->count; i++) {
+        vtil_answer answer = run_line(&script->lines[i], book);
+        print_line(to, &script->lines[i]);
+        print_answer(to, answer);
+        refused += answer.refusal != 0;
+        book->numbers = answer.book; /* after a refusal the one handed in */
+    }
+    fprintf(to, "%zu lines, %zu refused\n", script->count, refused);
+    return refused;
+}
+
+static enum status write_result(const char *out, const struct book *book)
+{
+    const char *problem = output_write(out, book->image, (size_t)book->numbers.written);
+    if (problem == NULL)
+        return ALL_ACCEPTED;
+    say_unwritten(out, problem);
+    return TROUBLE;
+}
+
+static enum status edit_book(const struct request *request, const struct script *script, struct book *book)
+{
+    /* The answers don't stand among the routine's bytes. */
+    FILE *to = request->out != NULL && strcmp(request->out, "-") == 0 ? stderr : stdout;
+    enum status status = run_lines(to, script, book) == 0 ? ALL_ACCEPTED : SOME_REFUSED;
+    if (request->out == NULL)
+        return status;
+    /* Nothing is written where it can't be seen what was refused. */
+    if (fflush(to) != 0 || ferror(to)) {
+        say_unwritten(request->out, "the lines' answers could not be shown");
+        return TROUBLE;
+    }
+    return worse(status, write_result(request->out, book));
+}
+
+enum status edit_command(const struct request *request)
+{
+    struct script script;
+    struct book book;
+    enum status status = script_read(request->script, &script);
+    if (status != ALL_ACCEPTED)
+        return status;
+    status = book_open(request->files[0], growth(&script), MOST_LENT, &book);
+    if (status == ALL_ACCEPTED) {
+        status = edit_book(request, &script, &book);
+        book_free(&book);
+    }
+    script_free(&script);
+    return status;
+}

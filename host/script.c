@@ -1,0 +1,202 @@
+#include "script.h"
+
+#include <stdbool.h>
+#include <stdio.h>
+#include <stdlib.h>
+#include <string.h>
+
+#include "file.h"
+
+/* A part of the script's text: a line, a word. */
+struct part {
+    const char *at, *end;
+};
+
+static bool is_blank(char c)
+{
+    return c == ' ' || c == '\t' || c == '\r';
+}
+
+/* Takes the next word from the front of `line`; it is empty at the line's end, and where a comment begins. */
+static struct part next_word(struct part *line)
+{
+    while (line->at < line->end && is_blank(*line->at))
+        line->at++;
+    if (line->at < line->end && *line->at == '#')
+        line->at = line->end;
+    struct part word = {line->at, line->at};
+    while (word.end < line->end && !is_blank(*word.end))
+        word.end++;
+    line->at = word.end;
+    return word;
+}
+
+static bool is_empty(struct part part)
+{
+    return part.at == part.end;
+}
+
+static bool is_word(struct part part, const char *word)
+{
+    size_t len = strlen(word);
+    return (size_t)(part.end - part.at) == len && memcmp(part.at, word, len) == 0;
+}
+
+/* The value of a digit, 16 where it is none. */
+static unsigned digit_value(char c)
+{
+    if (c >= '0' && c <= '9')
+        return (unsigned)(c - '0');
+    if (c >= 'a' && c <= 'f')
+        return (unsigned)(c - 'a') + 10;
+    if (c >= 'A' && c <= 'F')
+        return (unsigned)(c - 'A') + 10;
+    return 16;
+}
+
+/* Decimal, or hexadecimal after 0x, of at most 64 bits. */
+static bool read_number(struct part word, uint64_t *value)
+{
+    unsigned base = 10;
+    if (word.end - word.at > 2 && word.at[0] == '0' && (word.at[1] == 'x' || word.at[1] == 'X')) {
+        base = 16;
+        word.at += 2;
+    }
+    *value = 0;
+    for (const char *at = word.at; at < word.end; at++) {
+        unsigned digit = digit_value(*at);
+        if (digit >= base || *value > (UINT64_MAX - digit) / base)
+            return false;
+        *value = *value * base + digit;
+    }
+    return !is_empty(word);
+}
+
+/* Pairs of hexadecimal digits, onto the end of the line's bytes. */
+static bool read_bytes(struct part word, struct line *line)
+{
+    if ((word.end - word.at) % 2 != 0)
+        return false;
+    for (const char *at = word.at; at < word.end; at += 2) {
+        unsigned high = digit_value(at[0]), low = digit_value(at[1]);
+        if (high == 16 || low == 16)
+            return false;
+        line->bytes[line->len++] = (uint8_t)(16 * high + low);
+    }
+    return true;
+}
+
+/* What is wrong with the words after `append VIP`; NULL when nothing is. */
+static const char *read_instruction(struct part rest, struct line *line)
+{
+    struct part word = next_word(&rest);
+    if (is_empty(word))
+        return "append wants the instruction's bytes";
+    for (; !is_empty(word); word = next_word(&rest))
+        if (!read_bytes(word, line))
+            return "bytes are pairs of hexadecimal digits";
+    return NULL;
+}
+
+static bool find_call(struct part word, enum call *call)
+{
+    static const char *const words[] = {[CREATE] = "create", [REMOVE] = "remove", [APPEND] = "append", [UNDO] = "undo"};
+    for (int i = CREATE; i <= UNDO; i++) {
+        *call = (enum call)i;
+        if (is_word(word, words[i]))
+            return true;
+    }
+    return false;
+}
+
+/* What is wrong with a line that has words; NULL when nothing is. */
+static const char *read_line(struct part rest, struct line *line)
+{
+    if (!find_call(next_word(&rest), &line->call))
+        return "a line begins with create, remove, append or undo";
+    if (line->call != UNDO && !read_number(next_word(&rest), &line->vip))
+        return "a vip is a number of at most 64 bits, decimal, or hexadecimal after 0x";
+    if (line->call == APPEND)
+        return read_instruction(rest, line);
+    return is_empty(next_word(&rest)) ? NULL : "there are words after its end";
+}
+
+static bool has_words(struct part line)
+{
+    return !is_empty(next_word(&line));
+}
+
+static size_t count_lines(const struct file *file)
+{
+    size_t count = 1;
+    for (size_t i = 0; i < file->len; i++)
+        count += file->bytes[i] == '\n';
+    return count;
+}
+
+/* Room for as many lines as there can be, and for their bytes, which two digits each stand for. */
+static bool make_room(const struct file *file, struct script *out)
+{
+    size_t lines = count_lines(file);
+    out->count = 0;
+    out->lines = lines > SIZE_MAX / sizeof *out->lines ? NULL : malloc(lines * sizeof *out->lines);
+    out->bytes = malloc(file->len / 2 + 1);
+    return out->lines != NULL && out->bytes != NULL;
+}
+
+static void say_bad_line(const char *name, size_t number, const char *problem)
+{
+    fflush(stdout);
+    fprintf(stderr, "routine: ");
+    print_name(stderr, name);
+    fprintf(stderr, ": line %zu: %s\n", number, problem);
+}
+
+static enum status read_lines(const char *name, const struct file *file, struct script *out)
+{
+    const char *at = (const char *)file->bytes, *end = at + file->len;
+    uint8_t *room = out->bytes;
+    for (size_t number = 1; at < end; number++) {
+        const char *feed = memchr(at, '\n', (size_t)(end - at));
+        struct part rest = {at, feed == NULL ? end : feed};
+        at = feed == NULL ? end : feed + 1;
+        if (!has_words(rest))
+            continue;
+        struct line *line = &out->lines[out->count++];
+        *line = (struct line){.number = number, .bytes = room};
+        const char *problem = read_line(rest, line);
+        if (problem != NULL) {
+            say_bad_line(name, number, problem);
+            return TROUBLE;
+        }
+        room += line->len;
+    }
+    return ALL_ACCEPTED;
+}
+
+enum status script_read(const char *name, struct script *out)
+{
+    struct file file;
+    const char *problem = file_read(name, &file);
+    if (problem != NULL) {
+        say_unread(name, problem);
+        return TROUBLE;
+    }
+    enum status status = TROUBLE;
+    if (make_room(&file, out))
+        status = read_lines(name, &file, out);
+    else
+        say_unread(name, "too large for memory");
+    file_free(&file);
+    if (status != ALL_ACCEPTED)
+        script_free(out);
+    return status;
+}
+
+void script_free(struct script *script)
+{
+    free(script->lines);
+    free(script->bytes);
+    script->lines = NULL;
+    script->bytes = NULL;
+}

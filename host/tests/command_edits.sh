@@ -1,0 +1,213 @@
+#!/usr/bin/env bash
+# command_edits.sh ROUTINE SCRATCH: `routine edit`: words, files and exit status.
+set -u
+script="command_edits"
+. host/tests/expect.sh
+
+# A nop: name size, name, operand count, vip, sp offset, sp index, sp reset.
+nop="03000000 6e6f70 00000000 0000000000000000 0000000000000000 00000000 00"
+
+# passes NAME COMMAND..
+passes() {
+    local name=$1
+    shift
+    if "$@"; then pass "$name"; else fail "$name"; fi
+}
+
+write_script() {
+    cat >"$scratch/script"
+}
+
+accepted_lines() {
+    write_script <<END
+# Document 01's three blocks.
+create 5
+  create 0x6
+	create 7   # the last
+
+append 5 $nop
+remove 5
+undo
+END
+    expect "edit" 0 "line 2: create 0x5: accepted, 150 bytes written, 20 of the journal used
+line 3: create 0x6: accepted, 186 bytes written, 40 of the journal used
+line 4: create 0x7: accepted, 222 bytes written, 60 of the journal used
+line 6: append 0x5, 32 bytes: accepted, 254 bytes written, 80 of the journal used
+line 7: remove 0x5: accepted, 186 bytes written, 168 of the journal used
+line 8: undo: accepted, 254 bytes written, 80 of the journal used
+6 lines, 0 refused" "" "$routine" edit samples/minimal.vtil -s "$scratch/script" -o "$scratch/edited"
+    expect "what was written" 0 "$scratch/edited: accepted, 254 bytes consumed" "" "$routine" check "$scratch/edited"
+    passes "its blocks are 5, 6, 7" [ "$("$routine" show "$scratch/edited" | sed -n 's/^block [0-9]*: vip \([^,]*\),.*/\1/p' | tr '\n' ' ')" = "0x5 0x6 0x7 " ]
+    passes "the nop is in the first" [ "$("$routine" show "$scratch/edited" | grep -c '    0: nop; vip 0x0')" = 1 ]
+}
+
+# Taking everything back gives the routine that was there.
+taken_back() {
+    write_script <<END
+remove 0x1000
+append 0x1010 $nop
+create 18446744073709551615
+remove 0x1010
+undo
+undo
+undo
+undo
+END
+    expect "edit and take all back" 0 "line 1: remove 0x1000: accepted, 708 bytes written, 446 of the journal used
+line 2: append 0x1010, 32 bytes: accepted, 740 bytes written, 466 of the journal used
+line 3: create 0xffffffffffffffff: accepted, 776 bytes written, 486 of the journal used
+line 4: remove 0x1010: accepted, 549 bytes written, 733 of the journal used
+line 5: undo: accepted, 776 bytes written, 486 of the journal used
+line 6: undo: accepted, 740 bytes written, 466 of the journal used
+line 7: undo: accepted, 708 bytes written, 446 of the journal used
+line 8: undo: accepted, 1134 bytes written, 0 of the journal used
+8 lines, 0 refused" "" "$routine" edit samples/blocks.vtil -s "$scratch/script" -o "$scratch/edited"
+    passes "the routine is as it was" cmp samples/blocks.vtil "$scratch/edited"
+}
+
+refused_lines() {
+    write_script <<END
+undo
+create 5
+create 5
+remove 6
+append 6 $nop
+append 5 $nop 00
+append 5 ff000000
+append 5 03000000 7a7a7a 00000000
+append 5 03000000 6e6f70 01000000
+append 5 01000000 ff
+append 5 $nop
+END
+    cp samples/blocks.vtil "$scratch/edited"
+    expect "edit with refused lines" 1 "line 1: undo: refused 16: nothing to take back
+line 2: create 0x5: accepted, 150 bytes written, 20 of the journal used
+line 3: create 0x5: refused 14: block present
+line 4: remove 0x6: refused 15: no such block, or no such place
+line 5: append 0x6, 32 bytes: refused 15: no such block, or no such place
+line 6: append 0x5, 33 bytes: refused 17: leftover: bytes after the appended instruction
+line 7: append 0x5, 4 bytes: $refused_1
+line 8: append 0x5, 11 bytes: refused 7: unknown operation: name not among the 49
+line 9: append 0x5, 11 bytes: refused 8: wrong operand count for the name
+line 10: append 0x5, 5 bytes: refused 2: name not text: not well-formed UTF-8 (Unicode Standard)
+line 11: append 0x5, 32 bytes: accepted, 182 bytes written, 40 of the journal used
+11 lines, 9 refused" "" "$routine" edit samples/minimal.vtil -s "$scratch/script" -o "$scratch/edited"
+    expect "the accepted lines were done" 0 "$scratch/edited: accepted, 182 bytes consumed" "" "$routine" check "$scratch/edited"
+}
+
+# Where it is written.
+outputs() {
+    printf 'create 1' >"$scratch/script" # without a line feed
+    cp samples/minimal.vtil "$scratch/in"
+    expect "edit without -o" 0 "line 1: create 0x1: accepted, 150 bytes written, 20 of the journal used
+1 lines, 0 refused" "" "$routine" edit "$scratch/in" -s "$scratch/script"
+    passes "nothing was written" cmp samples/minimal.vtil "$scratch/in"
+    "$routine" edit "$scratch/in" -s "$scratch/script" -o "$scratch/in" >/dev/null
+    expect "edit a file over itself" 0 "$scratch/in: accepted, 150 bytes consumed" "" "$routine" check "$scratch/in"
+    "$routine" edit samples/minimal.vtil -s - -o - <"$scratch/script" 2>"$scratch/lines" | cmp - "$scratch/in"
+    passes "edit to standard output, the script from standard input" [ "${PIPESTATUS[1]}" = 0 ]
+    passes "its lines are on standard error" [ "$(tail -n 1 "$scratch/lines")" = "1 lines, 0 refused" ]
+    "$routine" edit - -s "$scratch/script" -o "$scratch/edited" <samples/minimal.vtil >/dev/null
+    passes "edit standard input" cmp "$scratch/edited" "$scratch/in"
+    printf 'create 1\r\n\r\n# nothing\r\nundo\r\n' >"$scratch/script"
+    expect "a script with carriage returns" 0 "line 1: create 0x1: accepted, 150 bytes written, 20 of the journal used
+line 4: undo: accepted, 114 bytes written, 0 of the journal used
+2 lines, 0 refused" "" "$routine" edit samples/minimal.vtil -s "$scratch/script"
+    expect "an empty script" 0 "0 lines, 0 refused" "" "$routine" edit samples/odd-flags.vtil -s /dev/null -o "$scratch/edited"
+    "$routine" normalize samples/odd-flags.vtil -o "$scratch/written"
+    passes "which writes the written form" cmp "$scratch/written" "$scratch/edited"
+}
+
+# bad_line NAME PROBLEM LINE: the script is refused as a whole, before its first call.
+bad_line() {
+    printf 'create 1\n# so far good\n%s\n' "$3" >"$scratch/script"
+    expect "a bad line: $1" 2 "" "routine: $scratch/script: line 3: $2" \
+        "$routine" edit samples/minimal.vtil -s "$scratch/script" -o "$scratch/in"
+}
+bad_lines() {
+    local vip="a vip is a number of at most 64 bits, decimal, or hexadecimal after 0x"
+    local word="a line begins with create, remove, append or undo"
+    local pairs="bytes are pairs of hexadecimal digits"
+    local before
+    before=$(cksum <"$scratch/in")
+    bad_line "an unknown word" "$word" "creat 5"
+    bad_line "a word in capitals" "$word" "CREATE 5"
+    bad_line "no vip" "$vip" "create"
+    bad_line "a comment for a vip" "$vip" "remove # 5"
+    bad_line "a vip of 65 bits" "$vip" "create 18446744073709551616"
+    bad_line "a vip of 17 digits" "$vip" "create 0x10000000000000000"
+    bad_line "a vip with a sign" "$vip" "remove -1"
+    bad_line "a vip of no digits" "$vip" "remove 0x"
+    bad_line "a vip with letters" "$vip" "remove 5f"
+    bad_line "no bytes" "append wants the instruction's bytes" "append 5"
+    bad_line "half a byte" "$pairs" "append 5 030"
+    bad_line "no digits" "$pairs" "append 5 03 0g"
+    bad_line "words after create" "there are words after its end" "create 5 6"
+    bad_line "words after undo" "there are words after its end" "undo 1"
+    printf 'create 1\nun\0do\n' >"$scratch/script"
+    expect "a bad line: no text" 2 "" "routine: $scratch/script: line 2: $word" \
+        "$routine" edit samples/minimal.vtil -s "$scratch/script" -o "$scratch/in"
+    passes "nothing was written by any of them" [ "$(cksum <"$scratch/in")" = "$before" ]
+}
+
+edit_fails() {
+    local before
+    printf 'create 99\n' >"$scratch/script"
+    before=$(cksum <"$scratch/in")
+    expect "edit a damaged file" 1 "" "routine: samples/wrong-mark.vtil: $refused_3" \
+        "$routine" edit samples/wrong-mark.vtil -s "$scratch/script" -o "$scratch/in"
+    expect "edit a missing file" 2 "" "routine: missing: not read: No such file or directory" \
+        "$routine" edit missing -s "$scratch/script" -o "$scratch/in"
+    expect "a missing script" 2 "" "routine: missing: not read: No such file or directory" \
+        "$routine" edit samples/minimal.vtil -s missing -o "$scratch/in"
+    expect "no script" 2 "" "routine: -s SCRIPT is missing for edit
+$try" "$routine" edit samples/minimal.vtil -o "$scratch/in"
+    expect "file and script from standard input" 2 "" "routine: -: not read: standard input was read already" \
+        "$routine" edit - -s - -o "$scratch/in" <"$scratch/script"
+    expect "the lines' answers on a full disk" 2 "" "routine: $scratch/in: not written: the lines' answers could not be shown
+routine: standard output could not be written" \
+        bash -c '"$0" edit samples/minimal.vtil -s "$1/script" -o "$1/in" >/dev/full' "$routine" "$scratch"
+    expect "the lines' answers on a closed stream" 2 "" "routine: $scratch/in: not written: the lines' answers could not be shown
+routine: standard output could not be written" \
+        bash -c '"$0" edit samples/minimal.vtil -s "$1/script" -o "$1/in" >&-' "$routine" "$scratch"
+    expect "edit to a full device" 2 "line 1: create 0x63: accepted, 150 bytes written, 20 of the journal used
+1 lines, 0 refused" "routine: /dev/full: not written: No space left on device" \
+        "$routine" edit samples/minimal.vtil -s "$scratch/script" -o /dev/full
+    passes "the file there is as it was" [ "$(cksum <"$scratch/in")" = "$before" ]
+}
+
+# A routine of 16,777,210 bytes has no room for one more block; its removed block fills the journal but for 136 bytes.
+at_the_limit() {
+    local name="edit at the library's limit" vip
+    if ! command -v python3 >/dev/null; then
+        skip "$name" "there is no python3"
+        return
+    fi
+    python3 -B -c 'import sys; sys.path.insert(0, "samples"); import make
+sys.stdout.buffer.write(make.routine(blocks=[make.block(1, prev=range(2097128)), make.block(2)]))' >"$scratch/large"
+    printf '%s\n' "create 3" "remove 1" "create "{3..9} "undo" "create 9" >"$scratch/script"
+    expect "$name" 1 "line 1: create 0x3: refused 11: image full: the new written size passes the image's length
+line 2: remove 0x1: accepted, 150 bytes written, 16777080 of the journal used
+$(for vip in 3 4 5 6 7 8; do
+        echo "line $vip: create 0x$vip: accepted, $((150 + 36 * (vip - 2))) bytes written, $((16777080 + 20 * (vip - 2))) of the journal used"
+    done)
+line 9: create 0x9: refused 12: journal full: used plus cost passes the journal's length
+line 10: undo: accepted, 330 bytes written, 16777180 of the journal used
+line 11: create 0x9: accepted, 366 bytes written, 16777200 of the journal used
+11 lines, 2 refused" "" "$routine" edit "$scratch/large" -s "$scratch/script"
+    rm "$scratch/large"
+}
+
+helps() {
+    passes "help for edit" grep -q "^usage: routine edit " <("$routine" edit --help)
+}
+
+accepted_lines
+taken_back
+refused_lines
+outputs
+bad_lines
+edit_fails
+at_the_limit
+helps
+finish

@@ -1,0 +1,62 @@
+# shellcheck shell=bash
+# Running a command and holding what it gave. Sourced by the tests of the command, which get the words
+# ROUTINE SCRATCH. The current folder is the repository root, SCRATCH an empty folder.
+. host/tests/count.sh
+export LC_ALL=C
+routine=$(realpath "$1")
+scratch=$(realpath "$2")
+samples=$(realpath samples)
+refused_1="refused 1: short file: a field or name passes the end"
+refused_3="refused 3: wrong mark: either header mark differs"
+# shellcheck disable=SC2034 # for the scripts that source this
+try="routine: try routine --help"
+
+# hold NAME STATUS: what was just run gave this status, and out and err hold what is wanted.
+hold() {
+    if [ "$status" = "$2" ] && cmp -s "$scratch/out" "$scratch/want-out" && cmp -s "$scratch/err" "$scratch/want-err"; then
+        pass "$1"
+        return
+    fi
+    fail "$1"
+    echo "status $status where $2 is due"
+    diff "$scratch/want-out" "$scratch/out"
+    diff "$scratch/want-err" "$scratch/err"
+}
+
+# expect NAME STATUS OUT ERR COMMAND..: runs the command; OUT and ERR are its whole output and error
+# output. Standard input is that of the call.
+expect() {
+    local name=$1 due=$2
+    want "$3" "$4"
+    shift 4
+    status=0
+    "$@" >"$scratch/out" 2>"$scratch/err" || status=$?
+    hold "$name" "$due"
+}
+
+# A text that isn't empty ends in a line feed.
+want() {
+    if [ -n "$1" ]; then printf '%s\n' "$1"; fi >"$scratch/want-out"
+    if [ -n "$2" ]; then printf '%s\n' "$2"; fi >"$scratch/want-err"
+}
+
+# output_fails NAME REASON: as expect, for a command that was run with a standard output that fails.
+output_fails() {
+    : >"$scratch/out"
+    want "" "routine: standard output could not be written: $2"
+    hold "$1" 2
+}
+
+# closed_pipe NAME WORDS..: as expect, for a pipe as standard output whose only reader is gone.
+closed_pipe() {
+    local name=$1
+    shift
+    rm -f "$scratch/closed"
+    mkfifo "$scratch/closed"
+    # Descriptor 3 is the reader, which is closed again before anything is written.
+    exec 3<>"$scratch/closed" 4>"$scratch/closed" 3>&-
+    status=0
+    "$@" >&4 2>"$scratch/err" || status=$?
+    exec 4>&-
+    output_fails "$name" "Broken pipe"
+}

@@ -1,0 +1,42 @@
+/* Counting for the test programs: groups of cases, what differs, and crashes. */
+#ifndef GROUP_H
+#define GROUP_H
+
+#include <stddef.h>
+#include <stdint.h>
+
+#define ANSWERS 18 /* accepted, and refusals 1 to 17 */
+
+/* The group of cases that runs. */
+extern struct group {
+    const char *name;
+    uint64_t cases, differ;
+    uint64_t answers[ANSWERS]; /* how often each was due */
+} group;
+
+/* The program's name for its messages, and crashes reported with the case that they happen in. */
+void set_up_groups(const char *program);
+
+void begin(const char *name);
+
+/* Prints the group's line. A group without a case has failed. */
+void end(void);
+
+/* As end, where every answer of the list (which -1 ends) has to be due at least `least` times. */
+void end_of_random(uint64_t least, const int *answers);
+
+void skip(const char *name, const char *why);
+
+/* One more case. */
+void next_case(void);
+
+/* Counts a difference and prints the first few. `about` is a number that tells the case apart. */
+void hold(const char *what, size_t about, int64_t got, int64_t want);
+
+/* Something that is needed is missing: ends the program. */
+void stop(const char *what);
+
+/* Prints the last line, and answers the exit status. */
+int finish(void);
+
+#endif

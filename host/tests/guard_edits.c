@@ -1,0 +1,596 @@
+/*
+ * guard_edits FILE..: create, remove, append, undo and run, between guard pages,
+ * against the reference: its calls on a book, and the routine machine.
+ */
+#include <stdbool.h>
+#include <stdlib.h>
+#include <string.h>
+
+#include "cases.h"
+#include "group.h"
+#include "lent.h"
+#include "reference.h"
+#include "reference_book.h"
+#include "shelf.h"
+
+#define LISTS 350
+#define CALLS 60 /* in a list */
+#define DAMAGED_JOURNALS 6000
+#define MOST_LENT ((size_t)16777216)
+
+static struct bytes *samples;
+static size_t sample_count;
+static struct room instruction_room;
+
+/* One call in both ------------------------------------------------------------------------ */
+
+static vtil_answer library_call(vtil_book numbers, const struct ref_call *call)
+{
+    struct lent bytes = lend(&instruction_room, call->len, below(2) == 0);
+    memcpy(bytes.plain, call->bytes, call->len);
+    switch (call->kind) {
+    case REF_CREATE:
+        return vtil_create_block(numbers, image.writable, image.len, journal.writable, journal.len, call->vip);
+    case REF_REMOVE:
+        return vtil_remove_block(numbers, image.writable, image.len, journal.writable, journal.len, call->vip);
+    case REF_APPEND:
+        return vtil_append(numbers, image.writable, image.len, journal.writable, journal.len, call->vip, bytes.readable,
+                           bytes.len);
+    default:
+        return vtil_undo(numbers, image.writable, image.len, journal.writable, journal.len);
+    }
+}
+
+/* The same call on both books; holds the answers and what is left behind. Answers what was due. */
+static vtil_answer call_both(const struct ref_call *call)
+{
+    vtil_book before = twin.numbers;
+    ref_forget();
+    vtil_answer want = ref_step(&twin, call);
+    ref_forget();
+    next_case();
+    hold_answer(library_call(before, call), want);
+    hold_bytes();
+    return want;
+}
+
+static uint8_t no_bytes_at[1];
+
+static struct ref_call call_of(int kind, uint64_t vip)
+{
+    struct ref_call call = {REF_UNDO, vip, no_bytes_at, 0};
+    call.kind = kind;
+    return call;
+}
+
+/* Document 01's instances -------------------------------------------------------------------- */
+
+static void due(int kind, uint64_t vip, uint64_t refusal, uint64_t written, uint64_t used)
+{
+    struct ref_call call = call_of(kind, vip);
+    vtil_answer answer = call_both(&call);
+    hold("document 01's refusal", (size_t)vip, (int64_t)answer.refusal, (int64_t)refusal);
+    hold("document 01's length", (size_t)vip, (int64_t)answer.book.written, (int64_t)written);
+    hold("document 01's used", (size_t)vip, (int64_t)answer.book.used, (int64_t)used);
+}
+
+static void open_smallest(size_t image_len, size_t journal_len)
+{
+    static struct bytes smallest;
+    smallest.len = 0;
+    put_front(&smallest);
+    put(&smallest, 4, 0);
+    lend_book(image_len, journal_len);
+    open_both(&smallest);
+}
+
+static void hold_vips(size_t count, const uint64_t *vips)
+{
+    for (size_t i = 0; i < count; i++) {
+        vtil_block_look look = vtil_block(twin.numbers, image.readable, image.len, journal.readable, journal.len, i);
+        hold("the vip at a place", i, (int64_t)look.vip, (int64_t)vips[i]);
+    }
+}
+
+static void instances(void)
+{
+    begin("document 01's instances of editing");
+    open_smallest(222, 116);
+    due(REF_UNDO, 0, 16, 114, 0);
+    due(REF_CREATE, 5, 0, 150, 20);
+    due(REF_CREATE, 6, 0, 186, 40);
+    due(REF_CREATE, 7, 0, 222, 60);
+    hold_vips(3, (const uint64_t[]){5, 6, 7});
+    due(REF_REMOVE, 5, 0, 186, 116);
+    hold_vips(2, (const uint64_t[]){7, 6});
+    due(REF_UNDO, 0, 0, 222, 60);
+    hold_vips(3, (const uint64_t[]){5, 6, 7});
+
+    open_smallest(150, 40);
+    due(REF_CREATE, 1, 0, 150, 20);
+    due(REF_CREATE, 2, 11, 150, 20);
+    open_smallest(149, 19);
+    due(REF_CREATE, 1, 11, 114, 0);
+    open_smallest(150, 19);
+    due(REF_CREATE, 1, 12, 114, 0);
+    end();
+}
+
+/* Long lists of calls ---------------------------------------------------------------------------- */
+
+static struct bytes instructions[CALLS];
+static struct ref_call calls[CALLS];
+
+/* A vip that some block has, or one of a few others. */
+static uint64_t some_vip(void)
+{
+    vtil_routine_look routine = ref_routine(&twin);
+    if (routine.refusal == 0 && routine.blocks > 0 && below(4) != 0)
+        return ref_block(&twin, below(routine.blocks)).vip;
+    return below(6);
+}
+
+static void make_call(size_t which)
+{
+    struct ref_call *call = &calls[which];
+    static const int kinds[] = {REF_CREATE, REF_CREATE, REF_REMOVE, REF_APPEND, REF_APPEND, REF_APPEND, REF_UNDO, REF_UNDO};
+    *call = call_of(kinds[below(8)], some_vip());
+    if (call->kind == REF_CREATE && below(3) != 0)
+        call->vip = below(UINT64_MAX);
+    if (call->kind != REF_APPEND)
+        return;
+    make_appended(&instructions[which]);
+    call->bytes = instructions[which].at;
+    call->len = instructions[which].len;
+}
+
+/* The machine sees the file, the calls and the lengths; its answers and its routine are the library's. */
+static void hold_machine(struct ref_machine *machine, const struct ref_call *call, vtil_answer library)
+{
+    vtil_answer due = ref_machine_step(machine, call);
+    hold("the machine's refusal", image.len, (int64_t)library.refusal, (int64_t)due.refusal);
+    hold("the machine's length", image.len, (int64_t)library.book.written, (int64_t)due.book.written);
+    hold("the machine's used", image.len, (int64_t)library.book.used, (int64_t)due.book.used);
+    hold("the machine's routine", image.len, memcmp(image.plain, machine->now.bytes, machine->now.len) == 0, 1);
+}
+
+/* Undo until nothing stands: the file's routine again, and a journal of zeros. */
+static void take_all_back(const uint8_t *opened, uint64_t written)
+{
+    struct ref_call undo = call_of(REF_UNDO, 0);
+    while (call_both(&undo).refusal == 0)
+        continue;
+    hold("all taken back", image.len, (int64_t)twin.numbers.written, (int64_t)written);
+    hold("the routine of the file", image.len, memcmp(image.plain, opened, image.len) == 0, 1);
+}
+
+/* The same list by vtil_run: each call's words, and the bytes in one text. */
+static void run_list(const struct bytes *file, size_t count)
+{
+    static uint64_t words[4 * CALLS];
+    static struct bytes texts;
+    static struct room words_room, texts_room, file_room;
+    if (words_room.len == 0) {
+        words_room = make_room(sizeof words);
+        texts_room = make_room(BYTES_MAX);
+        file_room = make_room(BYTES_MAX);
+    }
+    texts.len = 0;
+    for (size_t i = 0; i < count; i++) {
+        words[4 * i] = calls[i].kind;
+        words[4 * i + 1] = calls[i].vip;
+        words[4 * i + 2] = texts.len;
+        put_bytes(&texts, calls[i].bytes, calls[i].len);
+        words[4 * i + 3] = texts.len;
+    }
+    struct lent lent_words = lend(&words_room, 32 * count, true);
+    struct lent lent_texts = lend(&texts_room, texts.len, below(2) == 0);
+    struct lent lent_file = lend(&file_room, file->len, below(2) == 0);
+    memcpy(lent_words.plain, words, 32 * count);
+    memcpy(lent_texts.plain, texts.at, texts.len);
+    memcpy(lent_file.plain, file->at, file->len);
+
+    lend_book(image.len, journal.len);
+    ref_forget();
+    vtil_answer want = ref_open(&twin, file->at, file->len);
+    for (size_t i = 0; i < count && (i > 0 || want.refusal == 0); i++) {
+        ref_forget();
+        want = ref_step(&twin, &calls[i]);
+    }
+    next_case();
+    hold_answer(vtil_run(lent_file.readable, lent_file.len, image.writable, image.len, journal.writable, journal.len,
+                         (const uint64_t *)(const void *)lent_words.readable, 4 * count, lent_texts.readable, lent_texts.len),
+                want);
+    hold_bytes();
+}
+
+static void one_list(const struct bytes *file)
+{
+    static uint8_t opened[BYTES_MAX];
+    size_t size = (size_t)reference_check(file->at, file->len);
+    lend_book(size + below(5) * below(100), below(5) * below(150));
+    if (!open_both(file))
+        return;
+    memcpy(opened, image.plain, image.len);
+    struct ref_machine machine = ref_machine_start(file->at, image.len, journal.len);
+    for (size_t i = 0; i < CALLS; i++) {
+        make_call(i);
+        vtil_answer answer = call_both(&calls[i]);
+        hold_machine(&machine, &calls[i], answer);
+        if (below(16) == 0)
+            look_once(answer.book);
+        ref_forget();
+    }
+    ref_machine_free(&machine);
+    take_all_back(opened, size);
+    run_list(file, CALLS);
+    run_list(file, below(CALLS));
+}
+
+static void lists(void)
+{
+    static const int answers[] = {0, 1, 2, 5, 6, 7, 8, 11, 12, 14, 15, 16, 17, -1};
+    static struct bytes b;
+    begin("long lists of calls at tight lengths, against the machine, and the same by vtil_run");
+    seed(7);
+    for (int i = 0; i < LISTS; i++) {
+        do
+            if (below(4) == 0)
+                b = samples[below(sample_count)];
+            else
+                make_good_routine(&b);
+        while (reference_check(b.at, b.len) < 0);
+        one_list(&b);
+    }
+    end_of_random(10, answers);
+}
+
+/* vtil_run at its edges: files that are refused, lists of no calls, words that stand for no part of the texts. */
+static void odd_runs(void)
+{
+    begin("vtil_run: refused openings and empty lists");
+    seed(8);
+    for (size_t i = 0; i < sample_count; i++) {
+        int64_t size = reference_check(samples[i].at, samples[i].len);
+        lend_book(size < 0 ? 100 : (size_t)size + 40, 60);
+        calls[0] = call_of(REF_CREATE, 77);
+        run_list(&samples[i], 0);
+        run_list(&samples[i], 1);
+        lend_book(size < 1 ? 0 : (size_t)size - 1, 60);
+        run_list(&samples[i], 1);
+    }
+    end();
+}
+
+static void hold_words(const uint64_t *words, size_t count, const struct ref_call *call)
+{
+    static struct bytes smallest;
+    static const uint8_t texts[4] = {1, 0, 0, 0};
+    smallest.len = 0;
+    put_front(&smallest);
+    put(&smallest, 4, 0);
+    lend_book(200, 60);
+    ref_forget();
+    vtil_answer want = ref_open(&twin, smallest.at, smallest.len);
+    if (call != NULL)
+        want = ref_step(&twin, call);
+    next_case();
+    hold_answer(vtil_run(smallest.at, smallest.len, image.writable, image.len, journal.writable, journal.len, words, count,
+                         texts, sizeof texts),
+                want);
+    hold_bytes();
+}
+
+/* What no list of calls has: the words are read in this way all the same, and never outside the texts. */
+static void odd_words(void)
+{
+    uint64_t odd[EXTREMES];
+    begin("vtil_run: parts that are not in the texts count as empty, fewer than four words as no call, other kinds as undo");
+    extremes(4, odd);
+    for (int i = 0; i < EXTREMES; i++) {
+        for (int j = 0; j < EXTREMES; j++) {
+            uint64_t words[4] = {REF_APPEND, 5, odd[i], odd[j]};
+            if (odd[i] <= odd[j] && odd[j] <= 4)
+                continue;
+            struct ref_call call = call_of(REF_APPEND, 5);
+            hold_words(words, 4, &call);
+        }
+        uint64_t words[4] = {odd[i], 5, 0, 0};
+        struct ref_call undo = call_of(REF_UNDO, 5);
+        if (odd[i] > 2)
+            hold_words(words, 4, &undo);
+        uint64_t create[4] = {REF_CREATE, 5, odd[i], 0};
+        hold_words(create, (size_t)i % 4, NULL);
+    }
+    end();
+}
+
+/* Books and images made by hand ---------------------------------------------------------------------- */
+
+static void make_instruction_call(struct ref_call *call)
+{
+    static struct bytes nop;
+    nop.len = 0;
+    put_operation(&nop, "nop", 3, 0);
+    put_zeros(&nop, 20);
+    put(&nop, 1, 7);
+    call->bytes = nop.at;
+    call->len = nop.len;
+}
+
+/* Each kind of call on the book with these numbers, every time on the same bytes. */
+static void call_each(vtil_book numbers)
+{
+    static uint8_t kept_image[BYTES_MAX], kept_journal[BYTES_MAX];
+    memcpy(kept_image, twin.image, image.len);
+    memcpy(kept_journal, twin.journal, journal.len);
+    twin.numbers = numbers;
+    ref_forget();
+    uint64_t there = some_vip();
+    for (int kind = REF_CREATE; kind <= REF_UNDO; kind++) {
+        struct ref_call call = call_of(kind, kind == REF_CREATE ? 0x1234567 : there);
+        if (kind == REF_APPEND)
+            make_instruction_call(&call);
+        twin.numbers = numbers;
+        call_both(&call);
+        memcpy(twin.image, kept_image, image.len);
+        memcpy(twin.journal, kept_journal, journal.len);
+        copy_twin();
+    }
+    twin.numbers = numbers;
+}
+
+static void hand_made_books(void)
+{
+    begin("books made by hand, both numbers at every extreme");
+    seed(9);
+    for (size_t i = 0; i < sample_count; i++) {
+        uint64_t written[EXTREMES], used[EXTREMES];
+        int64_t size = reference_check(samples[i].at, samples[i].len);
+        if (size < 0)
+            continue;
+        lend_book((size_t)size + 40, 60);
+        open_both(&samples[i]);
+        extremes((uint64_t)size, written);
+        extremes(journal.len, used);
+        for (int w = 0; w < EXTREMES; w++)
+            for (int u = 0; u < EXTREMES; u++)
+                call_each((vtil_book){written[w], used[u]});
+    }
+    end();
+}
+
+static void spoiled_images(void)
+{
+    static const uint8_t values[] = {0, 1, 2, 0xff};
+    begin("images with one byte changed");
+    for (size_t i = 0; i < sample_count; i++) {
+        int64_t size = reference_check(samples[i].at, samples[i].len);
+        if (size < 0)
+            continue;
+        lend_book((size_t)size + 40, 300);
+        open_both(&samples[i]);
+        vtil_book numbers = twin.numbers;
+        size_t step = image.len > 2000 ? 7 : 1; /* a sample of the long ones */
+        for (size_t at = 0; at < image.len; at += step) {
+            uint8_t before = twin.image[at];
+            twin.image[at] = values[below(4)];
+            copy_twin();
+            call_each(numbers);
+            twin.image[at] = before;
+        }
+    }
+    if (group.answers[13] < 100 || group.answers[0] < 100)
+        group.differ++;
+    end();
+}
+
+/* Journals full of damage ------------------------------------------------------------------------------- */
+
+static void put_at(uint8_t *at, size_t width, uint64_t value)
+{
+    for (size_t i = 0; i < width; i++)
+        at[i] = (uint8_t)(value >> (8 * i));
+}
+
+/* A number near `middle`, or an extreme one. */
+static uint64_t near(uint64_t middle)
+{
+    uint64_t odd[EXTREMES];
+    extremes(middle, odd);
+    return below(3) == 0 ? odd[below(EXTREMES)] : middle + below(3) - 1;
+}
+
+/* Damages the last entry, or puts another in its place; some stay as they were. */
+static void damage_entry(void)
+{
+    if (twin.numbers.used < 20 || twin.numbers.used > journal.len)
+        return;
+    uint8_t *entry = twin.journal + twin.numbers.used - 20;
+    uint64_t place = entry[8], length = entry[12] + 256u * entry[13];
+    switch (below(8)) {
+    case 0: put_at(entry, 8, some_vip()); break;
+    case 1: put_at(entry + 8, 4, near(place)); break;
+    case 2: put_at(entry + 12, 4, near(length)); break;
+    case 3: put_at(entry + 16, 4, near(2)); break;
+    case 4: twin.journal[below(twin.numbers.used)] = (uint8_t)below(4); break;
+    case 5: twin.journal[below(twin.numbers.used)] ^= (uint8_t)(1u << below(8)); break;
+    case 6: twin.numbers.used = below(2) ? near(twin.numbers.used) : below(journal.len + 1); break;
+    default: break;
+    }
+}
+
+static void one_journal(const struct bytes *file)
+{
+    lend_book((size_t)reference_check(file->at, file->len) + below(200), 200 + below(2000));
+    if (!open_both(file))
+        return;
+    for (uint64_t left = 1 + below(5); left > 0; left--) {
+        make_call(0);
+        call_both(&calls[0]);
+    }
+    for (uint64_t left = 1 + below(2); left > 0; left--)
+        damage_entry();
+    copy_twin();
+    struct ref_call undo = call_of(REF_UNDO, 0);
+    for (int i = 0; i < 4; i++)
+        call_both(&undo);
+}
+
+/* Entries that were written for another image: a block goes back whose vip is there again, or into no room. */
+static void stale_entry(const struct bytes *file)
+{
+    static uint8_t entries[BYTES_MAX];
+    one_journal(file);
+    uint64_t used = journal.len < 60 ? 0 : 20 + below(journal.len - 20);
+    memcpy(entries, twin.journal, journal.len);
+    make_call(0);
+    call_both(&calls[0]);
+    memcpy(twin.journal, entries, journal.len);
+    twin.numbers.used = below(2) ? twin.numbers.used : used;
+    copy_twin();
+    struct ref_call undo = call_of(REF_UNDO, 0);
+    call_both(&undo);
+}
+
+static void damaged_journals(void)
+{
+    static const int answers[] = {0, 13, 16, -1};
+    static struct bytes b;
+    begin("undo of journals full of damage");
+    seed(10);
+    for (int i = 0; i < DAMAGED_JOURNALS; i++) {
+        if (i % 16 == 0)
+            make_good_routine(&b);
+        if (below(3) == 0)
+            stale_entry(&b);
+        else
+            one_journal(&b);
+    }
+    end_of_random(100, answers);
+}
+
+static void noise_journals(void)
+{
+    static struct bytes b;
+    begin("undo of journals of random bytes");
+    seed(11);
+    for (int i = 0; i < DAMAGED_JOURNALS; i++) {
+        if (i % 64 == 0)
+            make_good_routine(&b);
+        lend_book((size_t)reference_check(b.at, b.len) + below(100), 20 + below(400));
+        open_both(&b);
+        for (size_t at = 0; at < journal.len; at++)
+            twin.journal[at] = (uint8_t)(below(2) ? below(4) : below(256));
+        twin.numbers.used = below(journal.len + 1);
+        if (twin.numbers.used >= 20)
+            put_at(twin.journal + twin.numbers.used - 4, 4, below(5));
+        copy_twin();
+        struct ref_call undo = call_of(REF_UNDO, 0);
+        call_both(&undo);
+    }
+    end();
+}
+
+/* Lendings over the limit, of no bytes, and at the limit ------------------------------------------------- */
+
+static void hold_each(uint8_t *at, size_t image_len, uint8_t *to, size_t journal_len, vtil_book book, uint64_t want)
+{
+    const vtil_answer got[] = {
+        vtil_create_block(book, at, image_len, to, journal_len, 5),
+        vtil_remove_block(book, at, image_len, to, journal_len, 5),
+        vtil_append(book, at, image_len, to, journal_len, 5, no_bytes_at, 0),
+        vtil_undo(book, at, image_len, to, journal_len),
+    };
+    for (int i = 0; i < 4; i++) {
+        next_case();
+        hold("refusal", (size_t)i, (int64_t)got[i].refusal, (int64_t)want);
+        hold("the book handed back, written", (size_t)i, (int64_t)got[i].book.written, (int64_t)book.written);
+        hold("the book handed back, used", (size_t)i, (int64_t)got[i].book.used, (int64_t)book.used);
+    }
+}
+
+static void odd_lendings(const struct room *room)
+{
+    static const size_t lengths[] = {16777217, (size_t)1 << 32, (size_t)1 << 63, SIZE_MAX};
+    static const vtil_book books[] = {{114, 0}, {0, 0}, {UINT64_MAX, UINT64_MAX}};
+    begin("lendings over the limit, without access (10), and of no bytes (13)");
+    for (size_t b = 0; b < 3; b++) {
+        for (size_t i = 0; i < sizeof lengths / sizeof lengths[0]; i++) {
+            hold_each(no_access(room), lengths[i], NULL, 0, books[b], 10);
+            hold_each(no_access(room), 114, no_access(room), lengths[i], books[b], 10);
+        }
+        hold_each(NULL, 0, NULL, 0, books[b], 13);
+        hold_each(no_access(room), 0, no_access(room), 0, books[b], 13);
+    }
+    next_case();
+    vtil_answer run = vtil_run(samples[0].at, samples[0].len, no_access(room), 16777217, NULL, 0, NULL, 0, NULL, 0);
+    hold("run", 0, (int64_t)run.refusal, 10);
+    end();
+}
+
+static void hold_one(const char *what, vtil_answer got, uint64_t refusal, uint64_t written, uint64_t used)
+{
+    next_case();
+    hold(what, 0, (int64_t)got.refusal, (int64_t)refusal);
+    hold(what, 1, (int64_t)got.book.written, (int64_t)written);
+    hold(what, 2, (int64_t)got.book.used, (int64_t)used);
+}
+
+/* As many empty blocks as an image at the limit has room for; the reference would take too long, but the answers are plain. */
+static void at_the_limit(void)
+{
+    const size_t blocks = (MOST_LENT - 114) / 36, len = 114 + 36 * blocks;
+    struct room large = make_room(MOST_LENT), other = make_room(MOST_LENT);
+    struct lent at = lend(&large, MOST_LENT, true), to = lend(&other, 76, true);
+    struct bytes front = {0};
+    uint8_t *file = calloc(len, 1);
+    if (file == NULL)
+        stop("an image at the limit");
+    put_front(&front);
+    put(&front, 4, blocks);
+    memcpy(file, front.at, front.len);
+    for (size_t i = 0; i < blocks; i++)
+        put_at(file + 114 + 36 * i, 8, i);
+
+    begin("an image of 16,777,216 bytes, full of blocks");
+    vtil_answer a = vtil_open(file, len, at.writable, at.len, to.writable, to.len);
+    hold_one("open", a, 0, len, 0);
+    hold_one("create", vtil_create_block(a.book, at.writable, at.len, to.writable, to.len, blocks), 11, len, 0);
+    hold_one("create again", vtil_create_block(a.book, at.writable, at.len, to.writable, to.len, blocks - 1), 14, len, 0);
+    a = vtil_remove_block(a.book, at.writable, at.len, to.writable, to.len, 1);
+    hold_one("remove", a, 0, len - 36, 56);
+    hold("the last block took its place", 0, memcmp(at.plain + 150, file + len - 36, 36), 0);
+    a = vtil_create_block(a.book, at.writable, at.len, to.writable, to.len, UINT64_MAX);
+    hold_one("create in its room", a, 0, len, 76);
+    a = vtil_undo(a.book, at.writable, at.len, to.writable, to.len);
+    hold_one("undo", a, 0, len - 36, 56);
+    a = vtil_undo(a.book, at.writable, at.len, to.writable, to.len);
+    hold_one("undo again", a, 0, len, 0);
+    hold("as it was opened", 0, memcmp(at.plain, file, len), 0);
+    end();
+    free(file);
+}
+
+int main(int argc, char **argv)
+{
+    if (argc < 2)
+        return 2;
+    set_up_groups("guard_edits");
+    sample_count = load_samples(argv + 1, &samples);
+    set_up_shelf();
+    instruction_room = make_room(BYTES_MAX);
+    struct room untouched = make_room(1);
+
+    instances();
+    lists();
+    odd_runs();
+    odd_words();
+    hand_made_books();
+    spoiled_images();
+    damaged_journals();
+    noise_journals();
+    odd_lendings(&untouched);
+    at_the_limit();
+    return finish();
+}

@@ -1,0 +1,262 @@
+#include "shelf.h"
+
+#include <string.h>
+
+#include "group.h"
+#include "reference.h"
+
+struct lent image, journal;
+struct ref_book twin;
+
+static struct room file_room, image_room, journal_room;
+static uint8_t twin_image[BYTES_MAX], twin_journal[BYTES_MAX];
+
+void set_up_shelf(void)
+{
+    file_room = make_room(BYTES_MAX);
+    image_room = make_room(BYTES_MAX);
+    journal_room = make_room(BYTES_MAX);
+}
+
+static void leave_bytes(uint8_t *at, size_t len)
+{
+    for (size_t i = 0; i < len; i++)
+        at[i] = (uint8_t)below(256);
+}
+
+void lend_book(size_t image_len, size_t journal_len)
+{
+    image = lend(&image_room, image_len, below(2) == 0);
+    journal = lend(&journal_room, journal_len, below(2) == 0);
+    twin = (struct ref_book){twin_image, twin_journal, image_len, journal_len, {0, 0}};
+    leave_bytes(twin_image, image_len);
+    leave_bytes(twin_journal, journal_len);
+    copy_twin();
+}
+
+void copy_twin(void)
+{
+    memcpy(image.plain, twin.image, image.len);
+    memcpy(journal.plain, twin.journal, journal.len);
+}
+
+void hold_answer(vtil_answer got, vtil_answer want)
+{
+    group.answers[want.refusal]++;
+    hold("refusal", image.len, (int64_t)got.refusal, (int64_t)want.refusal);
+    hold("written", image.len, (int64_t)got.book.written, (int64_t)want.book.written);
+    hold("used", journal.len, (int64_t)got.book.used, (int64_t)want.book.used);
+}
+
+void hold_bytes(void)
+{
+    hold("the image is as due", image.len, memcmp(image.plain, twin.image, image.len) == 0, 1);
+    hold("the journal is as due", journal.len, memcmp(journal.plain, twin.journal, journal.len) == 0, 1);
+}
+
+bool open_both(const struct bytes *file)
+{
+    struct lent lent = lend(&file_room, file->len, below(2) == 0);
+    memcpy(lent.plain, file->at, file->len);
+    ref_forget();
+    vtil_answer want = ref_open(&twin, file->at, file->len);
+    next_case();
+    hold_answer(vtil_open(lent.readable, lent.len, image.writable, image.len, journal.writable, journal.len), want);
+    hold_bytes();
+    return want.refusal == 0;
+}
+
+/* Looks ------------------------------------------------------------------------------ */
+
+#define LENT numbers, image.readable, image.len, journal.readable, journal.len
+
+static void hold_number(const char *what, uint64_t got, uint64_t want)
+{
+    hold(what, image.len, (int64_t)got, (int64_t)want);
+}
+
+void hold_register(const vtil_register_desc *got, const vtil_register_desc *want)
+{
+    hold_number("register flags", got->flags, want->flags);
+    hold_number("register id", got->combined_id, want->combined_id);
+    hold("register width", image.len, got->bit_count, want->bit_count);
+    hold("register offset", image.len, got->bit_offset, want->bit_offset);
+}
+
+static void hold_operand(const vtil_operand_desc *got, const vtil_operand_desc *want)
+{
+    hold_number("operand kind", got->kind, want->kind);
+    hold_number("immediate", got->immediate.value, want->immediate.value);
+    hold_number("immediate width", got->immediate.bit_count, want->immediate.bit_count);
+    hold_register(&got->register_desc, &want->register_desc);
+}
+
+void hold_instruction(const vtil_instruction_desc *got, const vtil_instruction_desc *want)
+{
+    hold_number("operation", got->op, want->op);
+    hold_number("operand count", got->count, want->count);
+    for (int i = 0; i < 3; i++)
+        hold_operand(&got->operands[i], &want->operands[i]);
+    hold_number("instruction vip", got->vip, want->vip);
+    hold("instruction sp offset", image.len, got->sp_offset, want->sp_offset);
+    hold_number("instruction sp index", got->sp_index, want->sp_index);
+    hold_number("sp reset", got->sp_reset, want->sp_reset);
+}
+
+/* Counts the case; whether there is more to compare than the refusal. */
+static bool hold_refusal(const char *what, uint64_t got, uint64_t want)
+{
+    next_case();
+    group.answers[want]++;
+    hold_number(what, got, want);
+    return want == 0 && got == 0;
+}
+
+static void look_routine(vtil_book numbers)
+{
+    vtil_routine_look got = vtil_routine(LENT), want = ref_routine(&twin);
+    if (!hold_refusal("routine", got.refusal, want.refusal))
+        return;
+    hold_number("machine", got.arch_id, want.arch_id);
+    hold_number("entry vip", got.vip, want.vip);
+    hold_number("special conventions", got.spec_conventions, want.spec_conventions);
+    hold_number("blocks", got.blocks, want.blocks);
+}
+
+static void look_block(vtil_book numbers, uint64_t place)
+{
+    vtil_block_look got = vtil_block(LENT, place), want = ref_block(&twin, place);
+    if (!hold_refusal("block", got.refusal, want.refusal))
+        return;
+    hold_number("block vip", got.vip, want.vip);
+    hold("block sp offset", image.len, got.sp_offset, want.sp_offset);
+    hold_number("block sp index", got.sp_index, want.sp_index);
+    hold_number("last temporary", got.last_temporary_index, want.last_temporary_index);
+    hold_number("instructions", got.instructions, want.instructions);
+    hold_number("prev vips", got.prev_vips, want.prev_vips);
+    hold_number("next vips", got.next_vips, want.next_vips);
+}
+
+static void look_instruction(vtil_book numbers, uint64_t block, uint64_t place)
+{
+    vtil_instruction_look got = vtil_instruction(LENT, block, place), want = ref_instruction(&twin, block, place);
+    if (hold_refusal("instruction", got.refusal, want.refusal))
+        hold_instruction(&got.instruction, &want.instruction);
+}
+
+static void look_vip(vtil_book numbers, uint64_t block, uint64_t list, uint64_t place)
+{
+    vtil_vip_look got = vtil_block_vip(LENT, block, list, place), want = ref_block_vip(&twin, block, list, place);
+    if (hold_refusal("vip", got.refusal, want.refusal))
+        hold_number("vip's value", got.vip, want.vip);
+}
+
+static void look_convention(vtil_book numbers, uint64_t place)
+{
+    vtil_convention_look got = vtil_convention(LENT, place), want = ref_convention(&twin, place);
+    if (!hold_refusal("convention", got.refusal, want.refusal))
+        return;
+    hold_register(&got.frame_register, &want.frame_register);
+    hold_number("shadow space", got.shadow_space, want.shadow_space);
+    hold_number("purge", got.purge_stack, want.purge_stack);
+    hold_number("volatile", got.volatile_registers, want.volatile_registers);
+    hold_number("param", got.param_registers, want.param_registers);
+    hold_number("retval", got.retval_registers, want.retval_registers);
+}
+
+static void look_register(vtil_book numbers, uint64_t convention, uint64_t list, uint64_t place)
+{
+    vtil_register_look got = vtil_convention_register(LENT, convention, list, place);
+    vtil_register_look want = ref_convention_register(&twin, convention, list, place);
+    if (hold_refusal("register", got.refusal, want.refusal))
+        hold_register(&got.register_desc, &want.register_desc);
+}
+
+void look_once(vtil_book numbers)
+{
+    twin.numbers = numbers;
+    ref_forget();
+    look_routine(numbers);
+    look_block(numbers, 0);
+    look_instruction(numbers, 0, 0);
+    look_vip(numbers, 0, below(2), 0);
+    look_convention(numbers, 0);
+    look_register(numbers, 0, below(3), 0);
+    ref_forget();
+}
+
+void extremes(uint64_t middle, uint64_t out[EXTREMES])
+{
+    const uint64_t values[EXTREMES] = {0,          1,          middle - 1,       middle,         middle + 1,    UINT32_MAX,
+                                       UINT32_MAX + 1ull, INT64_MAX, INT64_MAX + 1ull, UINT64_MAX - 1, UINT64_MAX};
+    memcpy(out, values, sizeof values);
+}
+
+static void look_at_block(vtil_book numbers, uint64_t place)
+{
+    vtil_block_look block = ref_block(&twin, place);
+    uint64_t odd[EXTREMES];
+    look_block(numbers, place);
+    for (uint64_t i = 0; i < block.instructions; i++)
+        look_instruction(numbers, place, i);
+    extremes(block.instructions, odd);
+    for (int i = 0; i < EXTREMES; i++)
+        look_instruction(numbers, place, odd[i]);
+    for (uint64_t list = 0; list < 3; list++) {
+        uint64_t count = list == 0 ? block.prev_vips : block.next_vips;
+        extremes(count, odd);
+        for (uint64_t i = 0; i < count; i++)
+            look_vip(numbers, place, list, i);
+        for (int i = 0; i < EXTREMES; i++)
+            look_vip(numbers, place, list, odd[i]);
+    }
+    ref_forget();
+}
+
+static void look_at_convention(vtil_book numbers, uint64_t place)
+{
+    vtil_convention_look convention = ref_convention(&twin, place);
+    const uint64_t counts[4] = {convention.volatile_registers, convention.param_registers, convention.retval_registers, 1};
+    uint64_t odd[EXTREMES];
+    look_convention(numbers, place);
+    for (uint64_t list = 0; list < 4; list++) {
+        extremes(counts[list], odd);
+        for (uint64_t i = 0; i < counts[list]; i++)
+            look_register(numbers, place, list, i);
+        for (int i = 0; i < EXTREMES; i++)
+            look_register(numbers, place, list, odd[i]);
+    }
+    ref_forget();
+}
+
+/* Lists that no book has. */
+static void look_at_odd_lists(vtil_book numbers)
+{
+    uint64_t odd[EXTREMES];
+    extremes(3, odd);
+    for (int i = 0; i < EXTREMES; i++) {
+        look_vip(numbers, 0, odd[i], 0);
+        look_register(numbers, 0, odd[i], 0);
+    }
+    ref_forget();
+}
+
+void look_everywhere(vtil_book numbers)
+{
+    twin.numbers = numbers;
+    ref_forget();
+    vtil_routine_look routine = ref_routine(&twin);
+    uint64_t odd[EXTREMES];
+    look_routine(numbers);
+    for (uint64_t i = 0; i < routine.blocks; i++)
+        look_at_block(numbers, i);
+    extremes(routine.blocks, odd);
+    for (int i = 0; i < EXTREMES; i++)
+        look_at_block(numbers, odd[i]);
+    for (uint64_t i = 0; i < 2 + routine.spec_conventions; i++)
+        look_at_convention(numbers, i);
+    extremes(2 + routine.spec_conventions, odd);
+    for (int i = 0; i < EXTREMES; i++)
+        look_at_convention(numbers, odd[i]);
+    look_at_odd_lists(numbers);
+}

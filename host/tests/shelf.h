@@ -1,0 +1,47 @@
+/*
+ * A book twice: lent to the library between guard pages, and beside it in plain
+ * memory for the reference. What a call has to answer and to leave behind is what
+ * the reference does.
+ */
+#ifndef SHELF_H
+#define SHELF_H
+
+#include "cases.h"
+#include "lent.h"
+#include "reference_book.h"
+#include "vtil.h"
+
+extern struct lent image, journal; /* what the library is lent */
+extern struct ref_book twin;       /* the reference's, of the same lengths */
+
+/* Once, before all else. */
+void set_up_shelf(void);
+
+/* Image and journal of these lengths, at most BYTES_MAX, full of bytes that were left there, in both. */
+void lend_book(size_t image_len, size_t journal_len);
+
+/* Lends `file` and opens it in both; holds the answers and what is left behind. Answers whether it was accepted. */
+bool open_both(const struct bytes *file);
+
+/* The library's image and journal become what the reference's are. */
+void copy_twin(void);
+
+void hold_answer(vtil_answer got, vtil_answer want);
+
+/* Image and journal are what the reference's are. */
+void hold_bytes(void);
+
+void hold_register(const vtil_register_desc *got, const vtil_register_desc *want);
+void hold_instruction(const vtil_instruction_desc *got, const vtil_instruction_desc *want);
+
+/* Looks at every part of the book, at the places after the last, and at places that no book has. */
+void look_everywhere(vtil_book numbers);
+
+/* Each kind of look once, at the first place. */
+void look_once(vtil_book numbers);
+
+/* Places, lengths and vips at the limits of 64 bits and around `middle`. */
+#define EXTREMES 11
+void extremes(uint64_t middle, uint64_t out[EXTREMES]);
+
+#endif
