@@ -5,11 +5,21 @@ ghost use lib.IntN.{pos};
 ghost use lib.ListN.{length};
 ghost use Rattle.pod.specs.Descs.{writing, written-over};
 ghost use Rattle.machine.specs.Book.{open-book};
-ghost use Rattle.book.specs.Says.{outcome};
+ghost use Rattle.machine.specs.Look.{look-routine, look-block, look-instruction, look-vip, look-convention, look-register};
+ghost use Rattle.book.specs.Says.{state, outcome};
+ghost use Rattle.look.specs.Answers.{routine-look, block-look, instruction-look, vip-look};
+ghost use Rattle.look_convention.specs.Answers.{convention-look, register-look};
 ghost use Rattle.writer.specs.Answers.{write-answer};
 ghost use Rattle.vtil.specs.Check.{check-file};
 use book::Answer;
+use book::Book;
 use fields::Skip;
+use look::BlockLook;
+use look::InstructionLook;
+use look::RoutineLook;
+use look::VipLook;
+use look_convention::ConventionLook;
+use look_convention::RegisterLook;
 use pod::InstructionDesc;
 use writer::Written;
 
@@ -52,4 +62,72 @@ pub extern "C" fn vtil_write_instruction(value: InstructionDesc, image: &mut [u8
     ensures { λ r. ⌜ (r ≡ write-answer (writing (length (now (image .entry))) value)) × (now (image .exit) ≡ written-over (now (image .entry)) (writing (length (now (image .entry))) value)) ⌝ }
 {
     writer::write_instruction(value, image)
+}
+
+// Looking, by place from 0: at the routine,
+#[no_mangle]
+pub extern "C" fn vtil_routine(book: Book, image: &[u8], journal: &[u8]) -> RoutineLook
+    ensures { λ r. ⌜ r ≡ routine-look (look-routine (state (now (image .entry)) (now (journal .entry)) book)) ⌝ }
+{
+    look::look_routine(book, image, journal)
+}
+
+// a block,
+#[no_mangle]
+pub extern "C" fn vtil_block(book: Book, image: &[u8], journal: &[u8], place: u64) -> BlockLook
+    ensures { λ r. ⌜ r ≡ block-look (look-block place (state (now (image .entry)) (now (journal .entry)) book)) ⌝ }
+{
+    look::look_block(book, image, journal, place)
+}
+
+// one of a block's instructions,
+#[no_mangle]
+pub extern "C" fn vtil_instruction(
+    book: Book,
+    image: &[u8],
+    journal: &[u8],
+    block: u64,
+    place: u64,
+) -> InstructionLook
+    ensures { λ r. ⌜ r ≡ instruction-look (look-instruction block place (state (now (image .entry)) (now (journal .entry)) book)) ⌝ }
+{
+    look::look_instruction(book, image, journal, block, place)
+}
+
+// one of its prev (list 0) or next (1) vips,
+#[no_mangle]
+pub extern "C" fn vtil_block_vip(
+    book: Book,
+    image: &[u8],
+    journal: &[u8],
+    block: u64,
+    list: u64,
+    place: u64,
+) -> VipLook
+    ensures { λ r. ⌜ r ≡ vip-look (look-vip block list place (state (now (image .entry)) (now (journal .entry)) book)) ⌝ }
+{
+    look::look_vip(book, image, journal, block, list, place)
+}
+
+// a convention: 0 the routine's, 1 the subroutine's, then the special ones,
+#[no_mangle]
+pub extern "C" fn vtil_convention(book: Book, image: &[u8], journal: &[u8], place: u64) -> ConventionLook
+    ensures { λ r. ⌜ r ≡ convention-look (look-convention place (state (now (image .entry)) (now (journal .entry)) book)) ⌝ }
+{
+    look_convention::look_convention(book, image, journal, place)
+}
+
+// one of its volatile (list 0), param (1) or retval (2) registers.
+#[no_mangle]
+pub extern "C" fn vtil_convention_register(
+    book: Book,
+    image: &[u8],
+    journal: &[u8],
+    convention: u64,
+    list: u64,
+    place: u64,
+) -> RegisterLook
+    ensures { λ r. ⌜ r ≡ register-look (look-register convention list place (state (now (image .entry)) (now (journal .entry)) book)) ⌝ }
+{
+    look_convention::look_register(book, image, journal, convention, list, place)
 }
