@@ -10,14 +10,15 @@ use lib.ListN.{length, take, drop, getD}
 use lib.Dec.{eqb}
 use borrow.Author.Tests.{eq-eqb, ne-eqb}
 use Rattle.fields.specs.Parse.{choose}
-use Rattle.fields.specs.Outcome.{refused, accepted}
+use Rattle.fields.specs.Outcome.{Outcome, refused, accepted}
 use Rattle.machine.specs.Edits.{create, remove, append}
 use Rattle.machine.specs.Machine.{Call, edit, undo, Answer, start, machine-run}
 use Rattle.machine.specs.Book.{State, unopened, open-book, step, run}
 use Rattle.machine.specs.Demand.{Bytes, Sendable, Every, Opening, fresh}
 use Rattle.demand.proofs.Theorem.{follows}
-use Rattle.script.specs.Script.{is-script, call-of, between, calls, last-of, ran, after-opening, replayed}
+use Rattle.script.specs.Script.{is-script, call-of, between, call-at, calls, last-of, ran, after-opening, replayed}
 use Rattle.script.specs.Replays.{Agrees, Replays}
+use Rattle.script.proofs.Words.{none-left, calls-are, more, still}
 
 -- which call the code makes
 module _ (kind vip : ℕ) (bytes : List ℕ) where
@@ -37,6 +38,15 @@ module _ (kind vip : ℕ) (bytes : List ℕ) where
   unfolding call-of choose
   is-undo a b c = rw (ne-eqb kind 0 a, ne-eqb kind 1 b, ne-eqb kind 2 c)
 
+-- what an answer says, by its number
+pub refused-is : {A : Type 0} (k : ℕ) (a : Outcome A) → (k ≡ 0 → ⊥) → choose (eqb k 0) a (refused k) ≡ refused k
+unfolding choose
+refused-is k a h = rw (ne-eqb k 0 h)
+
+pub accepted-is : {A : Type 0} (k : ℕ) (a b : Outcome A) → k ≡ 0 → choose (eqb k 0) a b ≡ a
+unfolding choose
+accepted-is k a b h = rw (eq-eqb k 0 h)
+
 -- after the last call, and one call before others
 pub ran-none : (x : Answer × State) → ran x [] ≡ x
 unfolding ran run last-of
@@ -46,10 +56,38 @@ pub ran-one : (x : Answer × State) (c : Call) (cs : List Call) → ran x (c ∷
 unfolding ran run last-of
 ran-one x c cs = refl
 
+-- The loop at an offset: x is what the opening left, and y what the calls before the offset did. The calls that are left do to y what all do to x
+pub record Reached (words texts : List ℕ) (x y : Answer × State) (at : ℕ) : Type 0 where
+  pub within : at ≤ length words
+  pub script : is-script (drop at words) texts ≡ true
+  pub same : ran y (calls (drop at words) texts) ≡ ran x (calls words texts)
+
+module _ (words texts : List ℕ) (x : Answer × State) where
+  pub begun : is-script words texts ≡ true → Reached words texts x x 0
+  begun h = record { within = omega arith; script = h; same = refl }
+
+  module _ (y : Answer × State) (at : ℕ) (g : Reached words texts x y at) where
+    pub next : (z : Answer × State) → at < length words → z ≡ step (call-at words texts at) (y .1) → Reached words texts x z (at + 4)
+    next z h e =
+        let c = calls-are words texts at (more words texts at h (g .script)) in
+        record {
+          within = more words texts at h (g .script);
+          script = still words texts at h (g .script);
+          same = ap (λ u. ran u (calls (drop (at + 4) words) texts)) e
+              ∙ sym (ran-one y (call-at words texts at) (calls (drop (at + 4) words) texts))
+              ∙ ap (ran y) (sym c)
+              ∙ g .same;
+        }
+
+    pub ended : length words ≤ at → y ≡ ran x (calls words texts)
+    unfolding calls
+    ended h = sym (ran-none y) ∙ ap (λ u. ran y (calls u texts)) (sym (none-left words texts at (g .within) h)) ∙ g .same
+
 -- what is replayed, by what the code found
 module _ (file image journal words texts : List ℕ) where
-  pub no-script : is-script words texts ≡ false → unopened 15 image journal ≡ replayed file image journal words texts
-  unfolding replayed choose
+  pub no-script : is-script words texts ≡ false
+      → _≡_ {A = Answer × State} (refused 15, record { image = image; journal = journal; book = record { written = 0; used = 0 } }) (replayed file image journal words texts)
+  unfolding replayed unopened choose
   no-script h = rw h
 
   module _ (h : is-script words texts ≡ true) (x : Answer × State) (e : x ≡ open-book file image journal) where

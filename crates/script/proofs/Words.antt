@@ -11,7 +11,7 @@ use lib.Seq.{drop-cons, drop-length}
 use lib.Dec.{leb}
 use borrow.Author.Tests.{le-leb, lt-leb, leb-true}
 use Rattle.machine.specs.Machine.{Call}
-use Rattle.script.specs.Script.{is-script, call-of, between, calls}
+use Rattle.script.specs.Script.{is-script, call-at, Sits, calls}
 
 pub both : (t u : Bool) → (t && u) ≡ true → (t ≡ true) × (u ≡ true)
 both true u q = (refl, q)
@@ -81,7 +81,7 @@ module _ (words texts : List ℕ) where
     pub well : kind ≤ 3 → begin ≤ end → end ≤ length texts → is-script (drop at words) texts ≡ is-script (drop (at + 4) words) texts
     well k o i = rw (tests, le-leb kind 3 k, le-leb begin end o, le-leb end (length texts) i)
 
-    pub calls-are : calls (drop at words) texts ≡ call-of kind vip (between begin end texts) ∷ calls (drop (at + 4) words) texts
+    pub calls-are : calls (drop at words) texts ≡ call-at words texts at ∷ calls (drop (at + 4) words) texts
     unfolding calls
     calls-are = rw four
 
@@ -90,3 +90,25 @@ module _ (words texts : List ℕ) where
   more at h s =
       let l : 0 < length (drop at words) = omega (arith, length-drop at words) in
       omega (arith, enough (drop at words) texts l s, length-drop at words)
+
+  module _ (at : ℕ) (h : at < length words) (s : is-script (drop at words) texts ≡ true) where
+    abbrev whole : at + 4 ≤ length words
+    whole = more at h s
+
+    passed : (leb (getD words (at + 2) 0) (getD words (at + 3) 0) ≡ true)
+        × (leb (getD words (at + 3) 0) (length texts) && is-script (drop (at + 4) words) texts) ≡ true
+    passed = both (leb (getD words (at + 2) 0) (getD words (at + 3) 0)) _ (both (leb (getD words at 0) 3) _ (sym (tests at whole) ∙ s) .1)
+
+    left : (leb (getD words (at + 3) 0) (length texts) ≡ true) × (is-script (drop (at + 4) words) texts ≡ true)
+    left = both (leb (getD words (at + 3) 0) (length texts)) _ (passed .1)
+
+    pub sits : Sits words texts at
+    sits =
+        record {
+          whole = whole;
+          ordered = leb-true _ _ (passed .0);
+          inside = leb-true _ _ (left .0);
+        }
+
+    pub still : is-script (drop (at + 4) words) texts ≡ true
+    still = left .1

@@ -1,9 +1,9 @@
 -- A list of calls, encoded in words and texts: a call is four words, its kind (0 create, 1 remove, 2 append, 3 undo), its vip, and where its bytes
 -- begin and end in the texts. And what opening a file and running such a list leaves.
-use Prim.Native.Nat.{ℕ, _-_}
+use Prim.Native.Nat.{ℕ, _+_, _-_, _≤_}
 use mathlib.Core.Bool.{Bool, true, false, _&&_}
 use mathlib.Core.List.{List, [], _∷_}
-use lib.ListN.{length, take, drop}
+use lib.ListN.{length, take, drop, getD}
 use lib.Dec.{leb, eqb}
 use Rattle.fields.specs.Refusals.{no-such-block}
 use Rattle.fields.specs.Parse.{choose}
@@ -29,6 +29,17 @@ call-of kind vip bytes =
 
 abbrev pub between : ℕ → ℕ → List ℕ → List ℕ
 between begin end texts = take (end - begin) (drop begin texts)
+
+-- the call whose four words begin at an offset
+abbrev pub call-at : List ℕ → List ℕ → ℕ → Call
+call-at words texts at =
+    call-of (getD words at 0) (getD words (at + 1) 0) (between (getD words (at + 2) 0) (getD words (at + 3) 0) texts)
+
+-- four words are there, and their bytes are within the texts
+pub record Sits (words texts : List ℕ) (at : ℕ) : Type 0 where
+  pub whole : at + 4 ≤ length words
+  pub ordered : getD words (at + 2) 0 ≤ getD words (at + 3) 0
+  pub inside : getD words (at + 3) 0 ≤ length texts
 
 -- all the calls, in order
 unfoldable pub calls : List ℕ → List ℕ → List Call
