@@ -4,6 +4,7 @@ use mathlib.Core.Path.{_≡_, refl, sym, ap, _∙_}
 use mathlib.Core.List.{List}
 use mathlib.Core.Bool.{Bool, true, false}
 use Prim.Native.Nat.{ℕ, zero, suc, _+_, _*_, _≤_}
+use native.Mathlib.Nat.{add-comm, mul-suc}
 use native.Mathlib.Omega.{arith}
 use lib.ListN.{length, getD, take, drop}
 use lib.Dec.{leb, eqb}
@@ -13,13 +14,13 @@ use borrow.Author.Tests.{leb-true, eqb-true, eqb-false}
 use Rattle.fields.specs.Parse.{ok, no, Reader, bind, choose, uint, int, part, many, counted, flag, u64}
 use Rattle.fields.proofs.Le.{uint-is}
 use Rattle.op.specs.Ops.{number, counts}
-use Rattle.pod.specs.Layout.{register, immediate, operand, named, opcode, after, instruction, block}
-use Rattle.pod.specs.Values.{Instruction, BasicBlock}
+use Rattle.pod.specs.Layout.{register, immediate, operand, named, opcode, after, instruction, convention, block}
+use Rattle.pod.specs.Values.{Instruction, RoutineConvention, BasicBlock}
 use Rattle.pod.specs.declared.RegisterDesc.{RegisterDesc}
 use Rattle.pod.specs.declared.ImmediateDesc.{ImmediateDesc}
 use Rattle.pod.specs.declared.Operand.{Operand}
 use Rattle.pod.specs.declared.Operand.the-variants.{Imm, Reg}
-use Rattle.walk.specs.Ends.{jump, word, operandEnd, times, instructionEnd, vipsEnd, blockEnd}
+use Rattle.walk.specs.Ends.{jump, word, operandEnd, times, instructionEnd, vipsEnd, blockEnd, registersEnd, conventionEnd}
 use Rattle.walk.proofs.Invert.{inv, inv-check, inv-ok}
 use Rattle.walk.proofs.Steps.{jump-in, value, word-is, imm-end, reg-end}
 
@@ -131,25 +132,35 @@ module _ (s : List ℕ) where
       let y : b .1 ≡ n = inv-ok (b .3) .1 in
       ap (times f c) (h o _ _ (a .2)) ∙ many-ends p f h c (a .1) (b .2) ∙ y
 
-  -- several u64
-  many-u64 : (c o : ℕ) {xs : List ℕ} {n : ℕ} → o ≤ length s → many u64 c s o ≡ ok xs n → Further s o (8 * c) n
+  -- several of k bytes each
+  many-flat : {A : Type 0} (p : Reader A) (k : ℕ) → ((o : ℕ) (x : A) (n : ℕ) → p s o ≡ ok x n → Further s o k n)
+      → (c o : ℕ) {xs : List A} {n : ℕ} → o ≤ length s → many p c s o ≡ ok xs n → Further s o (k * c) n
   unfolding many
-  many-u64 zero o {xs} {n} h e = let z : o ≡ n = inv-ok e .1 in record { is = omega arith; in-s = omega arith }
-  many-u64 (suc c) o {xs} {n} h e =
-      let a = inv (uint 8 s o) _ e in
-      let b = inv (many u64 c s (a .1)) _ (a .3) in
+  many-flat p k f zero o {xs} {n} h e = let z : o ≡ n = inv-ok e .1 in record { is = omega arith; in-s = omega arith }
+  many-flat p k f (suc c) o {xs} {n} h e =
+      let a = inv (p s o) _ e in
+      let b = inv (many p c s (a .1)) _ (a .3) in
       let y : b .1 ≡ n = inv-ok (b .3) .1 in
-      let u : Further s o 8 (a .1) = u-end 8 o (a .2) in
-      let v : Further s (a .1) (8 * c) (b .1) = many-u64 c (a .1) (u .in-s) (b .2) in
-      let w : 8 + 8 * c ≡ 8 * suc c = omega arith in
+      let u : Further s o k (a .1) = f o _ _ (a .2) in
+      let v : Further s (a .1) (k * c) (b .1) = many-flat p k f c (a .1) (u .in-s) (b .2) in
+      let w : k + k * c ≡ k * suc c = add-comm k (k * c) ∙ sym (mul-suc k c) in
       rw (y, w) at (then u v)
+
+  -- a list of them
+  flat-ends : {A : Type 0} (p : Reader A) (k : ℕ) → ((o : ℕ) (x : A) (n : ℕ) → p s o ≡ ok x n → Further s o k n)
+      → (o : ℕ) {xs : List A} {n : ℕ} → counted p s o ≡ ok xs n → jump s (jump s o 4) (k * word 4 s o) ≡ n
+  flat-ends p k f o {xs} {n} e =
+      let a = inv (uint 4 s o) _ e in
+      let u : Further s o 4 (a .1) = u-end 4 o (a .2) in
+      rw (jumps u, u-word 4 o (a .2)) (jumps (many-flat p k f (a .0) (a .1) (u .in-s) (a .3)))
 
   pub vips-ends : (o : ℕ) {xs : List ℕ} {n : ℕ} → counted u64 s o ≡ ok xs n → vipsEnd s o ≡ n
   unfolding vipsEnd
-  vips-ends o {xs} {n} e =
-      let a = inv (uint 4 s o) _ e in
-      let u : Further s o 4 (a .1) = u-end 4 o (a .2) in
-      rw (jumps u, u-word 4 o (a .2)) (jumps (many-u64 (a .0) (a .1) (u .in-s) (a .3)))
+  vips-ends o e = flat-ends u64 8 (λ o x n. u-end 8 o) o e
+
+  pub registers-ends : (o : ℕ) {xs : List RegisterDesc} {n : ℕ} → counted register s o ≡ ok xs n → registersEnd s o ≡ n
+  unfolding registersEnd
+  registers-ends o e = flat-ends register 24 (λ o x n. register-end o) o e
 
   module _ (exact : Bool) where
     pub instruction-ends : (o : ℕ) {x : Instruction} {n : ℕ} → instruction exact s o ≡ ok x n → instructionEnd s o ≡ n
@@ -203,3 +214,17 @@ module _ (s : List ℕ) where
 
     pub block-ends : (o : ℕ) {b : BasicBlock} {n : ℕ} → block exact s o ≡ ok b n → blockEnd s o ≡ n
     block-ends o e = both o e .1
+
+    pub convention-ends : (o : ℕ) {c : RoutineConvention} {n : ℕ} → convention exact s o ≡ ok c n → conventionEnd s o ≡ n
+    unfolding convention conventionEnd
+    convention-ends o {c} {n} e =
+        let volatile = inv (counted register s o) _ e in
+        let param = inv (counted register s (volatile .1)) _ (volatile .3) in
+        let retval = inv (counted register s (param .1)) _ (param .3) in
+        let frame = inv (register s (retval .1)) _ (retval .3) in
+        let shadow = inv (uint 8 s (frame .1)) _ (frame .3) in
+        let purge = inv (flag exact s (shadow .1)) _ (shadow .3) in
+        let k : purge .1 ≡ n = inv-ok (purge .3) .1 in
+        let e₁ : jump s (retval .1) 33 ≡ purge .1 =
+        jumps (then (then (register-end (retval .1) (frame .2)) (u-end 8 (frame .1) (shadow .2))) (flag-end exact (shadow .1) (purge .2))) in
+        rw (registers-ends o (volatile .2), registers-ends (volatile .1) (param .2), registers-ends (param .1) (retval .2)) (e₁ ∙ k)

@@ -8,7 +8,7 @@ use lib.ListN.{length}
 use lib.Dec.{leb}
 use borrow.Author.Tests.{le-leb, lt-leb, eq-eqb, ne-eqb}
 use Rattle.fields.specs.Parse.{Res, ok, no, choose, le, uint}
-use Rattle.walk.specs.Ends.{jump, word, times, operandEnd, instructionEnd, vipsEnd, blockEnd}
+use Rattle.walk.specs.Ends.{jump, word, times, operandEnd, instructionEnd, vipsEnd, blockEnd, registersEnd, conventionEnd}
 
 pub jump-in : (s : List ℕ) (o k : ℕ) → o + k ≤ length s → jump s o k ≡ o + k
 unfolding jump choose
@@ -56,6 +56,14 @@ module _ (s : List ℕ) (o : ℕ) where
   pub vips-made : {a n r : ℕ} → a ≡ jump s o 4 → n ≡ word 4 s o → r ≡ jump s a (8 * n) → r ≡ vipsEnd s o
   unfolding vipsEnd
   vips-made p q e = rw (e, p, q)
+
+  pub registers-made : {a n r : ℕ} → a ≡ jump s o 4 → n ≡ word 4 s o → r ≡ jump s a (24 * n) → r ≡ registersEnd s o
+  unfolding registersEnd
+  registers-made p q e = rw (e, p, q)
+
+  pub convention-made : {a b c r : ℕ} → a ≡ registersEnd s o → b ≡ registersEnd s a → c ≡ registersEnd s b → r ≡ jump s c 33 → r ≡ conventionEnd s o
+  unfolding conventionEnd
+  convention-made p q e f = rw (f, e, q, p)
 
   pub instruction-made : {a z n c b e r : ℕ} → a ≡ jump s o 4 → z ≡ word 4 s o → n ≡ jump s a z → c ≡ word 4 s n → b ≡ jump s n 4
       → e ≡ times (operandEnd s) c b → r ≡ jump s e 21 → r ≡ instructionEnd s o

@@ -1,4 +1,4 @@
--- Where an operand, an instruction, a list of vips and a block end, by their counts, kinds and name sizes alone: total functions of an offset,
+-- Where an operand, an instruction, a list of vips, a block and a convention end, by their counts, kinds and name sizes alone: total functions of an offset,
 -- which stop at the end of the bytes. Of what a layout accepted this is its end (proofs/Same.antt).
 use Prim.Native.Nat.{ℕ, zero, suc, _+_, _*_}
 use mathlib.Core.List.{List}
@@ -40,3 +40,11 @@ afterHead s i = vipsEnd s (vipsEnd s (times (instructionEnd s) (word 4 s i) (jum
 
 unfoldable pub blockEnd : List ℕ → ℕ → ℕ
 blockEnd s o = afterHead s (jump s o 24)
+
+-- a list of registers
+unfoldable pub registersEnd : List ℕ → ℕ → ℕ
+registersEnd s o = jump s (jump s o 4) (24 * word 4 s o)
+
+-- three lists of registers, then 33 bytes
+unfoldable pub conventionEnd : List ℕ → ℕ → ℕ
+conventionEnd s o = jump s (registersEnd s (registersEnd s (registersEnd s o))) 33

@@ -1,7 +1,7 @@
-// The walk over blocks that were accepted before. It looks at counts, kinds and the size of a name alone, and reads no name, text or register
+// The walk over blocks and conventions that were accepted before. It looks at counts, kinds and the size of a name alone, and reads no name, text or register
 // again: where a block is passed many times, that is most of the time.
 ghost use mathlib.Core.Path.{_≡_};
-ghost use Rattle.walk.specs.Ends.{word, operandEnd, times, instructionEnd, vipsEnd, blockEnd};
+ghost use Rattle.walk.specs.Ends.{word, operandEnd, times, instructionEnd, vipsEnd, blockEnd, registersEnd, conventionEnd};
 use fields::U32Read;
 use fields::U64Read;
 use pod::Vip;
@@ -13,7 +13,7 @@ pub struct PassedBlock {
 }
 
 // `k` bytes further, and at most the end.
-fn jump(s: &[u8], at: usize, k: usize) -> usize
+pub fn jump(s: &[u8], at: usize, k: usize) -> usize
     ensures { λ r. ⌜ r ≡ Rattle.walk.specs.Ends.jump (now (s .entry)) at k ⌝ }
 {
     let len = s.len();
@@ -27,7 +27,7 @@ fn jump(s: &[u8], at: usize, k: usize) -> usize
 }
 
 // The u32 that stands there, or 0.
-fn word32(s: &[u8], at: usize) -> u32
+pub fn word32(s: &[u8], at: usize) -> u32
     ensures { λ r. ⌜ r ≡ word 4 (now (s .entry)) at ⌝ }
 {
     match fields::u32_at(s, at) {
@@ -37,7 +37,7 @@ fn word32(s: &[u8], at: usize) -> u32
 }
 
 // The u64 that stands there, or 0.
-fn word64(s: &[u8], at: usize) -> u64
+pub fn word64(s: &[u8], at: usize) -> u64
     ensures { λ r. ⌜ r ≡ word 8 (now (s .entry)) at ⌝ }
 {
     match fields::u64_at(s, at) {
@@ -83,7 +83,7 @@ pub fn instruction_end(s: &[u8], at: usize) -> usize
     jump(s, e, 21)
 }
 
-fn instructions_end(s: &[u8], at: usize, count: u32) -> usize
+pub fn instructions_end(s: &[u8], at: usize, count: u32) -> usize
     ensures { λ r. ⌜ r ≡ times (instructionEnd (now (s .entry))) count at ⌝ }
 {
     let mut left = count;
@@ -123,4 +123,49 @@ pub fn block_at(s: &[u8], at: usize) -> PassedBlock
     let vip = Vip(word64(s, at));
     let next = block_end(s, at);
     PassedBlock { vip, next }
+}
+
+// The end of `count` blocks from `at` on.
+pub fn blocks_end(s: &[u8], at: usize, count: usize) -> usize
+    ensures { λ r. ⌜ r ≡ times (blockEnd (now (s .entry))) count at ⌝ }
+{
+    let mut left = count;
+    let mut o = at;
+    while 0 < left {
+        o = block_end(s, o);
+        left -= 1;
+    }
+    o
+}
+
+// The end of the list of registers at `at`.
+pub fn registers_end(s: &[u8], at: usize) -> usize
+    ensures { λ r. ⌜ r ≡ registersEnd (now (s .entry)) at ⌝ }
+{
+    let a = jump(s, at, 4);
+    let count = word32(s, at);
+    jump(s, a, 24 * (count as usize))
+}
+
+// The end of the convention at `at`. The 33 bytes past its lists: frame register 24, shadow space 8, purge 1.
+pub fn convention_end(s: &[u8], at: usize) -> usize
+    ensures { λ r. ⌜ r ≡ conventionEnd (now (s .entry)) at ⌝ }
+{
+    let a = registers_end(s, at);
+    let b = registers_end(s, a);
+    let c = registers_end(s, b);
+    jump(s, c, 33)
+}
+
+// The end of `count` conventions from `at` on.
+pub fn conventions_end(s: &[u8], at: usize, count: usize) -> usize
+    ensures { λ r. ⌜ r ≡ times (conventionEnd (now (s .entry))) count at ⌝ }
+{
+    let mut left = count;
+    let mut o = at;
+    while 0 < left {
+        o = convention_end(s, o);
+        left -= 1;
+    }
+    o
 }

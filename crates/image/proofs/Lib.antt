@@ -1,0 +1,4 @@
+pub mod Inspects
+pub mod Stands
+pub mod Parts
+pub mod Searches

@@ -1,0 +1,91 @@
+-- Where the parts of a block stand, and that the walk comes to its instructions.
+-- Assumes nothing.
+use mathlib.Core.Path.{_≡_, sym, ap, ap₂, _∙_}
+use mathlib.Core.List.{List, _++_}
+use Prim.Native.Nat.{ℕ, _+_, _*_, _≤_, _<_}
+use native.Mathlib.Omega.{arith}
+use lib.ListN.{length, take}
+use Rattle.laws.specs.Holds.{Block-holds}
+use Rattle.laws.proofs.At.{At, fits, left, right}
+use Rattle.laws.proofs.Back.{length-bytes}
+use Rattle.laws.proofs.Sizes.{block-head-size, counted-size, vips-size}
+use Rattle.pod.specs.Values.{BasicBlock, Routine}
+use Rattle.pod.specs.Written.{bytes, block-bytes, block-head-bytes, instruction-bytes, many-bytes, counted-bytes}
+use Rattle.machine.specs.Edits.{block-at}
+use Rattle.book.specs.Holding.{Holding, block-start}
+use Rattle.walk.specs.Ends.{jump, word, times, instructionEnd}
+use Rattle.walk.proofs.Steps.{jump-in}
+use Rattle.image.specs.Places.{instruction-start}
+use Rattle.image.proofs.Stands.{named, word-at, jump-at, times-at, instruction-far, block-stands, block-holds}
+
+-- of a block anywhere
+module _ {s : List ℕ} {o : ℕ} (b : BasicBlock) (t : At s o (block-bytes b)) where
+  lists-at : At s (o + 24) (counted-bytes instruction-bytes (b .instructions) ++ (counted-bytes (bytes 8) (b .prev-vip) ++ counted-bytes (bytes 8) (b .next-vip)))
+  unfolding block-bytes
+  lists-at = named (ap (λ k. o + k) (block-head-size b)) (right (block-head-bytes b) _ t)
+
+  counted-instructions : At s (o + 24) (counted-bytes instruction-bytes (b .instructions))
+  counted-instructions = left _ (counted-bytes (bytes 8) (b .prev-vip) ++ counted-bytes (bytes 8) (b .next-vip)) lists-at
+
+  pub instruction-count-at : At s (o + 24) (bytes 4 (length (b .instructions)))
+  unfolding counted-bytes
+  instruction-count-at = left _ (many-bytes instruction-bytes (b .instructions)) counted-instructions
+
+  pub instructions-at : At s (o + 28) (many-bytes instruction-bytes (b .instructions))
+  unfolding counted-bytes
+  instructions-at =
+      named (omega (arith, length-bytes 4 (length (b .instructions))))
+      (right (bytes 4 (length (b .instructions))) (many-bytes instruction-bytes (b .instructions)) counted-instructions)
+
+  vips-at : At s (o + 28 + length (many-bytes instruction-bytes (b .instructions))) (counted-bytes (bytes 8) (b .prev-vip) ++ counted-bytes (bytes 8) (b .next-vip))
+  vips-at =
+      named (omega (arith, counted-size instruction-bytes (b .instructions)))
+      (right (counted-bytes instruction-bytes (b .instructions)) (counted-bytes (bytes 8) (b .prev-vip) ++ counted-bytes (bytes 8) (b .next-vip)) lists-at)
+
+  -- the lists of vips
+  pub prev-at : At s (o + 28 + length (many-bytes instruction-bytes (b .instructions))) (counted-bytes (bytes 8) (b .prev-vip))
+  prev-at = left _ (counted-bytes (bytes 8) (b .next-vip)) vips-at
+
+  pub next-at : At s (o + 28 + length (many-bytes instruction-bytes (b .instructions)) + (4 + 8 * length (b .prev-vip))) (counted-bytes (bytes 8) (b .next-vip))
+  next-at = named (omega (arith, vips-size (b .prev-vip))) (right (counted-bytes (bytes 8) (b .prev-vip)) _ vips-at)
+
+  module _ (h : Block-holds b) where
+    pub instruction-count : word 4 s (o + 24) ≡ length (b .instructions)
+    instruction-count = word-at 4 _ _ (h .instructions .count) instruction-count-at
+
+    pub past-instructions : (k : ℕ) → k ≤ length (b .instructions)
+        → times (instructionEnd s) k (o + 28) ≡ o + 28 + length (many-bytes instruction-bytes (take k (b .instructions)))
+    past-instructions k l = times-at instruction-bytes (instructionEnd s) instruction-far k (o + 28) (b .instructions) (h .instructions .each) l instructions-at
+
+    pub to-count : jump s o 24 ≡ o + 24
+    unfolding block-bytes
+    to-count = jump-at (block-head-bytes b) o 24 (block-head-size b) (left (block-head-bytes b) _ t)
+
+    pub past-count : jump s (o + 24) 4 ≡ o + 28
+    past-count = jump-at _ _ 4 (length-bytes 4 (length (b .instructions))) instruction-count-at ∙ omega arith
+
+    pub past-start : jump s o 28 ≡ o + 28
+    past-start = jump-in s o 28 (omega (arith, fits instructions-at))
+
+-- of the block at a place
+module _ {s : List ℕ} (x : Routine) (i : ℕ) (h : Holding s x) (l : i < length (x .explored-blocks)) {o : ℕ} (e : o ≡ block-start x i) where
+  pub stands-here : At s o (block-bytes (block-at i (x .explored-blocks)))
+  stands-here = named (sym e) (block-stands h i l)
+
+  found : (k : ℕ) → k ≤ length (block-at i (x .explored-blocks) .instructions) → times (instructionEnd s) k (o + 28) ≡ instruction-start x i k
+  found k m =
+      past-instructions _ stands-here (block-holds h i l) k m
+      ∙ ap (λ p. p + 28 + length (many-bytes instruction-bytes (take k (block-at i (x .explored-blocks) .instructions)))) e
+
+  pub instruction-found : {k a r : ℕ} → k ≤ length (block-at i (x .explored-blocks) .instructions) → a ≡ jump s o 28 → r ≡ times (instructionEnd s) k a
+      → r ≡ instruction-start x i k
+  instruction-found {k} m p q = q ∙ ap (times (instructionEnd s) k) (p ∙ past-start _ stands-here (block-holds h i l)) ∙ found k m
+
+  pub instructions-found : {a n b r : ℕ} → a ≡ jump s o 24 → n ≡ word 4 s a → b ≡ jump s a 4 → r ≡ times (instructionEnd s) n b
+      → r ≡ instruction-start x i (length (block-at i (x .explored-blocks) .instructions))
+  instructions-found {a} {n} {b} {r} p q f g =
+      let there = block-holds h i l in
+      let a-is : a ≡ o + 24 = p ∙ to-count _ stands-here there in
+      let n-is : n ≡ length (block-at i (x .explored-blocks) .instructions) = q ∙ ap (word 4 s) a-is ∙ instruction-count _ stands-here there in
+      let b-is : b ≡ o + 28 = f ∙ ap (λ j. jump s j 4) a-is ∙ past-count _ stands-here there in
+      g ∙ ap₂ (times (instructionEnd s)) n-is b-is ∙ found _ (omega arith)

@@ -1,0 +1,41 @@
+-- What is found in an image that holds a routine.
+use Prim.Native.Nat.{ℕ, zero, suc, _+_}
+use mathlib.Core.Path.{_≡_}
+use mathlib.Core.Bool.{Bool, true, false}
+use mathlib.Core.List.{List}
+use lib.Dec.{eqb}
+use lib.ListN.{length, take}
+use Rattle.fields.specs.Parse.{Res, ok, no, span}
+use Rattle.pod.specs.Values.{Routine}
+use Rattle.pod.specs.Layout.{routine, as-written}
+use Rattle.pod.specs.Written.{convention-bytes, instruction-bytes, many-bytes}
+use Rattle.machine.specs.Edits.{place as place-of, block-at}
+use Rattle.book.specs.Holding.{block-start}
+use Rattle.image.specs.declared.Spot.{Spot}
+
+-- what was passed over ends at n
+abbrev pub ends-at : ℕ → Res Unit → Bool
+ends-at n (ok t m) = eqb m n
+ends-at n (no e) = false
+
+-- exactly one accepted routine in written form
+unfoldable pub is-routine : List ℕ → Bool
+is-routine s = ends-at (length s) (span (routine as-written s 0))
+
+-- the place of the block with the vip and where it begins; the number of blocks and the end of the last where no block has it
+pub record Spotted (x : Routine) (v : ℕ) (r : Spot) : Type 0 where
+  pub place : r .place ≡ place-of v (x .explored-blocks)
+  pub at : r .at ≡ block-start x (place-of v (x .explored-blocks))
+  pub count : r .count ≡ length (x .explored-blocks)
+
+-- where the convention at a place begins: after the header and the entry vip, and the special ones after their count
+unfoldable pub convention-start : Routine → ℕ → ℕ
+convention-start x zero = 16
+convention-start x (suc zero) = 16 + length (convention-bytes (x .routine-convention))
+convention-start x (suc (suc i)) =
+    20 + length (convention-bytes (x .routine-convention)) + length (convention-bytes (x .subroutine-convention))
+    + length (many-bytes convention-bytes (take i (x .spec-subroutine-conventions)))
+
+-- where instruction k of the block at place i begins: the end of the last where k is their number
+abbrev pub instruction-start : Routine → ℕ → ℕ → ℕ
+instruction-start x i k = block-start x i + 28 + length (many-bytes instruction-bytes (take k (block-at i (x .explored-blocks) .instructions)))

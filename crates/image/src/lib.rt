@@ -1,0 +1,153 @@
+// A lent image: document 01's test for 10 and 13, and where things stand in an image that holds a routine. What is looked for in an image was
+// inspected before, so the walk that reads no name, text or register again is enough.
+ghost use mathlib.Core.Path.{_≡_};
+ghost use Rattle.pod.specs.Values.{Routine};
+ghost use Prim.Native.Nat.{ℕ, _≤_, _<_};
+ghost use lib.ListN.{length};
+ghost use Rattle.machine.specs.Edits.{block-at};
+ghost use Rattle.machine.specs.Look.{conventions};
+ghost use Rattle.machine.specs.Book.{held};
+ghost use Rattle.book.specs.Says.{state, refusal-of};
+ghost use Rattle.book.specs.Holding.{Holding, blocks-start, block-start};
+ghost use Rattle.image.specs.Places.{is-routine, Spotted, convention-start, instruction-start};
+use book::Book;
+use fields::Skip;
+use pod::Vip;
+
+// Whether `s` is exactly one accepted routine in written form.
+fn is_routine(s: &[u8]) -> bool
+    ensures { λ r. ⌜ r ≡ is-routine (now (s .entry)) ⌝ }
+{
+    match routine::routine_skip(s, 0, true) {
+        Skip::Refused(_) => false,
+        Skip::Past(end) => end == s.len(),
+    }
+}
+
+// The refusal that every call on a book gives first, or 0: 10, then 13.
+pub fn inspect(book: Book, image: &[u8], journal: &[u8]) -> u64
+    ensures { λ r. ⌜ r ≡ refusal-of (held (state (now (image .entry)) (now (journal .entry)) book)) ⌝ }
+{
+    if book::MOST_LENT < image.len() {
+        return book::LENDING_TOO_LARGE;
+    }
+    if book::MOST_LENT < journal.len() {
+        return book::LENDING_TOO_LARGE;
+    }
+    let written = book.written;
+    let used = book.used;
+    if (image.len() as u64) < written {
+        return book::SPOILED_BOOK;
+    }
+    if (journal.len() as u64) < used {
+        return book::SPOILED_BOOK;
+    }
+    let end = written as usize;
+    if !is_routine(&image[..end]) {
+        return book::SPOILED_BOOK;
+    }
+    if !buffer::is_zero(image, end) {
+        return book::SPOILED_BOOK;
+    }
+    0
+}
+
+// Where the blocks begin, and how many there are.
+pub struct Blocks {
+    pub start: usize,
+    pub count: u32,
+}
+
+// A block's place and the offset at which it begins; where no block has the vip, the number of blocks and the offset past them. And the number
+// of blocks, which tells the two apart.
+pub struct Spot {
+    pub place: usize,
+    pub at: usize,
+    pub count: u32,
+}
+
+// The header and the entry vip are 16 bytes; then the two conventions, the special ones after their count, and the count of blocks.
+pub fn blocks_of(image: &[u8]) -> Blocks
+    ensures { λ r. ⌜ ((x : Routine) → Holding (now (image .entry)) x → (r .start ≡ blocks-start x) × (r .count ≡ length (x .explored-blocks))) ⌝ }
+{
+    let a = walk::convention_end(image, 16);
+    let b = walk::convention_end(image, a);
+    let special = walk::word32(image, b);
+    let c = walk::jump(image, b, 4);
+    let d = walk::conventions_end(image, c, special as usize);
+    let count = walk::word32(image, d);
+    let start = walk::jump(image, d, 4);
+    Blocks { start, count }
+}
+
+// The block with the vip.
+pub fn find(image: &[u8], vip: Vip) -> Spot
+    ensures { λ r. ⌜ ((x : Routine) → Holding (now (image .entry)) x → Spotted x (vip .0) r) ⌝ }
+{
+    let blocks = blocks_of(image);
+    let count = blocks.count;
+    let n = count as usize;
+    let v = vip.0;
+    let mut at = blocks.start;
+    let mut i = 0;
+    while i < n {
+        let b = walk::block_at(image, at);
+        if b.vip.0 == v {
+            return Spot {
+                place: i,
+                at,
+                count,
+            };
+        }
+        at = b.next;
+        i += 1;
+    }
+    Spot {
+        place: n,
+        at,
+        count,
+    }
+}
+
+// The offset of the block at a place, or past the last where the place is the number of blocks.
+pub fn block_offset(image: &[u8], place: usize) -> usize
+    ensures { λ r. ⌜ ((x : Routine) → Holding (now (image .entry)) x → place ≤ length (x .explored-blocks) → r ≡ block-start x place) ⌝ }
+{
+    let blocks = blocks_of(image);
+    walk::blocks_end(image, blocks.start, place)
+}
+
+// The offset of the convention at a place: the routine's, the subroutine's, and after the count of the special ones these.
+pub fn convention_offset(image: &[u8], place: usize) -> usize
+    ensures { λ r. ⌜ ((x : Routine) → Holding (now (image .entry)) x → place < length (conventions x) → r ≡ convention-start x place) ⌝ }
+{
+    if place == 0 {
+        return 16;
+    }
+    let a = walk::convention_end(image, 16);
+    if place == 1 {
+        return a;
+    }
+    let b = walk::convention_end(image, a);
+    let c = walk::jump(image, b, 4);
+    walk::conventions_end(image, c, place - 2)
+}
+
+// The offset of instruction `k` of the block at offset `at`, or past its last where `k` is their number. The 28 bytes before them: the block's
+// four numbers 24, and the count of instructions 4.
+pub fn instruction_offset(image: &[u8], at: usize, k: u32) -> usize
+    ensures { λ r. ⌜ ((x : Routine) (i : ℕ) → Holding (now (image .entry)) x → i < length (x .explored-blocks) → at ≡ block-start x i → k ≤ length (block-at i (x .explored-blocks) .instructions) → r ≡ instruction-start x i k) ⌝ }
+{
+    let a = walk::jump(image, at, 28);
+    walk::instructions_end(image, a, k)
+}
+
+// The offset past the instructions of the block at offset `at`.
+pub fn instructions_end(image: &[u8], at: usize) -> usize
+    ensures { λ r. ⌜ ((x : Routine) (i : ℕ) → Holding (now (image .entry)) x → i < length (x .explored-blocks) → at ≡ block-start x i → r ≡ instruction-start x i (length (block-at i (x .explored-blocks) .instructions))) ⌝ }
+{
+    let a = walk::jump(image, at, 24);
+    let count = walk::word32(image, a);
+    let b = walk::jump(image, a, 4);
+    walk::instructions_end(image, b, count)
+}
