@@ -3,7 +3,7 @@
 use mathlib.Core.Path.{_≡_, refl, sym, ap, _∙_}
 use mathlib.Core.Bool.{Bool, true, false, not}
 use mathlib.Core.List.{List, [], _∷_}
-use Prim.Native.Nat.{ℕ, zero, suc, _+_, _≤_, _<_}
+use Prim.Native.Nat.{ℕ, zero, suc, _≤_, _<_}
 use native.Mathlib.Omega.{arith}
 use lib.Dec.{eqb, ltb, leb}
 use borrow.Author.Tests.{ltb-true, leb-true}
@@ -24,7 +24,6 @@ use Rattle.pod.specs.declared.InstructionDesc.{InstructionDesc}
 use Rattle.value.specs.Answers.{operands-read, instruction-read}
 use Rattle.value.specs.Tail.{tail}
 use Rattle.value.specs.declared.OperandsRead.{OperandsRead}
-use Rattle.value.specs.declared.InstructionRead.{InstructionRead}
 use Rattle.value.specs.declared.Tail.{Tail}
 use Rattle.value.proofs.Refusal.{Told, told-operands}
 

@@ -2,17 +2,15 @@
 -- Assumes nothing.
 use mathlib.Core.Path.{_≡_, refl}
 use mathlib.Core.List.{List, [], _∷_, _++_}
-use Prim.Native.Nat.{ℕ, _≤_, _<_}
+use Prim.Native.Nat.{_<_}
 use native.Mathlib.Omega.{arith}
 use lib.ListN.{length, set}
-use Rattle.pod.specs.Descs.{places, operand-desc, no-immediate}
+use Rattle.pod.specs.Descs.{places, operand-desc, unused}
 use Rattle.pod.specs.declared.Operand.{Operand}
-use Rattle.pod.specs.declared.Operand.the-variants.{Imm}
 use Rattle.pod.specs.declared.OperandDesc.{OperandDesc}
 
--- three times the operand that stands in an unused place
-pub places-none : (d : OperandDesc) → d ≡ operand-desc (Imm no-immediate) → d ∷ d ∷ d ∷ [] ≡ places []
-unfolding places operand-desc
+pub places-none : (d : OperandDesc) → d ≡ unused → d ∷ d ∷ d ∷ [] ≡ places []
+unfolding places
 places-none d e = rw e
 
 -- one more operand goes into the first unused place

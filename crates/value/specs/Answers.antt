@@ -1,5 +1,4 @@
 -- What the answers say: the value and the offset past it, or the refusal's number and zeros.
-use Prim.Native.Nat.{ℕ}
 use mathlib.Core.List.{List, []}
 use lib.IntN.{pos}
 use Rattle.fields.specs.Parse.{Res, ok, no}

@@ -6,7 +6,7 @@ ghost use lib.Dec.{eqb};
 ghost use Rattle.fields.specs.Parse.{no, many};
 ghost use Rattle.pod.specs.Layout.{operand, instruction, as-it-comes};
 ghost use Rattle.pod.specs.Written.{bit};
-ghost use Rattle.pod.specs.Descs.{operand-desc};
+ghost use Rattle.pod.specs.Descs.{operand-desc, unused};
 ghost use Rattle.value.specs.Answers.{operands-read, of-tail, instruction-read};
 ghost use Rattle.value.specs.Tail.{tail};
 use fields::I64Read;
@@ -75,15 +75,23 @@ pub fn operand_desc(x: Operand) -> OperandDesc
     }
 }
 
+// An unused place: immediate 0, and its width.
+fn unused_place() -> OperandDesc
+    ensures { λ r. ⌜ r ≡ unused ⌝ }
+{
+    let width = 0;
+    operand_desc(Operand::Imm(ImmediateDesc {
+        value: 0,
+        bit_count: width,
+    }))
+}
+
 // `count` operands, at most three.
 pub fn operands_at(s: &[u8], at: usize, count: usize) -> OperandsRead
     requires { ⌜ count ≤ 3 ⌝ }
     ensures { λ r. ⌜ r ≡ operands-read (many operand count (now (s .entry)) at) ⌝ }
 {
-    let none = operand_desc(Operand::Imm(ImmediateDesc {
-        value: 0,
-        bit_count: 0,
-    }));
+    let none = unused_place();
     let mut p = [none; 3];
     let mut i = 0;
     let mut o = at;
@@ -148,10 +156,7 @@ pub fn tail_at(s: &[u8], at: usize) -> TailRead
 fn refused(e: u8) -> InstructionRead
     ensures { λ r. ⌜ r ≡ instruction-read (no e) ⌝ }
 {
-    let none = operand_desc(Operand::Imm(ImmediateDesc {
-        value: 0,
-        bit_count: 0,
-    }));
+    let none = unused_place();
     InstructionRead {
         refusal: e,
         next: 0,

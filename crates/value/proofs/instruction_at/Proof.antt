@@ -1,6 +1,5 @@
 -- `value::instruction_at` meets its contract: what the operation, the operands and the rest answered is what the layout's three parts do.
 -- Assumes nothing.
-use Prim.Native.Nat.{_<_}
 use mathlib.Core.Path.{_≡_, sym, ap, _∙_}
 use native.Mathlib.Omega.{arith}
 use Rattle.instruction.specs.Answers.{of-op}

@@ -1,18 +1,21 @@
+<<<<<<< HEAD
 -- Operands read into three places. The loop keeps which operands were read so far and that the places hold them, the rest unused.
 use Rattle.value.proofs.Places.{places-none, places-set}
+=======
+>>>>>>> d144bc2835ddf0c52bd19e9d779265a254f1c613
 -- `value::operands_at` meets its contract: the loop keeps the operands read so far, which stand in the first places, and that what is left of the
 -- run is read from `o`.
 -- Assumes nothing.
+use Rattle.value.proofs.Places.{places-none, places-set}
 use mathlib.Core.Path.{_≡_, refl, sym, ap, _∙_}
 use mathlib.Core.List.{List, [], _∷_, _++_}
 use Prim.Native.Nat.{_≤_, _-_}
 use native.Mathlib.Omega.{arith}
-use lib.ListN.{length, set, length-append}
+use lib.ListN.{length, length-append}
 use Rattle.pod.specs.Layout.{operand}
 use Rattle.pod.specs.Answers.{of-operand}
-use Rattle.pod.specs.Descs.{places, unused}
+use Rattle.pod.specs.Descs.{places}
 use Rattle.pod.specs.declared.Operand.{Operand}
-use Rattle.pod.specs.declared.OperandDesc.{OperandDesc}
 use Rattle.value.specs.Answers.{operands-read}
 use Rattle.value.proofs.Gather.{Got, got-none, got-more, got-stop, got-all}
 use borrow.Author.Needs.{needs}
@@ -22,6 +25,7 @@ use Rattle.value.proofs.operands_at.Reads as reads
 use Rattle.value.proofs.operands_at.Lts as lts
 use Rattle.pod.proofs.operand_at.Reads as operand-at-reads
 use Rattle.value.proofs.operand_desc.Reads as operand-desc-reads
+use Rattle.value.proofs.unused_place.Reads as unused-place-reads
 
 abbrev Inv-loop : tie.InvT-loop
 Inv-loop s at count none p₀ i₀ o₀ p i o = (xs : List Operand) × (length xs ≡ i) × (i ≤ count) × (p ≡ places xs) × Got operand count s at xs i o
@@ -29,11 +33,11 @@ Inv-loop s at count none p₀ i₀ o₀ p i o = (xs : List Operand) × (length x
 abbrev μ-loop : tie.MeasureT-loop
 μ-loop s at count none p₀ i₀ o₀ p i o = count - i
 
-operand-desc-requires : tie.Need-operand-desc-requires Inv-loop μ-loop
-operand-desc-requires c κs = search needs
+unused-place-requires : tie.Need-unused-place-requires Inv-loop μ-loop
+unused-place-requires c κs = search needs
 
 loop-holds : tie.Need-loop-holds Inv-loop μ-loop
-loop-holds c = ([], refl, omega arith, places-none _ (c .operand-desc .ensures), got-none operand _ _ _)
+loop-holds c = ([], refl, omega arith, places-none _ (c .unused-place .ensures), got-none operand _ _ _)
 
 operand-at-requires : tie.Need-operand-at-requires Inv-loop μ-loop
 operand-at-requires c κs = search needs
@@ -47,13 +51,13 @@ returns c =
     let d = c .before .before .before in
     let l = d .before .before .loop in
     let e = got-stop operand _ _ _ (l .inv .0) _ _ (l .inv .4) (d .before .loop-test .taken) (sym (d .operand-at .ensures) ∙ ap of-operand (c .before .e .given .1)) in
-    rw (e, places-none _ (d .before .before .before .operand-desc .ensures))
+    rw (e, places-none _ (d .before .before .before .unused-place .ensures))
 
 enum-known-x : tie.Need-enum-known-x Inv-loop μ-loop
 enum-known-x c = search needs
 
-operand-desc-requires-2 : tie.Need-operand-desc-requires-2 Inv-loop μ-loop
-operand-desc-requires-2 c κs = search needs
+operand-desc-requires : tie.Need-operand-desc-requires Inv-loop μ-loop
+operand-desc-requires c κs = search needs
 
 mul-p : tie.Need-mul-p Inv-loop μ-loop
 mul-p c = omega arith
@@ -77,7 +81,7 @@ loop-again c =
       l .inv .0 ++ x ∷ [],
       length-append (l .inv .0) (x ∷ []) ∙ omega arith,
       omega arith,
-      rw (c .operand-desc2 .ensures, l .inv .3, ← h) (places-set (l .inv .0) x (omega arith)),
+      rw (c .operand-desc .ensures, l .inv .3, ← h) (places-set (l .inv .0) x (omega arith)),
       got-more operand _ _ _ (l .inv .0) _ _ (l .inv .4) (d .before .loop-test .taken) (sym (d .operand-at .ensures) ∙ ap of-operand (v .before .x .given .1)),
     )
 
@@ -94,13 +98,13 @@ operands-at-spec =
     (tie.spec
     Inv-loop
     μ-loop
-    operand-desc-requires
+    unused-place-requires
     loop-holds
     operand-at-requires
     enum-known-e
     returns
     enum-known-x
-    operand-desc-requires-2
+    operand-desc-requires
     mul-p
     array-set-from-p
     add-i

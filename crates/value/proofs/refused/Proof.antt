@@ -1,7 +1,11 @@
+<<<<<<< HEAD
 -- A refusal by value: every other field is 0.
 use Rattle.value.proofs.Places.{places-none}
+=======
+>>>>>>> d144bc2835ddf0c52bd19e9d779265a254f1c613
 -- `value::refused` meets its contract: zeros, and three unused places.
 -- Assumes nothing.
+use Rattle.value.proofs.Places.{places-none}
 use Rattle.pod.specs.Descs.{places, operand-desc}
 use Rattle.value.specs.Answers.{instruction-read}
 use borrow.Author.Needs.{needs}
@@ -9,14 +13,14 @@ use Rattle.value.proofs.refused.Statement.{statement}
 use Rattle.value.proofs.refused.Tie as tie
 use Rattle.value.proofs.refused.Reads as reads
 use Rattle.value.proofs.refused.Lts as lts
-use Rattle.value.proofs.operand_desc.Reads as operand-desc-reads
+use Rattle.value.proofs.unused_place.Reads as unused-place-reads
 
-operand-desc-requires : tie.Need-operand-desc-requires
-operand-desc-requires c κs = search needs
+unused-place-requires : tie.Need-unused-place-requires
+unused-place-requires c κs = search needs
 
 returns : tie.Need-returns
 unfolding instruction-read
-returns c = rw (places-none _ (c .operand-desc .ensures))
+returns c = rw (places-none _ (c .unused-place .ensures))
 
 pub refused-spec : {M : Type 1} → statement M
-refused-spec = tie.close (tie.spec operand-desc-requires returns)
+refused-spec = tie.close (tie.spec unused-place-requires returns)

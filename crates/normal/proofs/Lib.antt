@@ -1,0 +1,3 @@
+pub mod Puts
+pub mod Runs
+pub mod Wholes

@@ -1,0 +1,116 @@
+// An accepted routine brought to its written form in place: the pad becomes 0, and each flag 0 or 1. These are the only bytes in which a file and
+// the written form of what it says can differ, so a light walk over the counts finds all that is to be changed.
+//
+// Every function here is total: bytes that are no routine come to no harm, and only of accepted bytes is anything promised.
+ghost use mathlib.Core.Path.{_≡_};
+ghost use Prim.Native.Nat.{_-_, _≤_, _<_};
+ghost use lib.ListN.{length, getD, set};
+ghost use Rattle.fields.specs.Parse.{counted};
+ghost use Rattle.pod.specs.Layout.{instruction, convention, block, routine, as-it-comes};
+ghost use Rattle.pod.specs.Written.{counted-bytes, instruction-bytes, convention-bytes, block-bytes, routine-bytes};
+ghost use Rattle.laws.specs.Normal.{normal, flag};
+ghost use Rattle.normal.specs.Over.{Normalised};
+
+// The header's pad: the mark, 4 bytes, and the machine, 1, stand before it.
+const PAD: usize = 5;
+
+// The header, 8 bytes, and the entry vip, 8, stand before the routine's convention.
+const CONVENTIONS: usize = 16;
+
+// The byte before `end`, as a flag is written: 0 stays, and all else becomes 1.
+fn settle_flag(a: &mut [u8], end: usize)
+    ensures { λ _. ⌜ (0 < end → end ≤ length (now (a .entry)) → now (a .exit) ≡ set (now (a .entry)) (end - 1) (normal flag (getD (now (a .entry)) (end - 1) 0))) ⌝ }
+{
+    if end == 0 {
+        return;
+    }
+    if a.len() < end {
+        return;
+    }
+    if a[end - 1] == 0 {
+        return;
+    }
+    a[end - 1] = 1;
+}
+
+// Sp reset is an instruction's last byte.
+fn normalise_instruction(a: &mut [u8], at: usize) -> usize
+    ensures { λ r. ⌜ Normalised (instruction as-it-comes) instruction-bytes (now (a .entry)) at r (now (a .exit)) ⌝ }
+{
+    let end = walk::instruction_end(a, at);
+    settle_flag(a, end);
+    end
+}
+
+// Purge is a convention's last byte.
+fn normalise_convention(a: &mut [u8], at: usize) -> usize
+    ensures { λ r. ⌜ Normalised (convention as-it-comes) convention-bytes (now (a .entry)) at r (now (a .exit)) ⌝ }
+{
+    let end = walk::convention_end(a, at);
+    settle_flag(a, end);
+    end
+}
+
+// The list of instructions at `at`.
+fn normalise_instructions(a: &mut [u8], at: usize) -> usize
+    ensures { λ r. ⌜ Normalised (counted (instruction as-it-comes)) (counted-bytes instruction-bytes) (now (a .entry)) at r (now (a .exit)) ⌝ }
+{
+    let mut left = walk::word32(a, at);
+    let mut o = walk::jump(a, at, 4);
+    while 0 < left {
+        o = normalise_instruction(a, o);
+        left -= 1;
+    }
+    o
+}
+
+// A block's vips are written as they were read, and the 24 bytes before its lists too.
+fn normalise_block(a: &mut [u8], at: usize) -> usize
+    ensures { λ r. ⌜ Normalised (block as-it-comes) block-bytes (now (a .entry)) at r (now (a .exit)) ⌝ }
+{
+    let list = walk::jump(a, at, 24);
+    let prev = normalise_instructions(a, list);
+    let next = walk::vips_end(a, prev);
+    walk::vips_end(a, next)
+}
+
+// The list of conventions at `at`.
+fn normalise_conventions(a: &mut [u8], at: usize) -> usize
+    ensures { λ r. ⌜ Normalised (counted (convention as-it-comes)) (counted-bytes convention-bytes) (now (a .entry)) at r (now (a .exit)) ⌝ }
+{
+    let mut left = walk::word32(a, at);
+    let mut o = walk::jump(a, at, 4);
+    while 0 < left {
+        o = normalise_convention(a, o);
+        left -= 1;
+    }
+    o
+}
+
+// The list of blocks at `at`.
+fn normalise_blocks(a: &mut [u8], at: usize) -> usize
+    ensures { λ r. ⌜ Normalised (counted (block as-it-comes)) (counted-bytes block-bytes) (now (a .entry)) at r (now (a .exit)) ⌝ }
+{
+    let mut left = walk::word32(a, at);
+    let mut o = walk::jump(a, at, 4);
+    while 0 < left {
+        o = normalise_block(a, o);
+        left -= 1;
+    }
+    o
+}
+
+// The routine at the start of `a`: answers its end.
+pub fn normalise_routine(a: &mut [u8]) -> usize
+    ensures { λ r. ⌜ Normalised (routine as-it-comes) routine-bytes (now (a .entry)) 0 r (now (a .exit)) ⌝ }
+{
+    // No routine is so short.
+    if a.len() <= PAD {
+        return 0;
+    }
+    a[PAD] = 0;
+    let sub = normalise_convention(a, CONVENTIONS);
+    let special = normalise_convention(a, sub);
+    let blocks = normalise_conventions(a, special);
+    normalise_blocks(a, blocks)
+}

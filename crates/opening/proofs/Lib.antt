@@ -1,0 +1,4 @@
+pub mod Every
+pub mod Front
+pub mod Told
+pub mod Openings

@@ -1,0 +1,53 @@
+-- How many bytes the written forms take.
+-- Assumes nothing.
+use mathlib.Core.Path.{_≡_, refl, ap₂, _∙_}
+use mathlib.Core.List.{List}
+use Prim.Native.Nat.{ℕ, _+_}
+use lib.ListN.{length, length-append, take}
+use borrow.Author.Tests.{eq-eqb, ne-eqb}
+use Rattle.fields.specs.Bytes.{put}
+use Rattle.fields.specs.Parse.{choose}
+use Rattle.pod.specs.Written.{bytes, register-bytes, immediate-bytes, operand-bytes}
+use Rattle.pod.specs.Descs.{desc-operand}
+use Rattle.pod.specs.declared.RegisterDesc.{RegisterDesc}
+use Rattle.pod.specs.declared.ImmediateDesc.{ImmediateDesc}
+use Rattle.pod.specs.declared.Operand.the-variants.{Imm, Reg}
+use Rattle.pod.specs.declared.OperandDesc.{OperandDesc}
+use Rattle.buffer.proofs.Digits.{length-bytes}
+use Rattle.writer.proofs.Laid.{Laid, laid-field, laid-then}
+
+length-register : (r : RegisterDesc) → length (register-bytes r) ≡ 24
+unfolding register-bytes
+length-register r = simp (length-append, length-bytes)
+
+length-immediate : (i : ImmediateDesc) → length (immediate-bytes i) ≡ 12
+unfolding immediate-bytes
+length-immediate i = simp (length-append, length-bytes)
+
+module _ (d : OperandDesc) where
+  pub is-imm : d .kind ≡ 0 → desc-operand d ≡ Imm (d .immediate)
+  unfolding choose
+  is-imm h = rw (eq-eqb _ _ h)
+
+  pub is-reg : (d .kind ≡ 0 → ⊥) → desc-operand d ≡ Reg (d .register)
+  unfolding choose
+  is-reg h = rw (ne-eqb _ _ h)
+
+  pub size-imm : d .kind ≡ 0 → length (operand-bytes (desc-operand d)) ≡ 16
+  unfolding operand-bytes
+  size-imm h = rw (is-imm h) (length-append (bytes 4 0) _ ∙ ap₂ (λ (i j : ℕ). i + j) (length-bytes 4 0) (length-immediate (d .immediate)))
+
+  pub size-reg : (d .kind ≡ 0 → ⊥) → length (operand-bytes (desc-operand d)) ≡ 28
+  unfolding operand-bytes
+  size-reg h = rw (is-reg h) (length-append (bytes 4 1) _ ∙ ap₂ (λ (i j : ℕ). i + j) (length-bytes 4 1) (length-register (d .register)))
+
+  -- the kind, and then the operand
+  pub laid-imm : {a b e : List ℕ} {at : ℕ} → d .kind ≡ 0 → b ≡ put at (bytes 4 0) a → e ≡ put (at + 4) (immediate-bytes (d .immediate)) b
+      → Laid a at (operand-bytes (desc-operand d)) 16 e
+  unfolding operand-bytes
+  laid-imm h p q = rw (is-imm h) (laid-then (laid-field 4 0 p) (record { size = length-immediate (d .immediate); is = λ l. q }) refl)
+
+  pub laid-reg : {a b e : List ℕ} {at : ℕ} → (d .kind ≡ 0 → ⊥) → b ≡ put at (bytes 4 1) a → e ≡ put (at + 4) (register-bytes (d .register)) b
+      → Laid a at (operand-bytes (desc-operand d)) 28 e
+  unfolding operand-bytes
+  laid-reg h p q = rw (is-reg h) (laid-then (laid-field 4 1 p) (record { size = length-register (d .register); is = λ l. q }) refl)
