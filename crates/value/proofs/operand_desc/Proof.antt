@@ -1,8 +1,3 @@
-<<<<<<< HEAD
--- An operand in its place: by the two kinds.
-use mathlib.Core.Path.{sym, ap}
-=======
->>>>>>> d144bc2835ddf0c52bd19e9d779265a254f1c613
 -- `value::operand_desc` meets its contract: each arm makes the definition's record.
 -- Assumes nothing.
 use mathlib.Core.Path.{sym, ap}

@@ -1,8 +1,3 @@
-<<<<<<< HEAD
--- Operands read into three places. The loop keeps which operands were read so far and that the places hold them, the rest unused.
-use Rattle.value.proofs.Places.{places-none, places-set}
-=======
->>>>>>> d144bc2835ddf0c52bd19e9d779265a254f1c613
 -- `value::operands_at` meets its contract: the loop keeps the operands read so far, which stand in the first places, and that what is left of the
 -- run is read from `o`.
 -- Assumes nothing.

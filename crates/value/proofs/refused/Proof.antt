@@ -1,12 +1,7 @@
-<<<<<<< HEAD
--- A refusal by value: every other field is 0.
-use Rattle.value.proofs.Places.{places-none}
-=======
->>>>>>> d144bc2835ddf0c52bd19e9d779265a254f1c613
 -- `value::refused` meets its contract: zeros, and three unused places.
 -- Assumes nothing.
 use Rattle.value.proofs.Places.{places-none}
-use Rattle.pod.specs.Descs.{places, operand-desc}
+use Rattle.pod.specs.Descs.{places}
 use Rattle.value.specs.Answers.{instruction-read}
 use borrow.Author.Needs.{needs}
 use Rattle.value.proofs.refused.Statement.{statement}
