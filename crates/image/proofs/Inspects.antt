@@ -217,3 +217,22 @@ sound-held {s} {r} h =
 pub sound-holding : {s : State} {r : Routine} → Sound s r → Holding (s .image) r
 unfolding in-image
 sound-holding {s} {r} h = record { holds = h .holds; rest = zeros (length (s .image) - size r); is = h .image }
+
+-- a call's refusal is handed on
+pub refused-by : {A : Type 0} (o : Outcome A) {k : ℕ} → k ≡ refusal-of o → (k ≡ 0 → ⊥) → o ≡ refused k
+unfolding refusal-of
+refused-by (accepted a) e n = absurd (n e)
+refused-by (refused j) e n = ap refused (sym e)
+
+-- what a call that was not refused goes on with
+pub record Ready (s : State) : Type 0 where
+  pub routine : Routine
+  pub is : held s ≡ accepted routine
+  pub sound : Sound s routine
+  pub holding : Holding (s .image) routine
+
+pub ready : (s : State) → Bytes (s .image) → {k : ℕ} → k ≡ refusal-of (held s) → k ≡ 0 → Ready s
+ready s b e z =
+    let i = inspected s (sym e ∙ z) in
+    let h = held-sound b (i .1) in
+    record { routine = i .0; is = i .1; sound = h; holding = sound-holding h }

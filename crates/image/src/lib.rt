@@ -66,6 +66,15 @@ pub struct Spot {
     pub count: u32,
 }
 
+// The number of special conventions, which stands after the routine's and the subroutine's.
+pub fn special_count(image: &[u8]) -> u32
+    ensures { λ r. ⌜ ((x : Routine) → Holding (now (image .entry)) x → r ≡ length (x .spec-subroutine-conventions)) ⌝ }
+{
+    let a = walk::convention_end(image, 16);
+    let b = walk::convention_end(image, a);
+    walk::word32(image, b)
+}
+
 // The header and the entry vip are 16 bytes; then the two conventions, the special ones after their count, and the count of blocks.
 pub fn blocks_of(image: &[u8]) -> Blocks
     ensures { λ r. ⌜ ((x : Routine) → Holding (now (image .entry)) x → (r .start ≡ blocks-start x) × (r .count ≡ length (x .explored-blocks))) ⌝ }

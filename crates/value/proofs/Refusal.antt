@@ -1,12 +1,13 @@
--- No operand is refused with 0, so that an answer with refusal 0 is an accepted one.
+-- No operand, and no instruction that is read as it comes, is refused with 0, so that an answer with refusal 0 is an accepted one. By going through
+-- the layouts field by field.
 -- Assumes nothing.
 use mathlib.Core.Path.{_≡_, refl}
 use mathlib.Core.Bool.{Bool, true, false}
 use mathlib.Core.List.{List}
 use Prim.Native.Nat.{ℕ, zero, suc, _<_}
 use native.Mathlib.Omega.{arith}
-use Rattle.fields.specs.Parse.{Res, ok, no, Reader, bind, choose, uint, many}
-use Rattle.pod.specs.Layout.{register, immediate, operand}
+use Rattle.fields.specs.Parse.{Res, ok, no, Reader, bind, choose, uint, part, many, taken, flag}
+use Rattle.pod.specs.Layout.{register, immediate, operand, named, opcode, after, instruction, as-it-comes}
 
 -- an answer that is accepted, or refused with a number over 0
 abbrev pub Told : {A : Type 0} → Res A → Type 0
@@ -67,3 +68,25 @@ told-operand s o =
 
 pub told-operands : (n : ℕ) (s : List ℕ) (o : ℕ) → Told (many operand n s o)
 told-operands = told-many operand told-operand
+
+told-opcode : (s : List ℕ) (o : ℕ) → Told (opcode s o)
+unfolding opcode named part
+told-opcode s o =
+    told-bind _ _ (told-uint 4 s o) (λ size a.
+    told-bind _ _ (told-choose _ _ _ (told-ok _ _) (told-no 1 (omega arith))) (λ name b.
+    told-bind _ _ (told-check 2 _ b (omega arith)) (λ _ c.
+    told-bind _ _ (told-uint 4 s c) (λ count d.
+    told-bind _ _ (told-check 7 _ d (omega arith)) (λ _ e. told-bind _ _ (told-check 8 _ e (omega arith)) (λ _ f. told-ok _ _))))))
+
+told-flag : (s : List ℕ) (o : ℕ) → Told (flag as-it-comes s o)
+unfolding flag taken choose bind
+told-flag s o = told-bind _ _ (told-uint 1 s o) (λ b a. told-ok _ _)
+
+pub told-instruction : (s : List ℕ) (o : ℕ) → Told (instruction as-it-comes s o)
+unfolding instruction after
+told-instruction s o =
+    told-bind _ _ (told-opcode s o) (λ op a.
+    told-bind _ _ (told-operands _ s a) (λ xs b.
+    told-bind _ _ (told-uint 8 s b) (λ vip c.
+    told-bind _ _ (told-int 8 s c _) (λ sp d.
+    told-bind _ _ (told-uint 4 s d) (λ index e. told-bind _ _ (told-flag s e) (λ reset f. told-ok _ _))))))

@@ -1,0 +1,92 @@
+-- The written form of a routine cut at the block with a place, and there at the end of its instructions: what the edits that change a block leave
+-- before and after it. The cut is one law for every list of instructions that the block may have.
+-- Assumes nothing.
+use mathlib.Core.Path.{_≡_, refl, sym, ap, ap₂, _∙_}
+use mathlib.Core.List.{List, [], _∷_, _++_, append-assoc}
+use Prim.Native.Nat.{ℕ, zero, suc, _+_, _-_, _≤_, _<_}
+use native.Mathlib.Nat.{not-suc-le-zero, le-of-suc-le-suc}
+use native.Mathlib.Omega.{arith}
+use lib.ListN.{length, take, drop, getD, length-append, replicate-append-replicate}
+use lib.Seq.{split-at}
+use Rattle.fields.specs.Bytes.{zeros}
+use Rattle.pod.specs.Values.{Instruction, BasicBlock, Routine}
+use Rattle.pod.specs.Written.{bytes, many-bytes, counted-bytes, instruction-bytes, block-head-bytes, block-bytes, routine-head-bytes, routine-bytes}
+use Rattle.laws.proofs.Back.{length-bytes}
+use Rattle.laws.proofs.Place.{many-append}
+use Rattle.laws.proofs.Sizes.{block-head-size}
+use Rattle.machine.specs.Edits.{block-at, change-at, with-instructions, with-blocks}
+use Rattle.machine.specs.Machine.{size}
+use Rattle.machine.specs.Book.{in-image}
+use Rattle.book.specs.Holding.{blocks-start, block-start}
+
+pub zeros-split : (n k m : ℕ) → n ≡ k + m → zeros n ≡ zeros k ++ zeros m
+zeros-split n k m h = ap zeros h ∙ sym (replicate-append-replicate k m 0)
+
+-- the head does not depend on the blocks
+pub written-blocks : (r : Routine) (bs : List BasicBlock) → routine-bytes (with-blocks bs r) ≡ routine-head-bytes r ++ (bytes 4 (length bs) ++ many-bytes block-bytes bs)
+unfolding routine-bytes routine-head-bytes counted-bytes
+written-blocks r bs = refl
+
+pub change-split : (i : ℕ) (g : BasicBlock → BasicBlock) (bs : List BasicBlock) → i < length bs → change-at i g bs ≡ take i bs ++ (g (block-at i bs) ∷ drop (suc i) bs)
+unfolding change-at
+change-split i g [] h = absurd (not-suc-le-zero h)
+change-split zero g (b ∷ bs) h = refl
+change-split (suc i) g (b ∷ bs) h = ap (λ l. b ∷ l) (change-split i g bs (le-of-suc-le-suc h))
+
+-- what follows a block's instructions in it
+abbrev pub links : BasicBlock → List ℕ
+links b = counted-bytes (bytes 8) (b .prev-vip) ++ counted-bytes (bytes 8) (b .next-vip)
+
+abbrev pub code-of : List Instruction → List ℕ
+code-of is = many-bytes instruction-bytes is
+
+pub written-instructions : (b : BasicBlock) (is : List Instruction)
+    → block-bytes (with-instructions is b) ≡ block-head-bytes b ++ (bytes 4 (length is) ++ (code-of is ++ links b))
+unfolding block-bytes block-head-bytes counted-bytes
+written-instructions b is = ap (λ l. block-head-bytes b ++ l) (append-assoc (bytes 4 (length is)) (code-of is) (links b))
+
+module _ (r : Routine) (i : ℕ) where
+  abbrev pub the-block : BasicBlock
+  the-block = block-at i (r .explored-blocks)
+
+  -- up to the count of the block's instructions
+  abbrev pub before : List ℕ
+  before =
+      routine-head-bytes r
+      ++ (bytes 4 (length (r .explored-blocks)) ++ (many-bytes block-bytes (take i (r .explored-blocks)) ++ block-head-bytes the-block))
+
+  -- after the block's instructions
+  abbrev pub behind : List ℕ
+  behind = links the-block ++ many-bytes block-bytes (drop (suc i) (r .explored-blocks))
+
+  -- the routine whose block at i has other instructions
+  abbrev pub with-code : List Instruction → Routine
+  with-code is = with-blocks (take i (r .explored-blocks) ++ (with-instructions is the-block ∷ drop (suc i) (r .explored-blocks))) r
+
+  pub before-size : length before ≡ block-start r i + 24
+  before-size = simp (length-append, length-bytes, block-head-size) (omega arith)
+
+  module _ (h : i < length (r .explored-blocks)) where
+    as-is : with-code (the-block .instructions) ≡ r
+    as-is = ap (λ bs. with-blocks bs r) (sym (split-at (r .explored-blocks) i _ h))
+
+    pub cut : (is : List Instruction) → routine-bytes (with-code is) ≡ before ++ (bytes 4 (length is) ++ (code-of is ++ behind))
+    unfolding many-bytes
+    cut is =
+        let bs = r .explored-blocks in
+        let P = take i bs in
+        let T = drop (suc i) bs in
+        let n : length (P ++ (with-instructions is the-block ∷ T)) ≡ length bs
+        = length-append P (with-instructions is the-block ∷ T) ∙ sym (length-append P (the-block ∷ T)) ∙ ap length (sym (split-at bs i _ h)) in
+        written-blocks r (P ++ (with-instructions is the-block ∷ T))
+        ∙ rw (n, many-append block-bytes P (with-instructions is the-block ∷ T), written-instructions the-block is) (simp append-assoc)
+
+    pub cut-here : routine-bytes r ≡ before ++ (bytes 4 (length (the-block .instructions)) ++ (code-of (the-block .instructions) ++ behind))
+    cut-here = ap routine-bytes (sym as-is) ∙ cut (the-block .instructions)
+
+    -- where they end, and the sizes
+    pub cut-size : (is : List Instruction) → size (with-code is) ≡ block-start r i + 28 + length (code-of is) + length behind
+    cut-size is = ap length (cut is) ∙ simp (length-append, length-bytes, block-head-size) (omega arith)
+
+    pub here-size : size r ≡ block-start r i + 28 + length (code-of (the-block .instructions)) + length behind
+    here-size = ap size (sym as-is) ∙ cut-size (the-block .instructions)

@@ -1,0 +1,44 @@
+// The trailer, the 20 bytes that end a journal entry: written and read.
+//
+// These functions have a `requires`: they are for the crates above, which call them only with numbers that they have tested against the journal's
+// length.
+ghost use mathlib.Core.Path.{_≡_};
+ghost use Prim.Native.Nat.{_+_, _≤_};
+ghost use lib.ListN.{length};
+ghost use Rattle.fields.specs.Parse.{ok};
+ghost use Rattle.fields.specs.Bytes.{put};
+ghost use Rattle.machine.specs.Journal.{trailer, trailer-bytes};
+ghost use Rattle.trailer.specs.Says.{named, trailer-of};
+
+// `kind` is that of the entry: 1 create, 2 remove, 3 append. `place` is the block's, and `length` the size of what was removed or appended.
+pub struct Trailer {
+    pub vip: u64,
+    pub place: u32,
+    pub length: u32,
+    pub kind: u32,
+}
+
+// The bytes of a trailer.
+pub const TRAILER_SIZE: usize = 20;
+
+pub fn put_trailer(journal: &mut [u8], at: usize, vip: u64, place: u32, size: u32, kind: u32)
+    requires { ⌜ at + 20 ≤ length (now journal) ⌝ }
+    ensures { λ _. ⌜ now (journal .exit) ≡ put at (trailer-bytes (named vip place size kind)) (now (journal .entry)) ⌝ }
+{
+    buffer::put_u64(journal, at, vip);
+    buffer::put_u32(journal, at + 8, place);
+    buffer::put_u32(journal, at + 12, size);
+    buffer::put_u32(journal, at + 16, kind);
+}
+
+pub fn read_trailer(journal: &[u8], at: usize) -> Trailer
+    requires { ⌜ at + 20 ≤ length (now journal) ⌝ }
+    ensures { λ r. ⌜ trailer (now (journal .entry)) at ≡ ok (trailer-of r) (at + 20) ⌝ }
+{
+    Trailer {
+        vip: fields::eight(journal, at),
+        place: fields::four(journal, at + 8) as u32,
+        length: fields::four(journal, at + 12) as u32,
+        kind: fields::four(journal, at + 16) as u32,
+    }
+}
