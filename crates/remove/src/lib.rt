@@ -1,0 +1,79 @@
+// Removing a block from the routine in an image, in place.
+//
+// `remove_block` requires that the state is sound: it is for the crate above, whose call inspects the lent image and the book first.
+ghost use mathlib.Core.Path.{_≡_};
+ghost use Prim.Native.Nat.{ℕ};
+ghost use lib.ListN.{length};
+ghost use Rattle.pod.specs.Values.{Routine};
+ghost use Rattle.machine.specs.Edits.{remove, remove-at, with-blocks};
+ghost use Rattle.machine.specs.Machine.{edit};
+ghost use Rattle.machine.specs.Book.{in-image, step};
+ghost use Rattle.book.specs.Says.{state, outcome};
+ghost use Rattle.remove.specs.Held.{Held};
+ghost use Rattle.remove.specs.Leaving.{Leaving, Leaves};
+use book::Answer;
+use book::Book;
+use pod::Vip;
+
+// The kind of a removal's entry, and the bytes of the entry beside the block.
+const KIND: u32 = 2;
+
+const TRAILER: usize = 20;
+
+// The block from `at` to `end` leaves the routine that ends at `written`, and the last block takes its place: no other block moves further than by
+// the difference of the two sizes, and what is freed at the end becomes 0.
+fn take_out(image: &mut [u8], at: usize, end: usize, written: usize)
+    requires { ⌜ Leaves (now image) at end written ⌝ }
+    ensures { λ _. ⌜ ((r : Routine) (i : ℕ) → Leaving r i (now (image .entry)) at end written → now (image .exit) ≡ in-image (length (now (image .entry))) (with-blocks (remove-at i (r .explored-blocks)) r)) ⌝ }
+{
+    let blocks = image::blocks_of(image);
+    let start = blocks.start;
+    let count = blocks.count;
+    if end == written {
+        buffer::clear(image, at, end);
+        buffer::put_u32(image, start - 4, count - 1);
+        return;
+    }
+    let last = image::block_offset(image, count as usize - 1);
+    let left = written - (end - at);
+    buffer::exchange(image, at, end, last, written);
+    buffer::clear(image, left, written);
+    buffer::put_u32(image, start - 4, count - 1);
+}
+
+// The block with the vip goes, into the journal: its bytes, and then the trailer. A removal never grows the routine, so it is never refused with 11.
+pub fn remove_block(book: Book, image: &mut [u8], journal: &mut [u8], vip: Vip) -> Answer
+    requires { ⌜ Held (state (now image) (now journal) book) ⌝ }
+    ensures { λ r. ⌜ outcome r (now (image .exit)) (now (journal .exit)) ≡ step (edit (remove (vip .0))) (state (now (image .entry)) (now (journal .entry)) book) ⌝ }
+{
+    let v = vip.0;
+    let written = book.written as usize;
+    let used = book.used as usize;
+    let spot = image::find(image, vip);
+    let place = spot.place;
+    let at = spot.at;
+    if spot.count as usize <= place {
+        return Answer {
+            refusal: book::NO_SUCH_BLOCK,
+            book,
+        };
+    }
+    let end = walk::block_end(image, at);
+    let size = end - at;
+    if journal.len() - used < size + TRAILER {
+        return Answer {
+            refusal: book::JOURNAL_FULL,
+            book,
+        };
+    }
+    buffer::copy_at(journal, used, &image[at..end]);
+    trailer::put_trailer(journal, used + size, v, place as u32, size as u32, KIND);
+    take_out(image, at, end, written);
+    Answer {
+        refusal: 0,
+        book: Book {
+            written: (written - size) as u64,
+            used: (used + size + TRAILER) as u64,
+        },
+    }
+}
