@@ -7,7 +7,7 @@ use mathlib.Core.List.{List, [], _∷_, _++_}
 use Prim.Native.Nat.{ℕ, zero, suc, _+_, _-_, _≤_, _<_}
 use native.Mathlib.Omega.{arith}
 use lib.ListN.{length, take, drop, getD, length-take, length-drop}
-use lib.Seq.{take-all, take-take, drop-drop, getD-drop, getD-take, length-take-le}
+use lib.Seq.{take-nil, take-all, take-take, drop-drop, getD-drop, getD-take, length-take-le}
 use lib.Dec.{leb, eqb}
 use borrow.Author.Tests.{le-leb, lt-leb, leb-true, leb-false, eqb-true, eq-eqb}
 use Rattle.fields.specs.Bytes.{zeros, put}
@@ -47,7 +47,7 @@ length-inserted i b r =
 part-of : (d t : ℕ) (l : List ℕ) → d ≤ t → drop d (take t l) ≡ take (t - d) (drop d l)
 part-of zero t l h = let e : t ≡ t - 0 = omega arith in ap (λ (n : ℕ). take n l) e
 part-of (suc d) zero l h = absurd (omega arith)
-part-of (suc d) (suc t) [] h = refl
+part-of (suc d) (suc t) [] h = sym (take-nil (suc t - suc d))
 part-of (suc d) (suc t) (x ∷ l) h = let e : t - d ≡ suc t - suc d = omega arith in part-of d t l (omega arith) ∙ ap (λ (n : ℕ). take n (drop d l)) e
 
 -- parts of bytes are bytes

@@ -1,2 +1,4 @@
 pub mod Inserted
+pub mod Whole
+pub mod Entered
 pub mod Entries

@@ -9,15 +9,15 @@ use Rattle.laws.specs.Holds.{Routine-holds}
 use Rattle.machine.specs.Machine.{size}
 use Rattle.machine.specs.Book.{in-image}
 
--- the image holds r and then zeros, r ends at `written`, and bytes of size n fit after it; the place i is one of r's, or the next
-pub record Entering (r : Routine) (image : List ℕ) (i written n : ℕ) : Type 0 where
+-- the image holds r and then zeros, r ends at `written`, and the bytes of the block fit after it; the place i is one of r's, or the next
+pub record Entering (r : Routine) (image : List ℕ) (i written : ℕ) (block : List ℕ) : Type 0 where
   pub holds : Routine-holds r
   pub is : image ≡ in-image (length image) r
   pub whole : written ≡ size r
-  pub room : size r + n ≤ length image
+  pub room : size r + length block ≤ length image
   pub lent : length image ≤ most-lent
   pub within : i ≤ length (r .explored-blocks)
 
-pub record Enters (image : List ℕ) (i written n : ℕ) : Type 0 where
+pub record Enters (image : List ℕ) (i written : ℕ) (block : List ℕ) : Type 0 where
   pub r : Routine
-  pub entering : Entering r image i written n
+  pub entering : Entering r image i written block

@@ -6,18 +6,17 @@ use mathlib.Core.List.{List}
 use Prim.Native.Nat.{ℕ, _+_, _-_, _≤_, _<_}
 use native.Mathlib.Omega.{arith}
 use lib.ListN.{length, take, drop}
-use Rattle.fields.specs.Outcome.{accepted}
 use Rattle.pod.specs.Values.{Routine, BasicBlock}
 use Rattle.pod.specs.Written.{block-bytes}
 use Rattle.machine.specs.Edits.{place, block-at}
 use Rattle.machine.specs.Machine.{size}
-use Rattle.machine.specs.Book.{State, held}
+use Rattle.machine.specs.Book.{State}
 use Rattle.machine.proofs.Keeps.{weight}
 use Rattle.book.specs.Says.{state}
 use Rattle.book.specs.Holding.{block-start, Holding, Sound}
 use Rattle.image.specs.Places.{Spotted}
 use Rattle.remove.specs.Leaving.{Leaving}
-use Rattle.image.proofs.Inspects.{sound-held, sound-holding}
+use Rattle.image.proofs.Inspects.{sound-holding}
 use Rattle.parts.proofs.Stands as B
 use Rattle.remove.proofs.Steps as K
 use borrow.Author.Needs.{needs}
@@ -43,9 +42,6 @@ P s = place (s .args .vip .0) (R s .explored-blocks)
 
 abbrev b : tie.Start → BasicBlock
 b s = block-at (P s) (R s .explored-blocks)
-
-holds : (s : tie.Start) → held (L s) ≡ accepted (R s)
-holds s = sound-held (s .pre .sound)
 
 holding : (s : tie.Start) → Holding (s .args .image .now) (R s)
 holding s = sound-holding (s .pre .sound)
@@ -99,7 +95,7 @@ same-length : tie.Need-same-length
 same-length c = search needs
 
 returns : tie.Need-returns
-returns c = let f = c .before .before in let s = start f in K.no-block _ _ _ (R s) (s .pre .sound) (holds s) _ (omega (arith, c .if1 .taken, spotted f .place, spotted f .count))
+returns c = let f = c .before .before in let s = start f in K.no-block _ _ _ (R s) (s .pre .sound) _ (omega (arith, c .if1 .taken, spotted f .place, spotted f .count))
 
 block-end-requires : tie.Need-block-end-requires
 block-end-requires c κs = search needs
@@ -121,7 +117,7 @@ returns-2 c =
     let u = c .before in
     let e = passed u in
     let s = start (found e) in
-    K.no-room _ _ _ (R s) (s .pre .sound) (holds s) _ (there e) (omega (arith, c .if2 .taken, ends u))
+    K.no-room _ _ _ (R s) (s .pre .sound) _ (there e) (omega (arith, c .if2 .taken, ends u))
 
 sub-copy-at : tie.Need-sub-copy-at
 sub-copy-at c = omega (arith, ends (c .before .before))
@@ -171,7 +167,7 @@ returns-3 c =
     let e = passed u in
     let f = found e in
     let s = start f in
-    K.removed _ _ _ (R s) (s .pre .sound) (holds s) _ (there e) _ _ _ (spotted f .at) (ends u) (spotted f .place) (omega (arith, c .before .before .before .before .before .before .before .before .before .before .before .before .before .before .if2 .left)) _ _ _ _
+    K.removed _ _ _ (R s) (s .pre .sound) _ (there e) _ _ _ (spotted f .at) (ends u) (spotted f .place) (omega (arith, c .before .before .before .before .before .before .before .before .before .before .before .before .before .before .if2 .left)) _ _ _ _
     (B.part-here (R s) (P s) (there e) (s .args .image .now) (holding s) _ _ (spotted f .at) (ends u))
     (c .before .before .before .before .before .before .before .before .before .before .copy-at .ensures)
     (c .before .before .before .before .before .before .put-trailer .ensures)

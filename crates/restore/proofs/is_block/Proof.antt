@@ -1,3 +1,11 @@
+-- `restore::is_block` meets its contract: the exact walk says where a block ends, and eight bytes its vip.
+-- Assumes nothing.
+use mathlib.Core.Path.{_≡_, sym, ap, _∙_}
+use native.Mathlib.Omega.{arith}
+use Rattle.fields.specs.Answers.{of-skip}
+use Rattle.fields.specs.Parse.{ok, span}
+use Rattle.pod.specs.Layout.{block, as-written}
+use Rattle.restore.proofs.Whole as W
 use borrow.Author.Needs.{needs}
 use Rattle.restore.proofs.is_block.Statement.{statement}
 use Rattle.restore.proofs.is_block.Tie as tie
@@ -6,33 +14,30 @@ use Rattle.restore.proofs.is_block.Lts as lts
 use Rattle.block.proofs.block_skip.Reads as block-skip-reads
 use Rattle.fields.proofs.eight.Reads as eight-reads
 
--- src/lib.rt:30:11
+-- what the walk said
+ends : (c : tie.After-known-told) → ok tt (c .before .end .given .0 .0) ≡ span (block as-written (c .before .before .before .before .before .args .s .now) 0)
+ends c = sym (ap of-skip (c .before .end .given .1)) ∙ c .before .before .before .block-skip .ensures
+
 block-skip-requires : tie.Need-block-skip-requires
 block-skip-requires c κs = search needs
 
--- src/lib.rt:31:29
 enum-told : tie.Need-enum-told
 enum-told c = search needs
 
--- src/lib.rt:32:20
 enum-known-end : tie.Need-enum-known-end
 enum-known-end c = search needs
 
--- src/lib.rt:34:17
 eight-requires : tie.Need-eight-requires
-eight-requires c κs = ?
+eight-requires c κs = let k = c .before in omega (arith, W.long-enough 0 _ (k .before .before .before .before .shared-slice-known .given) (ends k) (c .if1 .taken))
 
--- src/lib.rt:27:1
 returns : tie.Need-returns
-returns c = ?
+returns c = W.not-read _ _ (sym (ap of-skip (c .enum-told .given .1)) ∙ c .before .before .block-skip .ensures)
 
--- src/lib.rt:27:1
 returns-2 : tie.Need-returns-2
-returns-2 c = ?
+returns-2 c = let k = c .before .before in W.by-vip _ _ (k .before .before .before .before .shared-slice-known .given) (ends k) (c .before .if1 .taken) _ (c .eight .ensures)
 
--- src/lib.rt:27:1
 returns-3 : tie.Need-returns-3
-returns-3 c = ?
+returns-3 c = W.not-all _ _ (ends (c .before)) (c .if1 .left)
 
 pub is-block-spec : {M : Type 1} → statement M
 is-block-spec =

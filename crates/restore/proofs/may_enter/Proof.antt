@@ -1,3 +1,15 @@
+-- `restore::may_enter` meets its contract: each of its tests is the definition's next.
+-- Assumes nothing.
+use mathlib.Core.Path.{_≡_, sym, _∙_}
+use mathlib.Core.Bool.{true}
+use native.Mathlib.Omega.{arith}
+use lib.ListN.{length}
+use borrow.Author.Tests.{not-true, not-false}
+use Rattle.pod.specs.Values.{Routine}
+use Rattle.book.specs.Holding.{Holding}
+use Rattle.image.specs.Places.{Spotted}
+use Rattle.restore.specs.Blocks.{is-block}
+use Rattle.restore.proofs.Whole as W
 use borrow.Author.Needs.{needs}
 use Rattle.restore.proofs.may_enter.Statement.{statement}
 use Rattle.restore.proofs.may_enter.Tie as tie
@@ -6,37 +18,44 @@ use Rattle.restore.proofs.may_enter.Lts as lts
 use Rattle.image.proofs.find.Reads as find-reads
 use Rattle.restore.proofs.is_block.Reads as is-block-reads
 
--- src/lib.rt:68:9
+abbrev start : tie.Else1 → tie.Start
+start c = c .before .before .before .before
+
+whole : (c : tie.Else1) → is-block (start c .args .vip) (start c .args .block .now) ≡ true
+whole c = sym (c .before .is-block .ensures) ∙ not-false _ (c .if1 .left)
+
+spotted : (c : tie.After-find) (r : Routine) → Holding (start (c .before) .args .image .now) r → Spotted r (start (c .before) .args .vip) (c .find .result)
+spotted c r h = c .find .ensures r h
+
 is-block-requires : tie.Need-is-block-requires
 is-block-requires c κs = search needs
 
--- src/lib.rt:69:9
 returns : tie.Need-returns
-returns c = ?
+returns c = λ r h w. W.no-block _ r _ _ _ _ (c .before .is-block .ensures) (not-true _ (c .if1 .taken))
 
--- src/lib.rt:71:9
 find-requires : tie.Need-find-requires
 find-requires c κs = search needs
 
--- src/lib.rt:73:21
 cast-if2 : tie.Need-cast-if2
 cast-if2 c = search needs
 
--- src/lib.rt:74:9
 returns-2 : tie.Need-returns-2
-returns-2 c = ?
+returns-2 c = λ r h w.
+    let f = c .before .before in
+    W.vip-there _ r _ _ _ (whole (f .before)) (omega (arith, c .if2 .taken, spotted f r h .place, spotted f r h .count))
 
--- src/lib.rt:77:9
 returns-3 : tie.Need-returns-3
-returns-3 c = ?
+returns-3 c = λ r h w.
+    let f = c .before .before .before in
+    W.no-place _ r _ _ _ (whole (f .before)) (omega (arith, c .before .if2 .left, spotted f r h .place, spotted f r h .count)) (omega (arith, c .if3 .taken, spotted f r h .count))
 
--- src/lib.rt:79:20
 sub-result : tie.Need-sub-result
 sub-result c = search needs
 
--- src/lib.rt:64:1
 returns-4 : tie.Need-returns-4
-returns-4 c = ?
+returns-4 c = λ r h w.
+    let f = c .before .before .before in
+    W.by-room _ r _ _ _ (whole (f .before)) (omega (arith, c .before .if2 .left, spotted f r h .place, spotted f r h .count)) (omega (arith, c .if3 .left, spotted f r h .count)) _ w (start (f .before) .pre)
 
 pub may-enter-spec : {M : Type 1} → statement M
 may-enter-spec =
