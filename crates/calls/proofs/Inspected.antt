@@ -6,7 +6,7 @@ use mathlib.Core.List.{List}
 use Prim.Native.Nat.{ℕ}
 use native.Mathlib.Omega.{arith}
 use lib.ListN.{length, take}
-use lib.Dec.{leb, eqb}
+use lib.Dec.{leb}
 use borrow.Author.Tests.{ne-eqb}
 use Rattle.fields.specs.Parse.{Res, ok, no, choose}
 use Rattle.fields.specs.Outcome.{Outcome, refused, accepted}

@@ -13,40 +13,40 @@ use pod::Vip;
 pub fn create_block(book: Book, image: &mut [u8], journal: &mut [u8], vip: Vip) -> Answer
     ensures { λ r. ⌜ outcome r (now (image .exit)) (now (journal .exit)) ≡ step (edit (create (vip .0))) (state (now (image .entry)) (now (journal .entry)) book) ⌝ }
 {
-    let refusal = image_inspect(book, image, journal);
+    let refusal = image::inspect(book, image, journal);
     if refusal != 0 {
         return Answer { refusal, book };
     }
-    edits_create_block(book, image, journal, vip)
+    edits::create_block(book, image, journal, vip)
 }
 
 // The block with the vip goes, and the last block takes its place: 15 where it is absent, then 12.
 pub fn remove_block(book: Book, image: &mut [u8], journal: &mut [u8], vip: Vip) -> Answer
     ensures { λ r. ⌜ outcome r (now (image .exit)) (now (journal .exit)) ≡ step (edit (remove (vip .0))) (state (now (image .entry)) (now (journal .entry)) book) ⌝ }
 {
-    let refusal = image_inspect(book, image, journal);
+    let refusal = image::inspect(book, image, journal);
     if refusal != 0 {
         return Answer { refusal, book };
     }
-    remove_remove_block(book, image, journal, vip)
+    remove::remove_block(book, image, journal, vip)
 }
 
 // The instruction that the bytes say goes last in the block with the vip: what reading them refuses, 17, 15, then 11, 12.
 pub fn append(book: Book, image: &mut [u8], journal: &mut [u8], vip: Vip, instruction: &[u8]) -> Answer
     ensures { λ r. ⌜ outcome r (now (image .exit)) (now (journal .exit)) ≡ step (edit (append (vip .0) (now (instruction .entry)))) (state (now (image .entry)) (now (journal .entry)) book) ⌝ }
 {
-    let refusal = image_inspect(book, image, journal);
+    let refusal = image::inspect(book, image, journal);
     if refusal != 0 {
         return Answer { refusal, book };
     }
-    edits_append(book, image, journal, vip, instruction)
+    edits::append(book, image, journal, vip, instruction)
 }
 
 // The last accepted edit that stands is taken back: 16 where none does, and 13 where the journal's last entry does not fit the image.
 pub fn undo(book: Book, image: &mut [u8], journal: &mut [u8]) -> Answer
     ensures { λ r. ⌜ outcome r (now (image .exit)) (now (journal .exit)) ≡ step undo (state (now (image .entry)) (now (journal .entry)) book) ⌝ }
 {
-    let refusal = image_inspect(book, image, journal);
+    let refusal = image::inspect(book, image, journal);
     if refusal != 0 {
         return Answer { refusal, book };
     }
@@ -54,36 +54,7 @@ pub fn undo(book: Book, image: &mut [u8], journal: &mut [u8]) -> Answer
 }
 
 // STAND-IN
-ghost use Rattle.machine.specs.Book.{held};
-ghost use Rattle.book.specs.Says.{refusal-of};
-ghost use Rattle.calls.specs.Held.{Held};
-
-pub fn image_inspect(book: Book, image: &[u8], journal: &[u8]) -> u64
-    ensures { λ r. ⌜ r ≡ refusal-of (held (state (now (image .entry)) (now (journal .entry)) book)) ⌝ }
-{
-    0
-}
-
-pub fn edits_create_block(book: Book, image: &mut [u8], journal: &mut [u8], vip: Vip) -> Answer
-    requires { ⌜ Held (state (now image) (now journal) book) ⌝ }
-    ensures { λ r. ⌜ outcome r (now (image .exit)) (now (journal .exit)) ≡ step (edit (create (vip .0))) (state (now (image .entry)) (now (journal .entry)) book) ⌝ }
-{
-    Answer { refusal: 1, book }
-}
-
-pub fn remove_remove_block(book: Book, image: &mut [u8], journal: &mut [u8], vip: Vip) -> Answer
-    requires { ⌜ Held (state (now image) (now journal) book) ⌝ }
-    ensures { λ r. ⌜ outcome r (now (image .exit)) (now (journal .exit)) ≡ step (edit (remove (vip .0))) (state (now (image .entry)) (now (journal .entry)) book) ⌝ }
-{
-    Answer { refusal: 1, book }
-}
-
-pub fn edits_append(book: Book, image: &mut [u8], journal: &mut [u8], vip: Vip, instruction: &[u8]) -> Answer
-    requires { ⌜ Held (state (now image) (now journal) book) ⌝ }
-    ensures { λ r. ⌜ outcome r (now (image .exit)) (now (journal .exit)) ≡ step (edit (append (vip .0) (now (instruction .entry)))) (state (now (image .entry)) (now (journal .entry)) book) ⌝ }
-{
-    Answer { refusal: 1, book }
-}
+ghost use Rattle.edits.specs.Held.{Held};
 
 pub fn undo_undo(book: Book, image: &mut [u8], journal: &mut [u8]) -> Answer
     requires { ⌜ Held (state (now image) (now journal) book) ⌝ }

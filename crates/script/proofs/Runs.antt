@@ -12,9 +12,9 @@ use borrow.Author.Tests.{eq-eqb, ne-eqb}
 use Rattle.fields.specs.Parse.{choose}
 use Rattle.fields.specs.Outcome.{Outcome, refused, accepted}
 use Rattle.machine.specs.Edits.{create, remove, append}
-use Rattle.machine.specs.Machine.{Call, edit, undo, Answer, start, machine-run}
+use Rattle.machine.specs.Machine.{Call, edit, undo, Answer}
 use Rattle.machine.specs.Book.{State, unopened, open-book, step, run}
-use Rattle.machine.specs.Demand.{Bytes, Sendable, Every, Opening, fresh}
+use Rattle.machine.specs.Demand.{Bytes, Sendable, Every, Opening}
 use Rattle.demand.proofs.Theorem.{follows}
 use Rattle.script.specs.Script.{is-script, call-of, between, call-at, calls, last-of, ran, after-opening, replayed}
 use Rattle.script.specs.Replays.{Agrees, Replays}

@@ -8,11 +8,11 @@ use Rattle.calls.proofs.remove_block.Statement.{statement}
 use Rattle.calls.proofs.remove_block.Tie as tie
 use Rattle.calls.proofs.remove_block.Reads as reads
 use Rattle.calls.proofs.remove_block.Lts as lts
-use Rattle.calls.proofs.image_inspect.Reads as image-inspect-reads
-use Rattle.calls.proofs.remove_remove_block.Reads as remove-remove-block-reads
+use Rattle.image.proofs.inspect.Reads as inspect-reads
+use Rattle.remove.proofs.remove_block.Reads as remove-block-reads
 
-image-inspect-requires : tie.Need-image-inspect-requires
-image-inspect-requires c κs = search needs
+inspect-requires : tie.Need-inspect-requires
+inspect-requires c κs = search needs
 
 same-length : tie.Need-same-length
 same-length c = search needs
@@ -22,11 +22,11 @@ same-length-2 c = search needs
 
 returns : tie.Need-returns
 returns c = let i = c .before in let s = i .before .before .before .before .before in
-    I.spoiled (s .args .image .now) (s .args .journal .now) (s .args .book) (i .image-inspect .result) (i .image-inspect .ensures) (edit (remove (s .args .vip .0))) (c .if1 .taken)
+    I.spoiled (s .args .image .now) (s .args .journal .now) (s .args .book) (i .inspect .result) (i .inspect .ensures) (edit (remove (s .args .vip .0))) (c .if1 .taken)
 
-remove-remove-block-requires : tie.Need-remove-remove-block-requires
-remove-remove-block-requires c κs = let e = c .before .before in let i = e .before in let k = i .before .before .before in let s = k .before .before in
-    let g = I.sound (s .args .image .now) (s .args .journal .now) (s .args .book) (i .image-inspect .result) (i .image-inspect .ensures) (k .before .slice-known .given) (e .if1 .left) in record { r = g .0; sound = g .1 }
+remove-block-requires : tie.Need-remove-block-requires
+remove-block-requires c κs = let e = c .before .before in let i = e .before in let k = i .before .before .before in let s = k .before .before in
+    let g = I.sound (s .args .image .now) (s .args .journal .now) (s .args .book) (i .inspect .result) (i .inspect .ensures) (k .before .slice-known .given) (e .if1 .left) in record { r = g .0; sound = g .1 }
 
 same-length-3 : tie.Need-same-length-3
 same-length-3 c = search needs
@@ -41,11 +41,11 @@ pub remove-block-spec : {M : Type 1} → statement M
 remove-block-spec =
     tie.close
     (tie.spec
-    image-inspect-requires
+    inspect-requires
     same-length
     same-length-2
     returns
-    remove-remove-block-requires
+    remove-block-requires
     same-length-3
     same-length-4
     returns-2)

@@ -7,11 +7,11 @@ use Rattle.calls.proofs.undo.Statement.{statement}
 use Rattle.calls.proofs.undo.Tie as tie
 use Rattle.calls.proofs.undo.Reads as reads
 use Rattle.calls.proofs.undo.Lts as lts
-use Rattle.calls.proofs.image_inspect.Reads as image-inspect-reads
 use Rattle.calls.proofs.undo_undo.Reads as undo-undo-reads
+use Rattle.image.proofs.inspect.Reads as inspect-reads
 
-image-inspect-requires : tie.Need-image-inspect-requires
-image-inspect-requires c κs = search needs
+inspect-requires : tie.Need-inspect-requires
+inspect-requires c κs = search needs
 
 same-length : tie.Need-same-length
 same-length c = search needs
@@ -21,11 +21,11 @@ same-length-2 c = search needs
 
 returns : tie.Need-returns
 returns c = let i = c .before in let s = i .before .before .before .before .before in
-    I.spoiled (s .args .image .now) (s .args .journal .now) (s .args .book) (i .image-inspect .result) (i .image-inspect .ensures) (undo) (c .if1 .taken)
+    I.spoiled (s .args .image .now) (s .args .journal .now) (s .args .book) (i .inspect .result) (i .inspect .ensures) (undo) (c .if1 .taken)
 
 undo-undo-requires : tie.Need-undo-undo-requires
 undo-undo-requires c κs = let e = c .before .before in let i = e .before in let k = i .before .before .before in let s = k .before .before in
-    let g = I.sound (s .args .image .now) (s .args .journal .now) (s .args .book) (i .image-inspect .result) (i .image-inspect .ensures) (k .before .slice-known .given) (e .if1 .left) in record { r = g .0; sound = g .1 }
+    let g = I.sound (s .args .image .now) (s .args .journal .now) (s .args .book) (i .inspect .result) (i .inspect .ensures) (k .before .slice-known .given) (e .if1 .left) in record { r = g .0; sound = g .1 }
 
 same-length-3 : tie.Need-same-length-3
 same-length-3 c = search needs
@@ -40,7 +40,7 @@ pub undo-spec : {M : Type 1} → statement M
 undo-spec =
     tie.close
     (tie.spec
-    image-inspect-requires
+    inspect-requires
     same-length
     same-length-2
     returns
