@@ -32,7 +32,13 @@ pub fn remove_block(book: Book, image: &mut [u8], journal: &mut [u8], vip: Vip) 
 }
 
 // The instruction that the bytes say goes last in the block with the vip: what reading them refuses, 17, 15, then 11, 12.
-pub fn append(book: Book, image: &mut [u8], journal: &mut [u8], vip: Vip, instruction: &[u8]) -> Answer
+pub fn append(
+    book: Book,
+    image: &mut [u8],
+    journal: &mut [u8],
+    vip: Vip,
+    instruction: &[u8],
+) -> Answer
     ensures { λ r. ⌜ outcome r (now (image .exit)) (now (journal .exit)) ≡ step (edit (append (vip .0) (now (instruction .entry)))) (state (now (image .entry)) (now (journal .entry)) book) ⌝ }
 {
     let refusal = image::inspect(book, image, journal);

@@ -90,7 +90,7 @@ module _ (r : Routine) (N : ℕ) (p : List BasicBlock) (b : BasicBlock) (m : Lis
       ∙ sym (g (x ++ z)) in
       let f : n - 1 ≡ length after =
       omega (arith, length-append p (b ∷ (m ++ (y ∷ []))), length-append m (y ∷ []), length-append p (y ∷ m)) in
-      let w : x ++ z ≡ zeros (N - size (with-blocks after r)) = 
+      let w : x ++ z ≡ zeros (N - size (with-blocks after r)) =
       zeros-join (length B) (N - size (with-blocks before r)) (N - size (with-blocks after r)) (omega (arith, size-before, size-after)) in
       let u : written p ++ (Y ++ (M ++ (x ++ z))) ≡ written after ++ (x ++ z) = sym (written-parts p y m (x ++ z)) in
       e₃

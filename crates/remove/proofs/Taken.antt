@@ -98,9 +98,10 @@ module _ (r : Routine) (i : ℕ) (image : List ℕ) (at end w : ℕ) (l : Leavin
 
     -- the last block stands after it, and before the end
     pub last-after : (k : ℕ) → k ≡ block-start r (length blocks - 1) → (end ≤ k) × (k ≤ w)
-    last-after k e =
-        (omega (arith, last-at),
-        omega (arith, l .whole, written-size r blocks, ap (λ (t : List BasicBlock). length (written t)) (split-last), length-written (take (length blocks - 1) blocks) (w₀ .end ∷ [])))
+    last-after k e = (
+      omega (arith, last-at),
+      omega (arith, l .whole, written-size r blocks, ap (λ (t : List BasicBlock). length (written t)) (split-last), length-written (take (length blocks - 1) blocks) (w₀ .end ∷ [])),
+    )
       where
         split-last : blocks ≡ take (length blocks - 1) blocks ++ (w₀ .end ∷ [])
         split-last =

@@ -94,7 +94,7 @@ pub fn run(file: &[u8], image: &mut [u8], journal: &mut [u8], words: &[u64], tex
             },
         };
     }
-    let mut last = open(file, image, journal);
+    let mut last = opening::open(file, image, journal);
     if last.refusal != 0 {
         return last;
     }
@@ -109,18 +109,6 @@ pub fn run(file: &[u8], image: &mut [u8], journal: &mut [u8], words: &[u64], tex
 }
 
 // STAND-IN
-pub fn open(file: &[u8], image: &mut [u8], journal: &mut [u8]) -> Answer
-    ensures { λ r. ⌜ outcome r (now (image .exit)) (now (journal .exit)) ≡ open-book (now (file .entry)) (now (image .entry)) (now (journal .entry)) ⌝ }
-{
-    Answer {
-        refusal: 1,
-        book: Book {
-            written: 0,
-            used: 0,
-        },
-    }
-}
-
 pub fn create_block(book: Book, image: &mut [u8], journal: &mut [u8], vip: Vip) -> Answer
     ensures { λ r. ⌜ outcome r (now (image .exit)) (now (journal .exit)) ≡ step (edit (create (vip .0))) (state (now (image .entry)) (now (journal .entry)) book) ⌝ }
 {

@@ -1,15 +1,11 @@
 -- `calls::append` meets its contract: where the inspection refuses, so does the step, and else the state is what the edit's function asks for.
 -- Assumes nothing.
+use borrow.Author.Needs.{needs}
 use Rattle.machine.specs.Edits.{append}
 use Rattle.machine.specs.Machine.{edit}
 use Rattle.calls.proofs.Inspected as I
-use borrow.Author.Needs.{needs}
 use Rattle.calls.proofs.append.Statement.{statement}
 use Rattle.calls.proofs.append.Tie as tie
-use Rattle.calls.proofs.append.Reads as reads
-use Rattle.calls.proofs.append.Lts as lts
-use Rattle.edits.proofs.append.Reads as append-reads
-use Rattle.image.proofs.inspect.Reads as inspect-reads
 
 inspect-requires : tie.Need-inspect-requires
 inspect-requires c κs = search needs

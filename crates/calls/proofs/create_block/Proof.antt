@@ -1,15 +1,11 @@
 -- `calls::create_block` meets its contract: where the inspection refuses, so does the step, and else the state is what the edit's function asks for.
 -- Assumes nothing.
+use borrow.Author.Needs.{needs}
 use Rattle.machine.specs.Edits.{create}
 use Rattle.machine.specs.Machine.{edit}
 use Rattle.calls.proofs.Inspected as I
-use borrow.Author.Needs.{needs}
 use Rattle.calls.proofs.create_block.Statement.{statement}
 use Rattle.calls.proofs.create_block.Tie as tie
-use Rattle.calls.proofs.create_block.Reads as reads
-use Rattle.calls.proofs.create_block.Lts as lts
-use Rattle.edits.proofs.create_block.Reads as create-block-reads
-use Rattle.image.proofs.inspect.Reads as inspect-reads
 
 inspect-requires : tie.Need-inspect-requires
 inspect-requires c κs = search needs

@@ -1,15 +1,11 @@
 -- `calls::remove_block` meets its contract: where the inspection refuses, so does the step, and else the state is what the edit's function asks for.
 -- Assumes nothing.
+use borrow.Author.Needs.{needs}
 use Rattle.machine.specs.Edits.{remove}
 use Rattle.machine.specs.Machine.{edit}
 use Rattle.calls.proofs.Inspected as I
-use borrow.Author.Needs.{needs}
 use Rattle.calls.proofs.remove_block.Statement.{statement}
 use Rattle.calls.proofs.remove_block.Tie as tie
-use Rattle.calls.proofs.remove_block.Reads as reads
-use Rattle.calls.proofs.remove_block.Lts as lts
-use Rattle.image.proofs.inspect.Reads as inspect-reads
-use Rattle.remove.proofs.remove_block.Reads as remove-block-reads
 
 inspect-requires : tie.Need-inspect-requires
 inspect-requires c κs = search needs

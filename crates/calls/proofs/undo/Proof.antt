@@ -1,14 +1,10 @@
 -- `calls::undo` meets its contract: where the inspection refuses, so does the step, and else the state is what the edit's function asks for.
 -- Assumes nothing.
+use borrow.Author.Needs.{needs}
 use Rattle.machine.specs.Machine.{undo}
 use Rattle.calls.proofs.Inspected as I
-use borrow.Author.Needs.{needs}
 use Rattle.calls.proofs.undo.Statement.{statement}
 use Rattle.calls.proofs.undo.Tie as tie
-use Rattle.calls.proofs.undo.Reads as reads
-use Rattle.calls.proofs.undo.Lts as lts
-use Rattle.calls.proofs.undo_undo.Reads as undo-undo-reads
-use Rattle.image.proofs.inspect.Reads as inspect-reads
 
 inspect-requires : tie.Need-inspect-requires
 inspect-requires c κs = search needs

@@ -1,19 +1,12 @@
 -- `script::call` meets its contract: each kind is its call, by what that call ensures.
 -- Assumes nothing.
 use mathlib.Core.Path.{ap, _∙_}
-use Rattle.machine.specs.Machine.{Call}
+use borrow.Author.Needs.{needs}
 use Rattle.machine.specs.Book.{State, step}
 use Rattle.book.specs.Says.{state}
 use Rattle.script.proofs.Runs as R
-use borrow.Author.Needs.{needs}
 use Rattle.script.proofs.call.Statement.{statement}
 use Rattle.script.proofs.call.Tie as tie
-use Rattle.script.proofs.call.Reads as reads
-use Rattle.script.proofs.call.Lts as lts
-use Rattle.script.proofs.append.Reads as append-reads
-use Rattle.script.proofs.create_block.Reads as create-block-reads
-use Rattle.script.proofs.remove_block.Reads as remove-block-reads
-use Rattle.script.proofs.take_back.Reads as take-back-reads
 
 abbrev found : tie.Start → State
 found s = state (s .args .image .now) (s .args .journal .now) (s .args .book)

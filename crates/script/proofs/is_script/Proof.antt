@@ -1,19 +1,15 @@
-use mathlib.Core.List.{List}
-use Prim.Native.Nat.{ℕ}
-use lib.ListN.{length-drop}
 -- `script::is_script` meets its contract. The loop's invariant: the words are a script exactly if those from `at` on are.
 -- Assumes nothing.
+use mathlib.Core.List.{List}
 use mathlib.Core.Path.{_≡_, refl, sym, ap, _∙_}
-use Prim.Native.Nat.{_≤_, _<_, _+_, _-_}
+use Prim.Native.Nat.{ℕ, _≤_, _+_, _-_}
 use native.Mathlib.Omega.{arith}
-use lib.ListN.{length, drop}
+use lib.ListN.{length-drop, length, drop}
+use borrow.Author.Needs.{needs}
 use Rattle.script.specs.Script.{is-script}
 use Rattle.script.proofs.Words as W
-use borrow.Author.Needs.{needs}
 use Rattle.script.proofs.is_script.Statement.{statement}
 use Rattle.script.proofs.is_script.Tie as tie
-use Rattle.script.proofs.is_script.Reads as reads
-use Rattle.script.proofs.is_script.Lts as lts
 
 abbrev Inv-loop : tie.InvT-loop
 Inv-loop words texts n most at₀ at = (at ≤ n) × (is-script words texts ≡ is-script (drop at words) texts)
@@ -47,7 +43,7 @@ shared-slice-read-if2 : tie.Need-shared-slice-read-if2 Inv-loop μ-loop
 shared-slice-read-if2 c = search needs
 
 returns-2 : tie.Need-returns-2 Inv-loop μ-loop
-returns-2 c = let e = c .before .before in let a = e .before .before in sym (a .loop .inv .1 ∙ W.wrong-kind (words a) (texts a) (a .loop .at) (whole e) (c .if2 .taken))
+returns-2 c = let e = c .before .before in let a = e .before .before in sym (a .loop .inv .1 ∙ W.wrong-kind _ _ _ (whole e) (c .if2 .taken))
 
 add-if3 : tie.Need-add-if3 Inv-loop μ-loop
 add-if3 c = search needs
@@ -69,7 +65,7 @@ shared-slice-read-if3-2 c = search needs
 
 returns-3 : tie.Need-returns-3 Inv-loop μ-loop
 returns-3 c = let k = c .before .before .before in let e = k .before .before in let a = e .before .before in
-    sym (a .loop .inv .1 ∙ W.wrong-order (words a) (texts a) (a .loop .at) (whole e) (k .if2 .left) (c .if3 .taken))
+    sym (a .loop .inv .1 ∙ W.wrong-order _ _ _ (whole e) (k .if2 .left) (c .if3 .taken))
 
 add-if4 : tie.Need-add-if4 Inv-loop μ-loop
 add-if4 c = search needs
@@ -82,7 +78,7 @@ shared-slice-read-if4 c = search needs
 
 returns-4 : tie.Need-returns-4 Inv-loop μ-loop
 returns-4 c = let o = c .before .before in let k = o .before .before .before in let e = k .before .before in let a = e .before .before in
-    sym (a .loop .inv .1 ∙ W.outside (words a) (texts a) (a .loop .at) (whole e) (k .if2 .left) (o .if3 .left) (c .if4 .taken))
+    sym (a .loop .inv .1 ∙ W.outside _ _ _ (whole e) (k .if2 .left) (o .if3 .left) (c .if4 .taken))
 
 add-at : tie.Need-add-at Inv-loop μ-loop
 add-at c = search needs
@@ -92,11 +88,11 @@ loop-less c = search needs
 
 loop-again : tie.Need-loop-again Inv-loop μ-loop
 loop-again c = let o = c .before .before in let k = o .before .before .before in let e = k .before .before in let a = e .before .before in
-    (whole e, a .loop .inv .1 ∙ W.well (words a) (texts a) (a .loop .at) (whole e) (k .if2 .left) (o .if3 .left) (c .if4 .left))
+    (whole e, a .loop .inv .1 ∙ W.well _ _ _ (whole e) (k .if2 .left) (o .if3 .left) (c .if4 .left))
 
 returns-5 : tie.Need-returns-5 Inv-loop μ-loop
 unfolding is-script
-returns-5 c = let a = c .before in sym (a .loop .inv .1 ∙ ap (λ l. is-script l (texts a)) (W.none-left (words a) (texts a) (a .loop .at) (omega arith) (omega arith)))
+returns-5 c = let a = c .before in sym (a .loop .inv .1 ∙ ap (λ l. is-script l (texts a)) (W.none-left _ _ _ (omega arith) (omega arith)))
 
 pub is-script-spec : {M : Type 1} → statement M
 is-script-spec =

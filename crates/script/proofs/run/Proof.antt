@@ -1,34 +1,29 @@
-use borrow.Author.Tests.{not-true, not-false}
-use Rattle.fields.specs.Parse.{choose}
 -- `script::run` meets its contract. The loop's invariant: the calls from `at` on do to what is there now what all the calls do to what the opening
 -- left. That this is what the machine does follows from the ranges of the words and the texts.
 -- Assumes nothing.
-use mathlib.Core.Path.{_≡_, refl, sym, ap, _∙_}
-use mathlib.Core.Bool.{true, false}
+use mathlib.Core.Path.{_≡_, refl, sym, _∙_}
+use mathlib.Core.Bool.{true}
 use mathlib.Core.List.{List}
-use Prim.Native.Nat.{ℕ, _≤_, _<_, _+_, _-_, _^_}
+use Prim.Native.Nat.{ℕ, _-_}
 use native.Mathlib.Omega.{arith}
-use lib.ListN.{length, getD}
-use borrow.Author.Tests.{eq-eqb, ne-eqb}
+use lib.ListN.{length}
+use borrow.Author.Tests.{not-true, not-false}
+use borrow.Author.Needs.{needs}
+use Rattle.fields.specs.Parse.{choose}
 use Rattle.machine.specs.Machine.{Answer}
 use Rattle.machine.specs.Book.{State}
 use Rattle.book.specs.Says.{outcome}
-use Rattle.script.specs.Script.{is-script, calls, ran, replayed}
+use Rattle.script.specs.Script.{is-script, replayed}
 use Rattle.script.specs.Replays.{Replays}
 use Rattle.script.proofs.Words as W
-use Rattle.script.proofs.Runs as R
 use Rattle.script.proofs.Runs.{Reached}
-use borrow.Author.Needs.{needs}
+use Rattle.script.proofs.Runs as R
 use Rattle.script.proofs.run.Statement.{statement}
 use Rattle.script.proofs.run.Tie as tie
-use Rattle.script.proofs.run.Reads as reads
-use Rattle.script.proofs.run.Lts as lts
-use Rattle.script.proofs.call_at.Reads as call-at-reads
-use Rattle.script.proofs.is_script.Reads as is-script-reads
-use Rattle.script.proofs.open.Reads as open-reads
 
 abbrev Inv-loop : tie.InvT-loop
-Inv-loop file image₀ journal₀ words texts last₀ n at₀ image journal last at = Reached words texts (outcome last₀ image₀ journal₀) (outcome last image journal) at × (length image ≡ length image₀) × (length journal ≡ length journal₀)
+Inv-loop file image₀ journal₀ words texts last₀ n at₀ image journal last at =
+    Reached words texts (outcome last₀ image₀ journal₀) (outcome last image journal) at × (length image ≡ length image₀) × (length journal ≡ length journal₀)
 
 abbrev μ-loop : tie.MeasureT-loop
 μ-loop file image₀ journal₀ words texts last₀ n at₀ image journal last at = length words - at
@@ -61,20 +56,13 @@ words a = start a .args .words .now
 abbrev texts : tie.At-loop Inv-loop μ-loop → List ℕ
 texts a = start a .args .texts .now
 
--- what the opening left, and what is there at the loop's head
-abbrev first : tie.At-loop Inv-loop μ-loop → Answer × State
-first a = let o = opening (a .before .before) in outcome (o .«open» .result) (o .«open» .last .1 .0) (o .«open» .last .1 .1 .0)
-
-abbrev now-there : tie.At-loop Inv-loop μ-loop → Answer × State
-now-there a = outcome (a .loop .last) (a .loop .image) (a .loop .journal)
-
 is-script-requires : tie.Need-is-script-requires Inv-loop μ-loop
 is-script-requires c κs = search needs
 
 returns : tie.Need-returns Inv-loop μ-loop
 unfolding choose
-returns c = let k = c .before .before in let s = entry k in
-    promised k _ (R.no-script (s .args .file .now) (s .args .image .now) (s .args .journal .now) (s .args .words .now) (s .args .texts .now) (sym (c .before .is-script .ensures) ∙ not-true _ (c .if1 .taken)))
+returns c = let k = c .before .before in
+    promised k _ (R.no-script _ _ _ _ _ (sym (c .before .is-script .ensures) ∙ not-true _ (c .if1 .taken)))
 
 open-requires : tie.Need-open-requires Inv-loop μ-loop
 open-requires c κs = search needs
@@ -86,14 +74,14 @@ same-length-2 : tie.Need-same-length-2 Inv-loop μ-loop
 same-length-2 c = search needs
 
 returns-2 : tie.Need-returns-2 Inv-loop μ-loop
-returns-2 c = let o = opening (c .before) in let e = o .before .before .before in let k = e .before .before in let s = entry k in
+returns-2 c = let o = opening (c .before) in let e = o .before .before .before in let k = e .before .before in
     promised k _
-    (R.not-opened (s .args .file .now) (s .args .image .now) (s .args .journal .now) (s .args .words .now) (s .args .texts .now) (scripted e) _ (o .«open» .ensures)
+    (R.not-opened _ _ _ _ _ (scripted e) _ (o .«open» .ensures)
     (R.refused-is (o .«open» .result .refusal) _ (c .if2 .taken)))
 
 loop-holds : tie.Need-loop-holds Inv-loop μ-loop
-loop-holds c = let o = opening (c .before) in let e = o .before .before .before in let s = entry (e .before .before) in
-    (R.begun (s .args .words .now) (s .args .texts .now) _ (scripted e), refl, refl)
+loop-holds c = let o = opening (c .before) in let e = o .before .before .before in
+    (R.begun _ _ _ (scripted e), refl, refl)
 
 call-at-requires : tie.Need-call-at-requires Inv-loop μ-loop
 call-at-requires c κs = let t = c .before .before .before in let a = t .before in W.sits (words a) (texts a) (a .loop .at) (t .loop-test .taken) (a .loop .inv .0 .script)
@@ -107,7 +95,7 @@ loop-less c = search needs
 
 loop-again : tie.Need-loop-again Inv-loop μ-loop
 loop-again c = let k = c .before .before .before .before in let t = k .before .before .before .before in let a = t .before in (
-  R.next (words a) (texts a) (first a) (now-there a) (a .loop .at) (a .loop .inv .0) _ (t .loop-test .taken) (k .call-at .ensures),
+  R.next _ _ _ _ _ (a .loop .inv .0) _ (t .loop-test .taken) (k .call-at .ensures),
   k .call-at .kept .1 .0 ∙ a .loop .inv .1,
   k .call-at .kept .1 .1 .0 ∙ a .loop .inv .2,
 )
@@ -119,10 +107,10 @@ same-length-4 : tie.Need-same-length-4 Inv-loop μ-loop
 same-length-4 c = search needs
 
 returns-3 : tie.Need-returns-3 Inv-loop μ-loop
-returns-3 c = let a = c .before in let o = opening (a .before .before) in let e = o .before .before .before in let k = e .before .before in let s = entry k in
+returns-3 c = let a = c .before in let o = opening (a .before .before) in let e = o .before .before .before in let k = e .before .before in
     promised k _
-    (R.ended (words a) (texts a) (first a) (now-there a) (a .loop .at) (a .loop .inv .0) (c .loop-test .left)
-    ∙ R.opened-ran (s .args .file .now) (s .args .image .now) (s .args .journal .now) (s .args .words .now) (s .args .texts .now) (scripted e) _ (o .«open» .ensures)
+    (R.ended _ _ _ _ _ (a .loop .inv .0) (c .loop-test .left)
+    ∙ R.opened-ran _ _ _ _ _ (scripted e) _ (o .«open» .ensures)
     (R.accepted-is (o .«open» .result .refusal) _ _ (a .before .if2 .left)))
 
 pub run-spec : {M : Type 1} → statement M
