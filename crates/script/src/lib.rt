@@ -19,21 +19,21 @@ pub fn is_script(words: &[u64], texts: &[u8]) -> bool
 {
     let n = words.len();
     let most = texts.len() as u64;
-    let mut at = 0;
-    while at < n {
-        if n - at < 4 {
+    let mut i = 0;
+    while i < n {
+        if n - i < 4 {
             return false;
         }
-        if 3 < words[at] {
+        if 3 < words[i] {
             return false;
         }
-        if words[at + 3] < words[at + 2] {
+        if words[i + 3] < words[i + 2] {
             return false;
         }
-        if most < words[at + 3] {
+        if most < words[i + 3] {
             return false;
         }
-        at += 4;
+        i += 4;
     }
     true
 }

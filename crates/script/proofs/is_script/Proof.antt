@@ -1,4 +1,4 @@
--- `script::is_script` meets its contract. The loop's invariant: the words are a script exactly if those from `at` on are.
+-- `script::is_script` meets its contract. The loop's invariant: the words are a script exactly if those from `i` on are.
 -- Assumes nothing.
 use mathlib.Core.List.{List}
 use mathlib.Core.Path.{_≡_, refl, sym, ap, _∙_}
@@ -12,10 +12,10 @@ use Rattle.script.proofs.is_script.Statement.{statement}
 use Rattle.script.proofs.is_script.Tie as tie
 
 abbrev Inv-loop : tie.InvT-loop
-Inv-loop words texts n most at₀ at = (at ≤ n) × (is-script words texts ≡ is-script (drop at words) texts)
+Inv-loop words texts n most i₀ i = (i ≤ n) × (is-script words texts ≡ is-script (drop i words) texts)
 
 abbrev μ-loop : tie.MeasureT-loop
-μ-loop words texts n most at₀ at = n - at
+μ-loop words texts n most i₀ i = n - i
 
 abbrev words : tie.At-loop Inv-loop μ-loop → List ℕ
 words a = a .before .args .words .now
@@ -24,7 +24,7 @@ abbrev texts : tie.At-loop Inv-loop μ-loop → List ℕ
 texts a = a .before .args .texts .now
 
 -- four words are there
-whole : (c : tie.Else1 Inv-loop μ-loop) → c .before .before .loop .at + 4 ≤ length (words (c .before .before))
+whole : (c : tie.Else1 Inv-loop μ-loop) → c .before .before .loop .i + 4 ≤ length (words (c .before .before))
 whole c = omega (arith, c .if1 .left, c .before .loop-test .taken)
 
 loop-holds : tie.Need-loop-holds Inv-loop μ-loop
@@ -34,7 +34,7 @@ sub-if1 : tie.Need-sub-if1 Inv-loop μ-loop
 sub-if1 c = search needs
 
 returns : tie.Need-returns Inv-loop μ-loop
-returns c = let a = c .before .before in let n = length-drop (a .loop .at) (words a) in sym (a .loop .inv .1 ∙ W.too-few (drop (a .loop .at) (words a)) (texts a) (omega arith) (omega arith))
+returns c = let a = c .before .before in let n = length-drop (a .loop .i) (words a) in sym (a .loop .inv .1 ∙ W.too-few (drop (a .loop .i) (words a)) (texts a) (omega arith) (omega arith))
 
 mul-if2 : tie.Need-mul-if2 Inv-loop μ-loop
 mul-if2 c = search needs
@@ -80,8 +80,8 @@ returns-4 : tie.Need-returns-4 Inv-loop μ-loop
 returns-4 c = let o = c .before .before in let k = o .before .before .before in let e = k .before .before in let a = e .before .before in
     sym (a .loop .inv .1 ∙ W.outside _ _ _ (whole e) (k .if2 .left) (o .if3 .left) (c .if4 .taken))
 
-add-at : tie.Need-add-at Inv-loop μ-loop
-add-at c = search needs
+add-i : tie.Need-add-i Inv-loop μ-loop
+add-i c = search needs
 
 loop-less : tie.Need-loop-less Inv-loop μ-loop
 loop-less c = search needs
@@ -92,7 +92,7 @@ loop-again c = let o = c .before .before in let k = o .before .before .before in
 
 returns-5 : tie.Need-returns-5 Inv-loop μ-loop
 unfolding is-script
-returns-5 c = let a = c .before in sym (a .loop .inv .1 ∙ ap (λ l. is-script l (texts a)) (W.none-left _ _ _ (omega arith) (omega arith)))
+returns-5 c = let a = c .before in sym (a .loop .inv .1 ∙ ap (λ l. is-script l (texts a)) (W.none-left (words a) (texts a) (a .loop .i) (omega arith) (omega arith)))
 
 pub is-script-spec : {M : Type 1} → statement M
 is-script-spec =
@@ -117,7 +117,7 @@ is-script-spec =
     mul-if4
     shared-slice-read-if4
     returns-4
-    add-at
+    add-i
     loop-less
     loop-again
     returns-5)
