@@ -13,7 +13,7 @@ use Rattle.pod.specs.Values.{Instruction, BasicBlock, Routine}
 use Rattle.pod.specs.Written.{bytes, many-bytes, counted-bytes, instruction-bytes, block-head-bytes, block-bytes, routine-head-bytes, routine-bytes}
 use Rattle.laws.proofs.Back.{length-bytes}
 use Rattle.laws.proofs.Place.{many-append}
-use Rattle.laws.proofs.Sizes.{block-head-size}
+use Rattle.laws.proofs.Sizes.{block-head-size, vips-size}
 use Rattle.machine.specs.Edits.{block-at, change-at, with-instructions, with-blocks}
 use Rattle.machine.specs.Machine.{size}
 use Rattle.machine.specs.Book.{in-image}
@@ -36,6 +36,11 @@ change-split (suc i) g (b ∷ bs) h = ap (λ l. b ∷ l) (change-split i g bs (l
 -- what follows a block's instructions in it
 abbrev pub links : BasicBlock → List ℕ
 links b = counted-bytes (bytes 8) (b .prev-vip) ++ counted-bytes (bytes 8) (b .next-vip)
+
+-- two counts at least
+pub links-least : (b : BasicBlock) → 8 ≤ length (links b)
+links-least b =
+    omega (arith, length-append (counted-bytes (bytes 8) (b .prev-vip)) (counted-bytes (bytes 8) (b .next-vip)), vips-size (b .prev-vip), vips-size (b .next-vip))
 
 abbrev pub code-of : List Instruction → List ℕ
 code-of is = many-bytes instruction-bytes is

@@ -8,17 +8,14 @@ use lib.ListN.{length}
 use Rattle.fields.specs.Bytes.{zeros}
 use Rattle.pod.specs.Values.{Routine}
 use Rattle.pod.specs.Written.{bytes}
-use Rattle.laws.specs.Holds.{Block-holds}
 use Rattle.walk.specs.Ends.{word}
-use Rattle.machine.specs.Edits.{empty-block}
 use Rattle.machine.specs.Machine.{size}
 use Rattle.machine.specs.Book.{State, in-image}
 use Rattle.machine.proofs.Keeps.{instructions-few, weight-at}
-use Rattle.machine.proofs.Lists.{each-at}
 use Rattle.book.specs.Holding.{block-start, Sound}
 use Rattle.image.proofs.Inspects.{sound-holding}
-use Rattle.image.proofs.Stands.{word-at}
-use Rattle.image.proofs.Parts.{stands-here, instruction-count-at}
+use Rattle.image.proofs.Stands.{block-holds}
+use Rattle.image.proofs.Parts.{stands-here, instruction-count}
 use Rattle.edits.proofs.Cuts.{before, behind, the-block, code-of, cut-here, here-size}
 
 module _ (s : State) (r : Routine) (o : Sound s r) (i : ℕ) (h : i < length (r .explored-blocks)) where
@@ -33,12 +30,9 @@ module _ (s : State) (r : Routine) (o : Sound s r) (i : ℕ) (h : i < length (r 
   pub ends-within : block-start r i + 28 + length (code-of (the-block r i .instructions)) + length (behind r i) ≡ s .book .written
   ends-within = sym (o .written ∙ here-size r i h)
 
-  pub block-holds : Block-holds (the-block r i)
-  block-holds = each-at Block-holds (empty-block 0) i (r .explored-blocks) (o .holds .blocks .listed .each) h
-
   -- the count of its instructions, each of which has 29 bytes at least
   pub count-read : word 4 (s .image) (block-start r i + 24) ≡ length (the-block r i .instructions)
-  count-read = word-at 4 _ _ (block-holds .instructions .count) (instruction-count-at (the-block r i) (stands-here r i (sound-holding o) h refl))
+  count-read = instruction-count _ (stands-here r i (sound-holding o) h refl) (block-holds (sound-holding o) i h)
 
   pub count-few : 29 * length (the-block r i .instructions) ≤ s .book .written
   count-few = omega (arith, instructions-few (the-block r i), weight-at r i (r .explored-blocks) h, o .written)

@@ -114,12 +114,28 @@ module _ {s : List ℕ} {x : Routine} (h : Holding s x) where
   block-found i l {a} {r} e q =
       q ∙ ap (times (blockEnd s) i) e ∙ times-at block-bytes (blockEnd s) block-far i (blocks-start x) (x .explored-blocks) (h .holds .blocks .listed .each) l blocks-at
 
-  -- the parts before the blocks: the header and the entry vip are 16 bytes
-  tail-at : At s 16 (convention-bytes (x .routine-convention) ++ (convention-bytes (x .subroutine-convention) ++ counted-bytes convention-bytes (x .spec-subroutine-conventions)))
+  -- the parts before the blocks: the header of 8 bytes, whose machine is byte 4, and the entry vip
+  pub machine-at : At s 4 (bytes 1 (x .arch-id))
+  unfolding routine-head-bytes header-bytes
+  machine-at =
+      named (ap (λ k. 0 + k) (length-bytes 4 0x4c495456))
+      (left (bytes 1 (x .arch-id)) (bytes 1 0 ++ bytes 2 0xdead) (right (bytes 4 0x4c495456) _ (left (header-bytes (x .arch-id)) _ head-at)))
+
+  after-header : At s 8
+      (bytes 8 (x .vip)
+      ++ (convention-bytes (x .routine-convention) ++ (convention-bytes (x .subroutine-convention) ++ counted-bytes convention-bytes (x .spec-subroutine-conventions))))
   unfolding routine-head-bytes
+  after-header = named (ap (λ k. 0 + k) (header-size (x .arch-id))) (right (header-bytes (x .arch-id)) _ head-at)
+
+  pub entry-at : At s 8 (bytes 8 (x .vip))
+  entry-at =
+      left (bytes 8 (x .vip)) (convention-bytes (x .routine-convention) ++ (convention-bytes (x .subroutine-convention) ++ counted-bytes convention-bytes (x .spec-subroutine-conventions)))
+      after-header
+
+  tail-at : At s 16 (convention-bytes (x .routine-convention) ++ (convention-bytes (x .subroutine-convention) ++ counted-bytes convention-bytes (x .spec-subroutine-conventions)))
   tail-at =
-      named (omega (arith, header-size (x .arch-id), length-bytes 8 (x .vip)))
-      (right (bytes 8 (x .vip)) _ (right (header-bytes (x .arch-id)) _ head-at))
+      named (ap (λ k. 8 + k) (length-bytes 8 (x .vip)))
+      (right (bytes 8 (x .vip)) (convention-bytes (x .routine-convention) ++ (convention-bytes (x .subroutine-convention) ++ counted-bytes convention-bytes (x .spec-subroutine-conventions))) after-header)
 
   pub own-at : At s 16 (convention-bytes (x .routine-convention))
   own-at = left _ (convention-bytes (x .subroutine-convention) ++ counted-bytes convention-bytes (x .spec-subroutine-conventions)) tail-at

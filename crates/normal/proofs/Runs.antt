@@ -28,7 +28,7 @@ jumps {s} {o} {n} {l} h {k} {r} e q = q ∙ jump-in s o k (omega (arith, h .to, 
 word-of : (s : List ℕ) (o : ℕ) {v n c : ℕ} → u32 s o ≡ ok v n → c ≡ word 4 s o → c ≡ v
 word-of s o e q = q ∙ sym (word-is 4 s o) ∙ ap value e
 
--- the list xs, which stands from at to n in s: t has the elements `done` in place, and `left` more are read from o
+-- the list xs, which stands from at to n in s: t has the elements `past` in place, and the `left` others are read from o
 pub record Run {A : Type 0} (p : Reader A) (w : A → List ℕ) (s : List ℕ) (at : ℕ) (xs : List A) (n : ℕ) (t : List ℕ) (left o : ℕ) : Type 0 where
   pub past : List A
   pub todo : List A

@@ -1,10 +1,10 @@
 -- The bytes of a routine in an image as parts: what stands before the count of blocks, the count, the blocks, and the zeros. By regrouping the parts.
 -- Assumes nothing.
-use mathlib.Core.Path.{_≡_, refl, sym, ap, ap₂, _∙_}
+use mathlib.Core.Path.{_≡_, refl, sym, ap, _∙_}
 use mathlib.Core.List.{List, [], _∷_, _++_, append-assoc, append-nil}
-use Prim.Native.Nat.{ℕ, suc, _+_, _-_, _≤_, _<_}
+use Prim.Native.Nat.{ℕ, _+_, _-_}
 use native.Mathlib.Omega.{arith}
-use lib.ListN.{length, take, length-append, length-replicate, replicate-append-replicate}
+use lib.ListN.{length, length-append, replicate-append-replicate}
 use Rattle.fields.specs.Bytes.{zeros, put}
 use Rattle.pod.specs.Values.{BasicBlock, Routine}
 use Rattle.pod.specs.Written.{bytes, many-bytes, counted-bytes, block-bytes, routine-head-bytes, routine-bytes}

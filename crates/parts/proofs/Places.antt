@@ -3,10 +3,10 @@
 -- Assumes nothing.
 use mathlib.Core.Path.{_≡_, refl, sym, ap, _∙_}
 use mathlib.Core.List.{List, [], _∷_, _++_, append-assoc}
-use Prim.Native.Nat.{ℕ, zero, suc, _+_, _-_, _≤_, _<_}
+use Prim.Native.Nat.{ℕ, zero, suc, _+_, _-_, _<_}
 use native.Mathlib.Omega.{arith}
 use lib.ListN.{length, take, drop, length-append, length-drop}
-use lib.Seq.{split-at, take-at, length-take-le}
+use lib.Seq.{split-at, take-at}
 use Rattle.pod.specs.Values.{BasicBlock}
 use Rattle.machine.specs.Edits.{empty-block, block-at, last-of, but-last, remove-at, insert-at}
 use Rattle.machine.proofs.Lists.{total, total-snoc, but-last-snoc, snoc-but-last, snoc-last}

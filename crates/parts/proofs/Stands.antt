@@ -1,12 +1,12 @@
 -- The block at a place of an image that begins with a routine's written form: its bytes stand at its start, and the walk ends it where they end.
 -- By splitting the blocks at the place.
 -- Assumes nothing.
-use mathlib.Core.Path.{_≡_, refl, sym, ap, ap₂, _∙_}
-use mathlib.Core.List.{List, [], _∷_, _++_, append-assoc}
-use Prim.Native.Nat.{ℕ, suc, _+_, _-_, _≤_, _<_}
+use mathlib.Core.Path.{_≡_, refl, ap, _∙_}
+use mathlib.Core.List.{List, _∷_, _++_}
+use Prim.Native.Nat.{ℕ, suc, _+_, _-_, _<_}
 use native.Mathlib.Omega.{arith}
-use lib.ListN.{length, take, drop, length-append}
-use lib.Seq.{split-at, take-at, drop-at}
+use lib.ListN.{length, take, drop}
+use lib.Seq.{split-at, take-at}
 use Rattle.pod.specs.Values.{BasicBlock, Routine}
 use Rattle.pod.specs.Written.{block-bytes}
 use Rattle.laws.proofs.At.{At}
@@ -14,7 +14,7 @@ use Rattle.walk.specs.Ends.{blockEnd}
 use Rattle.machine.specs.Edits.{empty-block, block-at}
 use Rattle.machine.specs.Machine.{size}
 use Rattle.machine.proofs.Keeps.{weight}
-use Rattle.book.specs.Holding.{blocks-start, block-start, Holding}
+use Rattle.book.specs.Holding.{block-start, Holding}
 use Rattle.image.proofs.Stands.{block-stands, block-holds, block-far}
 use Rattle.parts.proofs.Laid.{written, written-size, length-written, length-cons}
 

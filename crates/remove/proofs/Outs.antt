@@ -1,22 +1,21 @@
 -- The image after a block was taken out: over the image's parts the block and the last one change places, it is cleared, and the count follows.
 -- Assumes nothing.
-use mathlib.Core.Path.{_≡_, refl, sym, ap, ap₂, _∙_}
-use mathlib.Core.List.{List, [], _∷_, _++_, append-assoc, append-nil}
-use Prim.Native.Nat.{ℕ, suc, _+_, _-_, _≤_, _<_}
+use mathlib.Core.Path.{_≡_, sym, ap, ap₂, _∙_}
+use mathlib.Core.List.{List, [], _∷_, _++_, append-assoc}
+use Prim.Native.Nat.{ℕ, _+_, _-_, _≤_}
 use native.Mathlib.Omega.{arith}
-use lib.ListN.{length, take, length-append, length-replicate, replicate-append-replicate}
+use lib.ListN.{length, length-append, length-replicate}
 use Rattle.fields.specs.Bytes.{zeros, put}
 use Rattle.pod.specs.Values.{BasicBlock, Routine}
-use Rattle.pod.specs.Written.{bytes, many-bytes, block-bytes, routine-head-bytes, routine-bytes}
+use Rattle.pod.specs.Written.{bytes, block-bytes, routine-head-bytes}
 use Rattle.buffer.specs.Parts.{exchanged}
 use Rattle.buffer.proofs.Put.{put-parts}
 use Rattle.buffer.proofs.Reversals.{exchanged-parts}
-use Rattle.machine.specs.Edits.{with-blocks, remove-at, insert-at}
+use Rattle.machine.specs.Edits.{with-blocks}
 use Rattle.machine.specs.Machine.{size}
 use Rattle.machine.specs.Book.{in-image}
 use Rattle.book.specs.Holding.{blocks-start}
-use Rattle.parts.proofs.Places.{remove-end, remove-mid, insert-end, insert-mid}
-use Rattle.parts.proofs.Laid.{written, laid, upto, length-upto, laid-upto, in-laid, recount, written-size, written-laid, written-parts, written-snoc, length-written, length-cons, length-one, zeros-join}
+use Rattle.parts.proofs.Laid.{written, laid, upto, length-upto, laid-upto, in-laid, recount, written-size, written-parts, written-snoc, length-written, length-cons, length-one, zeros-join}
 
 -- blocks p and then b, the last, in an image of N bytes: it is cleared, and the count lowered
 module _ (r : Routine) (N : ℕ) (p : List BasicBlock) (b : BasicBlock) where

@@ -1,14 +1,14 @@
 -- What the step of a removal is, by the tests that the code makes: the vip is absent, the entry passes the journal's end, or the block goes. Each
 -- test of the definition is decided, and what the stores left is what the definition says.
 -- Assumes nothing.
-use mathlib.Core.Path.{_≡_, refl, sym, ap, _∙_}
+use mathlib.Core.Path.{_≡_, sym, ap, _∙_}
 use mathlib.Core.List.{List}
 use Prim.Native.Nat.{ℕ, _+_, _-_, _≤_, _<_}
 use native.Mathlib.Omega.{arith}
 use lib.ListN.{length, length-append}
 use Rattle.fields.specs.Bytes.{put}
 use Rattle.fields.specs.Parse.{choose}
-use Rattle.fields.specs.Outcome.{refused, accepted}
+use Rattle.fields.specs.Outcome.{accepted}
 use Rattle.pod.specs.Values.{BasicBlock, Routine}
 use Rattle.pod.specs.Written.{block-bytes}
 use Rattle.buffer.proofs.Put.{put-put}

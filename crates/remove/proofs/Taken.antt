@@ -2,19 +2,19 @@
 -- Assumes nothing.
 use mathlib.Core.Path.{_≡_, refl, sym, ap, ap₂, _∙_}
 use mathlib.Core.List.{List, [], _∷_, _++_, append-assoc}
-use Prim.Native.Nat.{ℕ, zero, suc, _+_, _-_, _*_, _≤_, _<_}
+use Prim.Native.Nat.{ℕ, zero, suc, _+_, _-_, _≤_, _<_}
 use native.Mathlib.Omega.{arith}
-use lib.ListN.{length, take, drop, length-append, length-drop, drop-of-length-le}
+use lib.ListN.{length, take, drop, length-drop, drop-of-length-le}
 use lib.Seq.{length-take-le}
 use Rattle.fields.specs.Bytes.{zeros, put}
 use Rattle.pod.specs.Values.{BasicBlock, Routine}
-use Rattle.pod.specs.Written.{bytes, many-bytes, block-bytes, routine-head-bytes, routine-bytes}
+use Rattle.pod.specs.Written.{bytes, many-bytes, block-bytes, routine-head-bytes}
 use Rattle.laws.proofs.Sizes.{block-least}
 use Rattle.buffer.specs.Parts.{exchanged}
 use Rattle.machine.specs.Edits.{block-at, remove-at, with-blocks}
 use Rattle.machine.specs.Machine.{size}
 use Rattle.machine.specs.Book.{in-image}
-use Rattle.machine.proofs.Keeps.{weight, blocks-few}
+use Rattle.machine.proofs.Keeps.{weight}
 use Rattle.machine.proofs.Lists.{total-least, many-total}
 use Rattle.book.specs.Holding.{blocks-start, block-start, Holding}
 use Rattle.remove.specs.Leaving.{Leaving}
@@ -39,9 +39,6 @@ module _ (r : Routine) (i : ℕ) (image : List ℕ) (at end w : ℕ) (l : Leavin
   pub holding : Holding image r
   unfolding in-image
   holding = record { holds = l .holds; rest = zeros (length image - size r); is = l .is }
-
-  pub few : length blocks ≤ 16777216
-  few = omega (arith, blocks-few r blocks, l .room, l .lent)
 
   pub end-in : end ≤ w
   end-in = omega (arith, tail-size r i (l .within), l .start, l .stop, l .whole)

@@ -15,10 +15,8 @@ use book::Answer;
 use book::Book;
 use pod::Vip;
 
-// The kind of a removal's entry, and the bytes of the entry beside the block.
-const KIND: u32 = 2;
-
-const TRAILER: usize = 20;
+// The kind of a removal's entry.
+const REMOVED: u32 = 2;
 
 // The block from `at` to `end` leaves the routine that ends at `written`, and the last block takes its place: no other block moves further than by
 // the difference of the two sizes, and what is freed at the end becomes 0.
@@ -60,20 +58,20 @@ pub fn remove_block(book: Book, image: &mut [u8], journal: &mut [u8], vip: Vip) 
     }
     let end = walk::block_end(image, at);
     let size = end - at;
-    if journal.len() - used < size + TRAILER {
+    if journal.len() - used < size + trailer::TRAILER_SIZE {
         return Answer {
             refusal: book::JOURNAL_FULL,
             book,
         };
     }
     buffer::copy_at(journal, used, &image[at..end]);
-    trailer::put_trailer(journal, used + size, v, place as u32, size as u32, KIND);
+    trailer::put_trailer(journal, used + size, v, place as u32, size as u32, REMOVED);
     take_out(image, at, end, written);
     Answer {
         refusal: 0,
         book: Book {
             written: (written - size) as u64,
-            used: (used + size + TRAILER) as u64,
+            used: (used + size + trailer::TRAILER_SIZE) as u64,
         },
     }
 }

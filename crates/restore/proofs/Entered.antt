@@ -1,11 +1,11 @@
 -- What `put_in` leaves of an image that a block is to enter: the block is put last where its place is the number of blocks, and else at the place of
 -- another, which goes last.
 -- Assumes nothing.
-use mathlib.Core.Path.{_≡_, refl, sym, ap, ap₂, _∙_}
+use mathlib.Core.Path.{_≡_, sym, ap, ap₂, _∙_}
 use mathlib.Core.List.{List, [], _∷_, _++_}
-use Prim.Native.Nat.{ℕ, zero, suc, _+_, _-_, _*_, _≤_, _<_}
+use Prim.Native.Nat.{ℕ, suc, _+_, _-_, _≤_, _<_}
 use native.Mathlib.Omega.{arith}
-use lib.ListN.{length, take, drop, length-append}
+use lib.ListN.{length, take, drop}
 use lib.Seq.{length-take-le}
 use Rattle.fields.specs.Bytes.{zeros, put}
 use Rattle.pod.specs.Values.{BasicBlock, Routine}
@@ -18,7 +18,7 @@ use Rattle.machine.proofs.Keeps.{weight, blocks-few}
 use Rattle.book.specs.Holding.{blocks-start, block-start, Holding}
 use Rattle.parts.proofs.Places.{insert-end, insert-mid}
 use Rattle.parts.proofs.Laid.{written-size}
-use Rattle.parts.proofs.Stands.{split, tail-size}
+use Rattle.parts.proofs.Stands.{split}
 use Rattle.restore.specs.Entering.{Entering}
 use Rattle.restore.proofs.Inserted.{last-in, mid-in}
 

@@ -1,15 +1,15 @@
 -- What taking back a removal is, by the tests that the code makes: the entry is longer than the used part, its block may not enter the image, or it
 -- goes back. Bytes that are read exactly to their end as a block are that block's written form.
 -- Assumes nothing.
-use mathlib.Core.Path.{_≡_, refl, sym, ap, ap₂, _∙_}
+use mathlib.Core.Path.{_≡_, refl, sym, ap, _∙_}
 use mathlib.Core.Bool.{Bool, true, false, not, _&&_}
-use mathlib.Core.List.{List, [], _∷_, _++_}
+use mathlib.Core.List.{List, [], _∷_}
 use Prim.Native.Nat.{ℕ, zero, suc, _+_, _-_, _≤_, _<_}
 use native.Mathlib.Omega.{arith}
-use lib.ListN.{length, take, drop, getD, length-take, length-drop}
-use lib.Seq.{take-nil, take-all, take-take, drop-drop, getD-drop, getD-take, length-take-le}
+use lib.ListN.{length, take, drop, length-drop}
+use lib.Seq.{take-nil, getD-drop, length-take-le}
 use lib.Dec.{leb, eqb}
-use borrow.Author.Tests.{le-leb, lt-leb, leb-true, leb-false, eqb-true, eq-eqb}
+use borrow.Author.Tests.{le-leb, lt-leb, leb-true, eqb-true, eq-eqb}
 use Rattle.fields.specs.Bytes.{zeros, put}
 use Rattle.fields.specs.Parse.{Res, ok, no, choose}
 use Rattle.fields.specs.Outcome.{Outcome, refused, accepted}
@@ -21,7 +21,7 @@ use Rattle.laws.proofs.Layouts.{block-layout, exact-whole}
 use Rattle.machine.specs.Edits.{present, insert-at, with-blocks}
 use Rattle.machine.specs.Machine.{size}
 use Rattle.machine.specs.Journal.{Trailer, undo-remove-block, undo-remove}
-use Rattle.machine.specs.Book.{State, in-image, restored}
+use Rattle.machine.specs.Book.{in-image, restored}
 use Rattle.machine.proofs.Keeps.{weight, size-blocks}
 use Rattle.book.specs.Says.{state, outcome}
 use Rattle.book.specs.Holding.{Sound}

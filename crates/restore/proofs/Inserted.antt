@@ -2,13 +2,13 @@
 -- count follows. Over the image's parts.
 -- Assumes nothing.
 use mathlib.Core.Path.{_≡_, refl, sym, ap, ap₂, _∙_}
-use mathlib.Core.List.{List, [], _∷_, _++_, append-assoc}
-use Prim.Native.Nat.{ℕ, suc, _+_, _-_, _≤_, _<_}
+use mathlib.Core.List.{List, [], _∷_, _++_}
+use Prim.Native.Nat.{ℕ, _+_, _-_, _≤_}
 use native.Mathlib.Omega.{arith}
-use lib.ListN.{length, take, length-append, length-replicate}
+use lib.ListN.{length, length-append, length-replicate}
 use Rattle.fields.specs.Bytes.{zeros, put}
 use Rattle.pod.specs.Values.{BasicBlock, Routine}
-use Rattle.pod.specs.Written.{bytes, block-bytes, routine-head-bytes, routine-bytes}
+use Rattle.pod.specs.Written.{bytes, block-bytes, routine-head-bytes}
 use Rattle.buffer.specs.Parts.{exchanged}
 use Rattle.buffer.proofs.Put.{put-parts}
 use Rattle.buffer.proofs.Reversals.{exchanged-parts}

@@ -1,23 +1,22 @@
 -- Bytes that are one whole written block, by the exact walk over them: it is taken, ends where they end, and the vip is their first eight.
 -- Assumes nothing.
 use mathlib.Core.Path.{_≡_, refl, sym, ap, _∙_}
-use mathlib.Core.Bool.{Bool, true, false, not, _&&_}
+use mathlib.Core.Bool.{Bool, true, false}
 use mathlib.Core.List.{List}
 use Prim.Native.Nat.{ℕ, _+_, _-_, _≤_, _<_}
 use native.Mathlib.Omega.{arith}
 use lib.ListN.{length}
 use lib.Dec.{leb, eqb}
-use borrow.Author.Tests.{le-leb, lt-leb, eq-eqb, ne-eqb, eqb-true}
+use borrow.Author.Tests.{le-leb, lt-leb, eq-eqb, ne-eqb}
 use Rattle.fields.specs.Parse.{Res, ok, no, choose, le, span}
 use Rattle.fields.proofs.Le.{Bytes, leb-sub}
 use Rattle.pod.specs.Values.{BasicBlock, Routine}
 use Rattle.pod.specs.Layout.{block, as-written}
-use Rattle.pod.specs.Written.{block-bytes}
 use Rattle.laws.proofs.Layouts.{block-layout, read-to}
 use Rattle.laws.proofs.Sizes.{block-least}
 use Rattle.walk.specs.Ends.{word}
 use Rattle.walk.proofs.Same.{block-vip}
-use Rattle.machine.specs.Edits.{present, place}
+use Rattle.machine.specs.Edits.{place}
 use Rattle.machine.specs.Machine.{size}
 use Rattle.edits.proofs.Steps.{present-before, absent-after}
 use Rattle.restore.specs.Blocks.{fits-block, is-block, may-enter}

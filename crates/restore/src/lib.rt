@@ -4,14 +4,15 @@
 ghost use mathlib.Core.Path.{_≡_};
 ghost use Prim.Native.Nat.{ℕ, _+_, _-_, _≤_};
 ghost use lib.ListN.{length, take};
+ghost use Rattle.fields.specs.Outcome.{accepted};
 ghost use Rattle.pod.specs.Values.{BasicBlock, Routine};
 ghost use Rattle.pod.specs.Written.{block-bytes};
 ghost use Rattle.machine.specs.Edits.{insert-at, with-blocks};
 ghost use Rattle.machine.specs.Machine.{size};
 ghost use Rattle.machine.specs.Journal.{undo-remove};
-ghost use Rattle.machine.specs.Book.{in-image, restored};
+ghost use Rattle.machine.specs.Book.{in-image, held, restored};
 ghost use Rattle.book.specs.Says.{state, outcome};
-ghost use Rattle.book.specs.Holding.{Holding, Sound};
+ghost use Rattle.book.specs.Holding.{Holding};
 ghost use Rattle.trailer.specs.Says.{trailer-of};
 ghost use Rattle.edits.specs.Held.{Held};
 ghost use Rattle.restore.specs.Blocks.{is-block, may-enter};
@@ -78,17 +79,17 @@ fn may_enter(image: &[u8], written: usize, block: &[u8], vip: u64, place: u32) -
     block.len() <= image.len() - written
 }
 
-// The removal whose entry ends in the trailer `t` is taken back, or refused with 13 where the entry does not fit. What `t` says comes from the
+// The removal whose entry ends in the trailer `last` is taken back, or refused with 13 where the entry does not fit. What `last` says comes from the
 // journal, so it is compared before it is added or subtracted.
-pub fn undo_remove(book: Book, image: &mut [u8], journal: &mut [u8], t: Trailer) -> Answer
+pub fn undo_remove(book: Book, image: &mut [u8], journal: &mut [u8], last: Trailer) -> Answer
     requires { ⌜ (Held (state (now image) (now journal) book)) × (20 ≤ book .used) ⌝ }
-    ensures { λ x. ⌜ ((r : Routine) → Sound (state (now (image .entry)) (now (journal .entry)) book) r → outcome x (now (image .exit)) (now (journal .exit)) ≡ restored (state (now (image .entry)) (now (journal .entry)) book) (undo-remove (length (now (image .entry))) r (take (book .used - 20) (now (journal .entry))) (trailer-of t))) ⌝ }
+    ensures { λ x. ⌜ ((r : Routine) → held (state (now (image .entry)) (now (journal .entry)) book) ≡ accepted r → outcome x (now (image .exit)) (now (journal .exit)) ≡ restored (state (now (image .entry)) (now (journal .entry)) book) (undo-remove (length (now (image .entry))) r (take (book .used - 20) (now (journal .entry))) (trailer-of last))) ⌝ }
 {
     let written = book.written as usize;
     let used = book.used as usize;
     let before = used - trailer::TRAILER_SIZE;
-    let size = t.length as usize;
-    let place = t.place;
+    let size = last.length as usize;
+    let place = last.place;
     if before < size {
         return Answer {
             refusal: book::SPOILED_BOOK,
@@ -96,7 +97,7 @@ pub fn undo_remove(book: Book, image: &mut [u8], journal: &mut [u8], t: Trailer)
         };
     }
     let from = before - size;
-    if !may_enter(image, written, &journal[from..before], t.vip, place) {
+    if !may_enter(image, written, &journal[from..before], last.vip, place) {
         return Answer {
             refusal: book::SPOILED_BOOK,
             book,

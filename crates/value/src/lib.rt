@@ -153,7 +153,7 @@ pub fn tail_at(s: &[u8], at: usize) -> TailRead
 }
 
 // A refusal, and zeros.
-fn refused(e: u8) -> InstructionRead
+pub fn refused(e: u8) -> InstructionRead
     ensures { λ r. ⌜ r ≡ instruction-read (no e) ⌝ }
 {
     let none = unused_place();

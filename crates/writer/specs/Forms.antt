@@ -1,14 +1,20 @@
--- Parts of an instruction's written form, from the value's own fields.
+-- The faults of an operand in its place, and parts of an instruction's written form, from the value's own fields.
 use Prim.Native.Nat.{ℕ}
-use mathlib.Core.Bool.{not}
+use mathlib.Core.Bool.{Bool, not}
 use mathlib.Core.List.{List, _++_, map}
 use lib.Dec.{eqb}
 use mir.Syntax.{w64}
 use mir.Val.{ofZ}
+use Rattle.fields.specs.Parse.{choose}
+use Rattle.fields.specs.Refusals.{foreign-register}
 use Rattle.pod.specs.Written.{bytes, bit, many-bytes, operand-bytes}
-use Rattle.pod.specs.Descs.{desc-operand}
+use Rattle.pod.specs.Descs.{is-foreign, is-unknown, desc-operand}
 use Rattle.pod.specs.declared.OperandDesc.{OperandDesc}
 use Rattle.pod.specs.declared.InstructionDesc.{InstructionDesc}
+
+-- the fault with the refusal e: 5 a foreign register, else an unknown kind
+abbrev pub faulty : ℕ → OperandDesc → Bool
+faulty e d = choose (eqb e foreign-register) (is-foreign d) (is-unknown d)
 
 -- the operands in some places
 unfoldable pub operands-bytes : List OperandDesc → List ℕ

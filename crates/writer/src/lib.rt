@@ -9,9 +9,9 @@ ghost use mir.Val.{ofZ};
 ghost use Rattle.fields.specs.Bytes.{put};
 ghost use Rattle.fields.specs.Outcome.{refused};
 ghost use Rattle.pod.specs.Written.{register-bytes, immediate-bytes, operand-bytes, name-bytes, instruction-bytes};
-ghost use Rattle.pod.specs.Descs.{any, is-foreign, is-unknown, desc-operand, desc-instruction, writing, written-over};
+ghost use Rattle.pod.specs.Descs.{any, desc-operand, desc-instruction, writing, written-over};
 ghost use Rattle.writer.specs.Answers.{write-answer};
-ghost use Rattle.writer.specs.Forms.{operands-bytes, tail-bytes};
+ghost use Rattle.writer.specs.Forms.{faulty, operands-bytes, tail-bytes};
 use pod::ImmediateDesc;
 use pod::InstructionDesc;
 use pod::OperandDesc;
@@ -50,10 +50,13 @@ pub fn bits64(v: i64) -> u64
     }
 }
 
-// Whether the operand in a place is a register that no layout holds.
-fn is_foreign(d: OperandDesc) -> bool
-    ensures { λ r. ⌜ r ≡ is-foreign d ⌝ }
+// Whether the operand in a place has the fault with the refusal `e`: a register that no layout holds (5), or such a kind (6).
+fn is_faulty(d: OperandDesc, e: u8) -> bool
+    ensures { λ r. ⌜ r ≡ faulty e d ⌝ }
 {
+    if e != fields::FOREIGN_REGISTER {
+        return 1 < d.kind;
+    }
     let r = d.register;
     if d.kind == 1 {
         2 < r.combined_id / 0x0100_0000_0000_0000
@@ -69,30 +72,14 @@ fn operand_size(d: OperandDesc) -> usize
     if d.kind == 0 { 16 } else { 28 }
 }
 
-// Whether a used operand is a register that no layout holds.
-fn has_foreign(p: [OperandDesc; 3], count: usize) -> bool
+// Whether a used operand has that fault.
+fn any_faulty(p: [OperandDesc; 3], count: usize, e: u8) -> bool
     requires { ⌜ count ≤ 3 ⌝ }
-    ensures { λ r. ⌜ r ≡ any is-foreign (take count p) ⌝ }
+    ensures { λ r. ⌜ r ≡ any (faulty e) (take count p) ⌝ }
 {
     let mut i = 0;
     while i < count {
-        if is_foreign(p[i]) {
-            return true;
-        }
-        i += 1;
-    }
-    false
-}
-
-// Whether a used operand is of a kind that no layout holds.
-fn has_unknown(p: [OperandDesc; 3], count: usize) -> bool
-    requires { ⌜ count ≤ 3 ⌝ }
-    ensures { λ r. ⌜ r ≡ any is-unknown (take count p) ⌝ }
-{
-    let mut i = 0;
-    while i < count {
-        let d = p[i];
-        if 1 < d.kind {
+        if is_faulty(p[i], e) {
             return true;
         }
         i += 1;
@@ -235,10 +222,10 @@ pub fn write_instruction(value: InstructionDesc, image: &mut [u8]) -> Written
         return refusal(fields::WRONG_OPERAND_COUNT);
     }
     let p = value.operands;
-    if has_foreign(p, value.count as usize) {
+    if any_faulty(p, value.count as usize, fields::FOREIGN_REGISTER) {
         return refusal(fields::FOREIGN_REGISTER);
     }
-    if has_unknown(p, value.count as usize) {
+    if any_faulty(p, value.count as usize, fields::UNKNOWN_OPERAND_KIND) {
         return refusal(fields::UNKNOWN_OPERAND_KIND);
     }
     let size = instruction_size(value);

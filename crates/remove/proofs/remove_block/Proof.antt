@@ -1,19 +1,17 @@
 -- `remove::remove_block` meets its contract: the state holds a routine, the search says whether and where its block stands, and each return is what
 -- the step of a removal is at the tests made so far.
 -- Assumes nothing.
-use mathlib.Core.Path.{_≡_, sym, ap, _∙_}
-use mathlib.Core.List.{List}
-use Prim.Native.Nat.{ℕ, _+_, _-_, _≤_, _<_}
+use mathlib.Core.Path.{_≡_, _∙_}
+use Prim.Native.Nat.{ℕ, _+_, _≤_, _<_}
 use native.Mathlib.Omega.{arith}
-use lib.ListN.{length, take, drop}
+use lib.ListN.{length}
 use Rattle.pod.specs.Values.{Routine, BasicBlock}
-use Rattle.pod.specs.Written.{block-bytes}
 use Rattle.machine.specs.Edits.{place, block-at}
 use Rattle.machine.specs.Machine.{size}
 use Rattle.machine.specs.Book.{State}
 use Rattle.machine.proofs.Keeps.{weight}
 use Rattle.book.specs.Says.{state}
-use Rattle.book.specs.Holding.{block-start, Holding, Sound}
+use Rattle.book.specs.Holding.{Holding}
 use Rattle.image.specs.Places.{Spotted}
 use Rattle.remove.specs.Leaving.{Leaving}
 use Rattle.image.proofs.Inspects.{sound-holding}
@@ -22,13 +20,6 @@ use Rattle.remove.proofs.Steps as K
 use borrow.Author.Needs.{needs}
 use Rattle.remove.proofs.remove_block.Statement.{statement}
 use Rattle.remove.proofs.remove_block.Tie as tie
-use Rattle.remove.proofs.remove_block.Reads as reads
-use Rattle.remove.proofs.remove_block.Lts as lts
-use Rattle.buffer.proofs.copy_at.Reads as copy-at-reads
-use Rattle.image.proofs.find.Reads as find-reads
-use Rattle.remove.proofs.take_out.Reads as take-out-reads
-use Rattle.trailer.proofs.put_trailer.Reads as put-trailer-reads
-use Rattle.walk.proofs.block_end.Reads as block-end-reads
 
 abbrev L : tie.Start → State
 L s = state (s .args .image .now) (s .args .journal .now) (s .args .book)

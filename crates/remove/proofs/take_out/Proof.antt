@@ -1,8 +1,8 @@
 -- `remove::take_out` meets its contract: the blocks' start and number are those of the routine, and what each branch stores is what the laws of a
 -- block taken out say.
 -- Assumes nothing.
-use mathlib.Core.Path.{_≡_, sym, ap, _∙_}
-use Prim.Native.Nat.{ℕ, _+_, _-_, _≤_, _<_}
+use mathlib.Core.Path.{_≡_, ap, _∙_}
+use Prim.Native.Nat.{ℕ, _-_, _≤_}
 use native.Mathlib.Omega.{arith}
 use lib.ListN.{length}
 use Rattle.pod.specs.Values.{Routine}
@@ -12,13 +12,6 @@ use Rattle.remove.proofs.Taken as T
 use borrow.Author.Needs.{needs}
 use Rattle.remove.proofs.take_out.Statement.{statement}
 use Rattle.remove.proofs.take_out.Tie as tie
-use Rattle.remove.proofs.take_out.Reads as reads
-use Rattle.remove.proofs.take_out.Lts as lts
-use Rattle.buffer.proofs.clear.Reads as clear-reads
-use Rattle.buffer.proofs.exchange.Reads as exchange-reads
-use Rattle.buffer.proofs.put_u32.Reads as put-u32-reads
-use Rattle.image.proofs.block_offset.Reads as block-offset-reads
-use Rattle.image.proofs.blocks_of.Reads as blocks-of-reads
 
 abbrev start : tie.After-blocks-of → tie.Start
 start c = c .before .before .before

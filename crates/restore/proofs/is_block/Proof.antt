@@ -9,10 +9,6 @@ use Rattle.restore.proofs.Whole as W
 use borrow.Author.Needs.{needs}
 use Rattle.restore.proofs.is_block.Statement.{statement}
 use Rattle.restore.proofs.is_block.Tie as tie
-use Rattle.restore.proofs.is_block.Reads as reads
-use Rattle.restore.proofs.is_block.Lts as lts
-use Rattle.block.proofs.block_skip.Reads as block-skip-reads
-use Rattle.fields.proofs.eight.Reads as eight-reads
 
 -- what the walk said
 ends : (c : tie.After-known-told) → ok tt (c .before .end .given .0 .0) ≡ span (block as-written (c .before .before .before .before .before .args .s .now) 0)

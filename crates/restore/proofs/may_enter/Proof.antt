@@ -3,7 +3,6 @@
 use mathlib.Core.Path.{_≡_, sym, _∙_}
 use mathlib.Core.Bool.{true}
 use native.Mathlib.Omega.{arith}
-use lib.ListN.{length}
 use borrow.Author.Tests.{not-true, not-false}
 use Rattle.pod.specs.Values.{Routine}
 use Rattle.book.specs.Holding.{Holding}
@@ -13,10 +12,6 @@ use Rattle.restore.proofs.Whole as W
 use borrow.Author.Needs.{needs}
 use Rattle.restore.proofs.may_enter.Statement.{statement}
 use Rattle.restore.proofs.may_enter.Tie as tie
-use Rattle.restore.proofs.may_enter.Reads as reads
-use Rattle.restore.proofs.may_enter.Lts as lts
-use Rattle.image.proofs.find.Reads as find-reads
-use Rattle.restore.proofs.is_block.Reads as is-block-reads
 
 abbrev start : tie.Else1 → tie.Start
 start c = c .before .before .before .before

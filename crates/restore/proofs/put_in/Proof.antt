@@ -1,8 +1,8 @@
 -- `restore::put_in` meets its contract: the blocks' start and number are those of the routine, and what each branch stores is what the laws of a
 -- block put in say.
 -- Assumes nothing.
-use mathlib.Core.Path.{_≡_, sym, ap, _∙_}
-use Prim.Native.Nat.{ℕ, _+_, _-_, _≤_, _<_}
+use mathlib.Core.Path.{_≡_, _∙_}
+use Prim.Native.Nat.{_+_, _≤_, _<_}
 use native.Mathlib.Omega.{arith}
 use lib.ListN.{length}
 use Rattle.pod.specs.Values.{Routine}
@@ -15,14 +15,6 @@ use Rattle.restore.proofs.Entered as E
 use borrow.Author.Needs.{needs}
 use Rattle.restore.proofs.put_in.Statement.{statement}
 use Rattle.restore.proofs.put_in.Tie as tie
-use Rattle.restore.proofs.put_in.Reads as reads
-use Rattle.restore.proofs.put_in.Lts as lts
-use Rattle.buffer.proofs.copy_at.Reads as copy-at-reads
-use Rattle.buffer.proofs.exchange.Reads as exchange-reads
-use Rattle.buffer.proofs.put_u32.Reads as put-u32-reads
-use Rattle.image.proofs.block_offset.Reads as block-offset-reads
-use Rattle.image.proofs.blocks_of.Reads as blocks-of-reads
-use Rattle.walk.proofs.block_end.Reads as block-end-reads
 
 abbrev start : tie.After-blocks-of → tie.Start
 start c = c .before .before .before .before

@@ -1,19 +1,21 @@
--- `restore::undo_remove` meets its contract: each return is what taking back a removal is at the tests made so far, for every routine that the state
--- holds.
+-- `restore::undo_remove` meets its contract: each return is what taking back a removal is at the tests made so far. A state holds one routine, so
+-- that of `requires` is every one that it holds.
 -- Assumes nothing.
 use mathlib.Core.Path.{_≡_, sym, ap, _∙_}
 use mathlib.Core.Bool.{true}
 use mathlib.Core.List.{List}
-use Prim.Native.Nat.{ℕ, _+_, _-_, _≤_, _<_}
+use Prim.Native.Nat.{ℕ, _-_, _≤_}
 use native.Mathlib.Omega.{arith}
-use lib.ListN.{length}
+use lib.ListN.{length, take}
 use borrow.Author.Tests.{not-true, not-false}
-use Rattle.pod.specs.Values.{Routine}
-use Rattle.machine.specs.Book.{State}
+use Rattle.fields.specs.Outcome.{accepted}
+use Rattle.pod.specs.Values.{BasicBlock, Routine}
+use Rattle.machine.specs.Machine.{Answer}
+use Rattle.machine.specs.Book.{State, held, restored}
 use Rattle.machine.specs.Journal as journal
 use Rattle.book.specs.Says.{state}
-use Rattle.book.specs.Holding.{Holding, Sound}
-use Rattle.image.proofs.Inspects.{sound-holding}
+use Rattle.book.specs.Holding.{Sound}
+use Rattle.image.proofs.Inspects.{sound-held, sound-holding}
 use Rattle.trailer.specs.Says.{trailer-of}
 use Rattle.restore.specs.Blocks.{may-enter}
 use Rattle.restore.specs.Entering.{Entering}
@@ -21,17 +23,27 @@ use Rattle.restore.proofs.Entries as K
 use borrow.Author.Needs.{needs}
 use Rattle.restore.proofs.undo_remove.Statement.{statement}
 use Rattle.restore.proofs.undo_remove.Tie as tie
-use Rattle.restore.proofs.undo_remove.Reads as reads
-use Rattle.restore.proofs.undo_remove.Lts as lts
-use Rattle.buffer.proofs.clear.Reads as clear-reads
-use Rattle.restore.proofs.may_enter.Reads as may-enter-reads
-use Rattle.restore.proofs.put_in.Reads as put-in-reads
 
 abbrev L : tie.Start → State
 L s = state (s .args .image .now) (s .args .journal .now) (s .args .book)
 
+abbrev R : tie.Start → Routine
+R s = s .pre .0 .r
+
+sound : (s : tie.Start) → Sound (L s) (R s)
+sound s = s .pre .0 .sound
+
 abbrev T : tie.Start → journal.Trailer
-T s = trailer-of (s .args .t)
+T s = trailer-of (s .args .last)
+
+abbrev gives : tie.Start → Routine → Answer × State
+gives s r = restored (L s) (journal.undo-remove (length (s .args .image .now)) r (take (s .args .book .used - 20) (s .args .journal .now)) (T s))
+
+one-routine : (s : State) (a b : Routine) → held s ≡ accepted a → held s ≡ accepted b → a ≡ b
+one-routine s a b p q = cc
+
+over : (s : tie.Start) (x : Answer × State) → x ≡ gives s (R s) → (r : Routine) → held (L s) ≡ accepted r → x ≡ gives s r
+over s x e r h = e ∙ ap (gives s) (one-routine (L s) (R s) r (sound-held (sound s)) h)
 
 abbrev start : tie.Else1 → tie.Start
 start c = c .before .before .before .before
@@ -40,31 +52,35 @@ start c = c .before .before .before .before
 whole : (c : tie.Else1) → T (start c) .length ≤ start c .args .book .used - 20
 whole c = c .if1 .left
 
-abbrev entry : (c : tie.Else1) (r : Routine) → Sound (L (start c)) r → List ℕ
-entry c r g = K.entry _ _ _ r g (T (start c)) (start c .pre .1) (whole c)
+abbrev entry : tie.Else1 → List ℕ
+entry c = let s = start c in K.entry _ _ _ (R s) (sound s) (T s) (s .pre .1) (whole c)
 
 -- what `may_enter` said
-tested : (c : tie.After-may-enter) (r : Routine) (g : Sound (L (start (c .before .before .before .before))) r)
-    → c .may-enter .result ≡ may-enter (length (start (c .before .before .before .before) .args .image .now)) r (T (start (c .before .before .before .before)) .vip) (T (start (c .before .before .before .before)) .place) (entry (c .before .before .before .before) r g)
-tested c r g = c .may-enter .ensures r (sound-holding g) (g .written)
+tested : (c : tie.After-may-enter)
+    → (let s = start (c .before .before .before .before) in c .may-enter .result ≡ may-enter (length (s .args .image .now)) (R s) (T s .vip) (T s .place) (entry (c .before .before .before .before)))
+tested c = let s = start (c .before .before .before .before) in c .may-enter .ensures (R s) (sound-holding (sound s)) (sound s .written)
 
-enters : (c : tie.Else2) (r : Routine) (g : Sound (L (start (c .before .before .before .before .before))) r)
-    → may-enter (length (start (c .before .before .before .before .before) .args .image .now)) r (T (start (c .before .before .before .before .before)) .vip) (T (start (c .before .before .before .before .before)) .place) (entry (c .before .before .before .before .before) r g) ≡ true
-enters c r g = sym (tested (c .before) r g) ∙ not-false _ (c .if2 .left)
+enters : (c : tie.Else2)
+    → (let s = start (c .before .before .before .before .before) in may-enter (length (s .args .image .now)) (R s) (T s .vip) (T s .place) (entry (c .before .before .before .before .before)) ≡ true)
+enters c = sym (tested (c .before)) ∙ not-false _ (c .if2 .left)
 
-entering : (c : tie.Else2) (r : Routine) (g : Sound (L (start (c .before .before .before .before .before))) r)
-    → Entering r (start (c .before .before .before .before .before) .args .image .now) (T (start (c .before .before .before .before .before)) .place) (start (c .before .before .before .before .before) .args .book .written) (entry (c .before .before .before .before .before) r g)
-entering c r g =
+abbrev back : tie.Else2 → BasicBlock
+back c = let s = start (c .before .before .before .before .before) in K.back _ _ _ (R s) (sound s) (T s) (s .pre .1) (whole (c .before .before .before .before .before)) (enters c)
+
+entering : (c : tie.Else2)
+    → (let s = start (c .before .before .before .before .before) in Entering (R s) (s .args .image .now) (T s .place) (s .args .book .written) (entry (c .before .before .before .before .before)))
+entering c =
     let e = c .before .before .before .before .before in
     let s = start e in
-    let n = K.entry-size _ _ _ r g (T s) (s .pre .1) (whole e) in
+    let g = sound s in
+    let n = K.entry-size _ _ _ (R s) g (T s) (s .pre .1) (whole e) in
     record {
       holds = g .holds;
       is = g .image;
       whole = g .written;
-      room = omega (arith, n, K.room _ r (T s) _ n (enters c r g));
+      room = omega (arith, n, K.room _ (R s) (T s) _ n (enters c));
       lent = g .image-lent;
-      within = K.placed _ r (T s) _ n (enters c r g);
+      within = K.placed _ (R s) (T s) _ n (enters c);
     }
 
 sub-before : tie.Need-sub-before
@@ -74,7 +90,7 @@ cast-size : tie.Need-cast-size
 cast-size c = search needs
 
 returns : tie.Need-returns
-returns c = λ r g. let s = c .before .before .before .before in K.long _ _ _ r g (T s) (s .pre .1) (c .if1 .taken)
+returns c = let s = c .before .before .before .before in over s _ (K.long _ _ _ (R s) (sound s) (T s) (s .pre .1) (c .if1 .taken))
 
 sub-may-enter : tie.Need-sub-may-enter
 sub-may-enter c = search needs
@@ -95,10 +111,10 @@ same-length-2 : tie.Need-same-length-2
 same-length-2 c = search needs
 
 returns-2 : tie.Need-returns-2
-returns-2 c = λ r g.
+returns-2 c =
     let e = c .before .before .before .before .before in
     let s = start e in
-    K.misfit _ _ _ r g (T s) (s .pre .1) (whole e) (sym (tested (c .before) r g) ∙ not-true _ (c .if2 .taken))
+    over s _ (K.misfit _ _ _ (R s) (sound s) (T s) (s .pre .1) (whole e) (sym (tested (c .before)) ∙ not-true _ (c .if2 .taken)))
 
 cast-put-in : tie.Need-cast-put-in
 cast-put-in c = search needs
@@ -113,7 +129,7 @@ part-put-in-end : tie.Need-part-put-in-end
 part-put-in-end c = search needs
 
 put-in-requires : tie.Need-put-in-requires
-put-in-requires c κs = let u = c .before .before .before in let h = start (u .before .before .before .before .before) .pre .0 in record { r = h .r; entering = entering u (h .r) (h .sound) }
+put-in-requires c κs = let u = c .before .before .before in record { r = R (start (u .before .before .before .before .before)); entering = entering u }
 
 clear-requires : tie.Need-clear-requires
 clear-requires c κs = search needs
@@ -128,13 +144,13 @@ same-length-4 : tie.Need-same-length-4
 same-length-4 c = search needs
 
 returns-3 : tie.Need-returns-3
-returns-3 c = λ r g.
+returns-3 c =
     let u = c .before .before .before .before .before .before .before .before .before .before in
     let e = u .before .before .before .before .before in
     let s = start e in
-    K.restores _ _ _ r g (T s) (s .pre .1) (whole e) (enters u r g) (c .before .before .before .before .before .before .before .before .before .before .before .before .before .before .before .before .before .slice-known2 .given) _ _
-    (c .before .before .before .before .before .before .put-in .ensures r (K.back _ _ _ r g (T s) (s .pre .1) (whole e) (enters u r g)) (entering u r g) (K.written-back _ _ _ r g (T s) (s .pre .1) (whole e) (enters u r g) (c .before .before .before .before .before .before .before .before .before .before .before .before .before .before .before .before .before .slice-known2 .given)))
-    (c .before .before .clear .ensures)
+    let y = c .before .before .before .before .before .before .before .before .before .before .before .before .before .before .before .before .before .slice-known2 .given in
+    let b = K.written-back _ _ _ (R s) (sound s) (T s) (s .pre .1) (whole e) (enters u) y in
+    over s _ (K.restores _ _ _ (R s) (sound s) (T s) (s .pre .1) (whole e) (enters u) y _ _ (c .before .before .before .before .before .before .put-in .ensures (R s) (back u) (entering u) b) (c .before .before .clear .ensures))
 
 pub undo-remove-spec : {M : Type 1} → statement M
 undo-remove-spec =

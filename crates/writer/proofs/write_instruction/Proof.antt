@@ -6,7 +6,8 @@ use mathlib.Core.Bool.{false}
 use native.Mathlib.Omega.{arith}
 use lib.ListN.{getD}
 use Rattle.op.specs.Ops.{counts}
-use Rattle.pod.specs.Descs.{any, is-foreign, is-unknown, used-operands}
+use Rattle.pod.specs.Descs.{any, used-operands}
+use Rattle.writer.specs.Forms.{faulty}
 use Rattle.value.proofs.Parts.{counts-small}
 use Rattle.writer.proofs.Writes.{lent-too-large, op-unknown, count-wrong, register-foreign, kind-unknown, image-short, all-written}
 use borrow.Author.Needs.{needs}
@@ -15,8 +16,7 @@ use Rattle.writer.proofs.write_instruction.Tie as tie
 use Rattle.writer.proofs.write_instruction.Reads as reads
 use Rattle.writer.proofs.write_instruction.Lts as lts
 use Rattle.op.proofs.operand_count.Reads as operand-count-reads
-use Rattle.writer.proofs.has_foreign.Reads as has-foreign-reads
-use Rattle.writer.proofs.has_unknown.Reads as has-unknown-reads
+use Rattle.writer.proofs.any_faulty.Reads as any-faulty-reads
 use Rattle.writer.proofs.instruction_size.Reads as instruction-size-reads
 use Rattle.writer.proofs.put_instruction.Reads as put-instruction-reads
 use Rattle.writer.proofs.refusal.Reads as refusal-reads
@@ -31,11 +31,11 @@ counted c = c .if3 .left ∙ c .before .before .operand-count .ensures
 few : (c : tie.Else3) → start c .args .value .count ≤ 3
 few c = rw (counted c) (counts-small _)
 
-none-foreign : (c : tie.Else4) → any is-foreign (used-operands (start (c .before .before .before .before) .args .value)) ≡ false
-none-foreign c = sym (c .before .has-foreign .ensures) ∙ c .if4 .left
+none-foreign : (c : tie.Else4) → any (faulty 5) (used-operands (start (c .before .before .before .before) .args .value)) ≡ false
+none-foreign c = sym (c .before .any-faulty .ensures) ∙ c .if4 .left
 
-none-unknown : (c : tie.Else5) → any is-unknown (used-operands (start (c .before .before .before .before .before .before .before) .args .value)) ≡ false
-none-unknown c = sym (c .before .has-unknown .ensures) ∙ c .if5 .left
+none-unknown : (c : tie.Else5) → any (faulty 6) (used-operands (start (c .before .before .before .before .before .before .before) .args .value)) ≡ false
+none-unknown c = sym (c .before .any-faulty2 .ensures) ∙ c .if5 .left
 
 refusal-requires : tie.Need-refusal-requires
 refusal-requires c κs = search needs
@@ -64,11 +64,11 @@ returns-3 c =
     let k = t .before .before in
     count-wrong _ _ (k .before .before .if1 .left) (k .if2 .left) (c .refusal3 .ensures) (λ e. c .before .if3 .taken (e ∙ sym (t .operand-count .ensures)))
 
-cast-has-foreign : tie.Need-cast-has-foreign
-cast-has-foreign c = search needs
+cast-any-faulty : tie.Need-cast-any-faulty
+cast-any-faulty c = search needs
 
-has-foreign-requires : tie.Need-has-foreign-requires
-has-foreign-requires c κs = few (c .before .before)
+any-faulty-requires : tie.Need-any-faulty-requires
+any-faulty-requires c κs = few (c .before .before)
 
 refusal-requires-4 : tie.Need-refusal-requires-4
 refusal-requires-4 c κs = search needs
@@ -77,13 +77,13 @@ returns-4 : tie.Need-returns-4
 returns-4 c =
     let t = c .before .before .before .before .before in
     let k = t .before .before .before .before in
-    register-foreign _ _ (k .before .before .if1 .left) (k .if2 .left) (counted t) (c .refusal4 .ensures) (sym (c .before .before .has-foreign .ensures) ∙ c .before .if4 .taken)
+    register-foreign _ _ (k .before .before .if1 .left) (k .if2 .left) (counted t) (c .refusal4 .ensures) (sym (c .before .before .any-faulty .ensures) ∙ c .before .if4 .taken)
 
-cast-has-unknown : tie.Need-cast-has-unknown
-cast-has-unknown c = search needs
+cast-any-faulty-2 : tie.Need-cast-any-faulty-2
+cast-any-faulty-2 c = search needs
 
-has-unknown-requires : tie.Need-has-unknown-requires
-has-unknown-requires c κs = few (c .before .before .before .before .before)
+any-faulty-requires-2 : tie.Need-any-faulty-requires-2
+any-faulty-requires-2 c κs = few (c .before .before .before .before .before)
 
 refusal-requires-5 : tie.Need-refusal-requires-5
 refusal-requires-5 c κs = search needs
@@ -94,7 +94,7 @@ returns-5 c =
     let t = f .before .before .before .before in
     let k = t .before .before .before .before in
     kind-unknown _ _ (k .before .before .if1 .left) (k .if2 .left) (counted t) (none-foreign f) (c .refusal5 .ensures)
-    (sym (c .before .before .has-unknown .ensures) ∙ c .before .if5 .taken)
+    (sym (c .before .before .any-faulty2 .ensures) ∙ c .before .if5 .taken)
 
 instruction-size-requires : tie.Need-instruction-size-requires
 instruction-size-requires c κs =
@@ -144,12 +144,12 @@ write-instruction-spec =
     operand-count-requires
     refusal-requires-3
     returns-3
-    cast-has-foreign
-    has-foreign-requires
+    cast-any-faulty
+    any-faulty-requires
     refusal-requires-4
     returns-4
-    cast-has-unknown
-    has-unknown-requires
+    cast-any-faulty-2
+    any-faulty-requires-2
     refusal-requires-5
     returns-5
     instruction-size-requires

@@ -1,0 +1,4 @@
+pub mod Elements
+pub mod Reach
+pub mod Blocks
+pub mod Routines

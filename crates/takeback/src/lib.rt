@@ -1,0 +1,80 @@
+// Taking back the last edit, of whichever kind it was.
+//
+// `undo` requires that the state is sound: it is for the crate above, whose call inspects the lent image and the book first.
+ghost use mathlib.Core.Path.{_≡_};
+ghost use Prim.Native.Nat.{_≤_};
+ghost use Rattle.machine.specs.Machine.{undo};
+ghost use Rattle.machine.specs.Book.{step};
+ghost use Rattle.book.specs.Says.{state, outcome};
+ghost use Rattle.edits.specs.Held.{Held};
+use book::Answer;
+use book::Book;
+
+// The kinds of entries.
+const CREATED: u32 = 1;
+
+const REMOVED: u32 = 2;
+
+const APPENDED: u32 = 3;
+
+// The entry that ends the journal's used part says what to take back; 16 where nothing is used, and 13 where that is no entry.
+pub fn undo(book: Book, image: &mut [u8], journal: &mut [u8]) -> Answer
+    requires { ⌜ Held (state (now image) (now journal) book) ⌝ }
+    ensures { λ x. ⌜ outcome x (now (image .exit)) (now (journal .exit)) ≡ step undo (state (now (image .entry)) (now (journal .entry)) book) ⌝ }
+{
+    let used = book.used as usize;
+    if used == 0 {
+        return Answer {
+            refusal: book::NOTHING_TO_TAKE_BACK,
+            book,
+        };
+    }
+    if used < trailer::TRAILER_SIZE {
+        return Answer {
+            refusal: book::SPOILED_BOOK,
+            book,
+        };
+    }
+    let last = trailer::read_trailer(journal, used - trailer::TRAILER_SIZE);
+    let kind = last.kind;
+    if kind == CREATED {
+        return undo_create(book, image, journal, last);
+    }
+    if kind == REMOVED {
+        return restore::undo_remove(book, image, journal, last);
+    }
+    if kind == APPENDED {
+        return undo_append(book, image, journal, last);
+    }
+    Answer {
+        refusal: book::SPOILED_BOOK,
+        book,
+    }
+}
+// STAND-IN
+ghost use Rattle.fields.specs.Outcome.{accepted};
+ghost use Rattle.pod.specs.Values.{Routine};
+ghost use Rattle.machine.specs.Journal.{undo-create, undo-append};
+ghost use Rattle.machine.specs.Book.{held, restored};
+ghost use Rattle.trailer.specs.Says.{trailer-of};
+use trailer::Trailer;
+
+pub fn undo_create(book: Book, image: &mut [u8], journal: &mut [u8], last: Trailer) -> Answer
+    requires { ⌜ Held (state (now image) (now journal) book) × (20 ≤ book .used) ⌝ }
+    ensures { λ x. ⌜ ((r : Routine) → held (state (now (image .entry)) (now (journal .entry)) book) ≡ accepted r → outcome x (now (image .exit)) (now (journal .exit)) ≡ restored (state (now (image .entry)) (now (journal .entry)) book) (undo-create r (trailer-of last))) ⌝ }
+{
+    Answer {
+        refusal: book::SPOILED_BOOK,
+        book,
+    }
+}
+
+pub fn undo_append(book: Book, image: &mut [u8], journal: &mut [u8], last: Trailer) -> Answer
+    requires { ⌜ Held (state (now image) (now journal) book) × (20 ≤ book .used) ⌝ }
+    ensures { λ x. ⌜ ((r : Routine) → held (state (now (image .entry)) (now (journal .entry)) book) ≡ accepted r → outcome x (now (image .exit)) (now (journal .exit)) ≡ restored (state (now (image .entry)) (now (journal .entry)) book) (undo-append r (trailer-of last))) ⌝ }
+{
+    Answer {
+        refusal: book::SPOILED_BOOK,
+        book,
+    }
+}

@@ -1,0 +1,4 @@
+pub mod Restores
+pub mod Fresh
+pub mod Uncreates
+pub mod Unappends

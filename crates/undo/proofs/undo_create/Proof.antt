@@ -1,0 +1,201 @@
+-- `undo::undo_create` meets its contract: each answer is one law of taking back a create, with what the image's readers tell of the routine held.
+-- Assumes nothing.
+use mathlib.Core.Path.{_≡_, refl, sym, ap, _∙_}
+use mathlib.Core.Bool.{true, false}
+use native.Mathlib.Omega.{arith}
+use Prim.Native.Nat.{ℕ, _+_, _-_, _≤_, _<_}
+use lib.ListN.{length}
+use borrow.Author.Tests.{not-true, not-false}
+use Rattle.fields.specs.Parse.{choose}
+use Rattle.fields.specs.Outcome.{accepted}
+use Rattle.pod.specs.Values.{BasicBlock, Routine}
+use Rattle.walk.specs.Ends.{word}
+use Rattle.machine.specs.Edits.{block-at}
+use Rattle.machine.specs.Machine.{Answer}
+use Rattle.machine.specs.Journal.{Trailer, is-fresh, undo-create}
+use Rattle.machine.specs.Book.{State, held, restored}
+use Rattle.laws.proofs.Sizes.{routine-size}
+use Rattle.book.specs.Says.{state}
+use Rattle.book.specs.Holding.{blocks-start, block-start}
+use Rattle.trailer.specs.Says.{trailer-of}
+use Rattle.image.proofs.Inspects.{sound-holding}
+use Rattle.image.proofs.Stands.{block-holds, block-word}
+use Rattle.image.proofs.Parts.{stands-here}
+use Rattle.undo.proofs.Restores.{the-same, block-fits}
+use Rattle.undo.proofs.Uncreates as U
+use borrow.Author.Needs.{needs}
+use Rattle.undo.proofs.undo_create.Statement.{statement}
+use Rattle.undo.proofs.undo_create.Tie as tie
+use Rattle.undo.proofs.undo_create.Reads as reads
+use Rattle.undo.proofs.undo_create.Lts as lts
+use Rattle.buffer.proofs.clear.Reads as clear-reads
+use Rattle.buffer.proofs.put_u32.Reads as put-u32-reads
+use Rattle.image.proofs.block_offset.Reads as block-offset-reads
+use Rattle.image.proofs.blocks_of.Reads as blocks-of-reads
+use Rattle.undo.proofs.is_fresh.Reads as is-fresh-reads
+use Rattle.walk.proofs.word64.Reads as word64-reads
+
+-- the state at entry, the routine that it holds, and the trailer
+abbrev S : tie.Start → State
+S s = state (s .args .image .now) (s .args .journal .now) (s .args .book)
+
+abbrev R : tie.Start → Routine
+R s = s .pre .0 .r
+
+abbrev T : tie.Start → Trailer
+T s = trailer-of (s .args .last)
+
+abbrev B : tie.Start → BasicBlock
+B s = block-at (s .args .last .place) (R s .explored-blocks)
+
+-- of every routine that is held
+over : (s : tie.Start) (x : Answer × State) → x ≡ restored (S s) (undo-create (R s) (T s)) → (r : Routine) → held (S s) ≡ accepted r → x ≡ restored (S s) (undo-create r (T s))
+over s x e r h = e ∙ ap (λ q. restored (S s) (undo-create q (T s))) (the-same (s .pre .0 .sound) h)
+
+lent : (s : tie.Start) → s .args .book .written ≤ length (s .args .image .now)
+lent s = let o = s .pre .0 .sound in omega (arith, o .written, o .room)
+
+counted : (c : tie.After-blocks-of) → c .blocks-of .result .count ≡ length (R (c .before .before .before .before .before .before) .explored-blocks)
+counted c = c .blocks-of .ensures (R (c .before .before .before .before .before .before)) (sound-holding (c .before .before .before .before .before .before .pre .0 .sound)) .1
+
+begins : (c : tie.After-blocks-of) → c .blocks-of .result .start ≡ blocks-start (R (c .before .before .before .before .before .before))
+begins c = c .blocks-of .ensures (R (c .before .before .before .before .before .before)) (sound-holding (c .before .before .before .before .before .before .pre .0 .sound)) .0
+
+-- the place is the last
+last-place : (c : tie.Else2) → c .before .before .before .before .before .before .before .before .args .last .place + 1 ≡ length (R (c .before .before .before .before .before .before .before .before) .explored-blocks)
+last-place c = omega (arith, c .if2 .left, counted (c .before .before))
+
+within : (c : tie.Else2) → c .before .before .before .before .before .before .before .before .args .last .place < length (R (c .before .before .before .before .before .before .before .before) .explored-blocks)
+within c = omega (arith, last-place c)
+
+placed : (c : tie.After-block-offset) → c .block-offset .result ≡ block-start (R (c .before .before .before .before .before .before .before .before .before .before)) (c .before .before .before .before .before .before .before .before .before .before .args .last .place)
+placed c = c .block-offset .ensures (R (c .before .before .before .before .before .before .before .before .before .before)) (sound-holding (c .before .before .before .before .before .before .before .before .before .before .pre .0 .sound)) (omega (arith, within (c .before .before)))
+
+-- the block there ends within the written length
+ends : (c : tie.After-block-offset) → c .block-offset .result + 36 ≤ c .before .before .before .before .before .before .before .before .before .before .args .book .written
+ends c = let s = (c .before .before .before .before .before .before .before .before .before .before) in omega (arith, placed c, block-fits (S s) (R s) (s .pre .0 .sound) (s .args .last .place) (within (c .before .before)))
+
+vip-read : (c : tie.After-word64) → c .word64 .result ≡ B (c .before .before .before .before .before .before .before .before .before .before .before .before) .vip
+vip-read c =
+    let s = (c .before .before .before .before .before .before .before .before .before .before .before .before) in
+    let h = sound-holding (s .pre .0 .sound) in
+    let l = within (c .before .before .before .before) in
+    c .word64 .ensures ∙ block-word _ (B s) (block-holds h (s .args .last .place) l) (stands-here (R s) (s .args .last .place) h l (placed (c .before .before)))
+
+fresh : (c : tie.After-is-fresh) → c .is-fresh .result ≡ is-fresh (B (c .before .before .before .before .before .before .before .before .before .before .before .before .before .before .before .before))
+fresh c =
+    let s = (c .before .before .before .before .before .before .before .before .before .before .before .before .before .before .before .before) in
+    let h = sound-holding (s .pre .0 .sound) in
+    let l = within (c .before .before .before .before .before .before .before .before) in
+    c .is-fresh .ensures (B s) (block-holds h (s .args .last .place) l) (stands-here (R s) (s .args .last .place) h l (placed (c .before .before .before .before .before .before)))
+
+returns : tie.Need-returns
+unfolding choose
+returns c = let s = (c .before .before .before .before) in over s _ (U.create-length (S s) (R s) (s .pre .0 .sound) (T s) (c .if1 .taken))
+
+blocks-of-requires : tie.Need-blocks-of-requires
+blocks-of-requires c κs = search needs
+
+cast-if2 : tie.Need-cast-if2
+cast-if2 c = search needs
+
+add-if2 : tie.Need-add-if2
+add-if2 c = search needs
+
+cast-if2-2 : tie.Need-cast-if2-2
+cast-if2-2 c = search needs
+
+same-length : tie.Need-same-length
+same-length c = search needs
+
+returns-2 : tie.Need-returns-2
+unfolding choose
+returns-2 c = let s = (c .before .before .before .before .before .before .before .before) in over s _ (U.create-place (S s) (R s) (s .pre .0 .sound) (T s) (c .before .before .before .before .if1 .left) (λ e. c .if2 .taken (e ∙ sym (counted (c .before .before)))))
+
+cast-block-offset : tie.Need-cast-block-offset
+cast-block-offset c = search needs
+
+block-offset-requires : tie.Need-block-offset-requires
+block-offset-requires c κs = search needs
+
+word64-requires : tie.Need-word64-requires
+word64-requires c κs = search needs
+
+same-length-2 : tie.Need-same-length-2
+same-length-2 c = search needs
+
+returns-3 : tie.Need-returns-3
+unfolding choose
+returns-3 c = let s = (c .before .before .before .before .before .before .before .before .before .before .before .before .before .before) in over s _ (U.create-vip (S s) (R s) (s .pre .0 .sound) (T s) (c .before .before .before .before .before .before .before .before .before .before .if1 .left) (last-place (c .before .before .before .before .before .before)) (λ e. c .if3 .taken (vip-read (c .before .before) ∙ e)))
+
+is-fresh-requires : tie.Need-is-fresh-requires
+is-fresh-requires c κs = omega (arith, ends (c .before .before .before .before .before), lent (c .before .before .before .before .before .before .before .before .before .before .before .before .before .before .before))
+
+same-length-3 : tie.Need-same-length-3
+same-length-3 c = search needs
+
+returns-4 : tie.Need-returns-4
+unfolding choose
+returns-4 c =
+    let s = (c .before .before .before .before .before .before .before .before .before .before .before .before .before .before .before .before .before) in
+    over s _ (U.create-changed (S s) (R s) (s .pre .0 .sound) (T s) (c .before .before .before .before .before .before .before .before .before .before .before .before .before .if1 .left) (last-place (c .before .before .before .before .before .before .before .before .before)) (sym (vip-read (c .before .before .before .before .before)) ∙ c .before .before .before .if3 .left) (sym (fresh (c .before)) ∙ not-true _ (c .if4 .taken)))
+
+clear-requires : tie.Need-clear-requires
+clear-requires c κs = let s = (c .before .before .before .before .before .before .before .before .before .before .before .before .before .before .before .before .before .before) in (omega (arith, ends (c .before .before .before .before .before .before .before .before)), omega (arith, lent s))
+
+sub-put-u32 : tie.Need-sub-put-u32
+sub-put-u32 c = omega (arith, begins (c .before .before .before .before .before .before .before .before .before .before .before .before .before .before .before .before))
+
+put-u32-requires : tie.Need-put-u32-requires
+put-u32-requires c κs = let s = (c .before .before .before .before .before .before .before .before .before .before .before .before .before .before .before .before .before .before .before .before .before .before) in omega (arith, begins (c .before .before .before .before .before .before .before .before .before .before .before .before .before .before .before .before), routine-size (R s), s .pre .0 .sound .room, c .before .before .before .clear .kept .0)
+
+sub-clear : tie.Need-sub-clear
+sub-clear c = search needs
+
+clear-requires-2 : tie.Need-clear-requires-2
+clear-requires-2 c κs = let s = (c .before .before .before .before .before .before .before .before .before .before .before .before .before .before .before .before .before .before .before .before .before .before .before .before .before .before) in (omega (arith, s .pre .1), omega (arith, s .pre .0 .sound .used))
+
+sub-t14 : tie.Need-sub-t14
+sub-t14 c = search needs
+
+same-length-4 : tie.Need-same-length-4
+same-length-4 c = search needs
+
+same-length-5 : tie.Need-same-length-5
+same-length-5 c = search needs
+
+returns-5 : tie.Need-returns-5
+unfolding choose
+returns-5 c =
+    let s = (c .before .before .before .before .before .before .before .before .before .before .before .before .before .before .before .before .before .before .before .before .before .before .before .before .before .before .before .before .before) in
+    over s _ (U.create-final (S s) (R s) (s .pre .0 .sound) (T s) (c .before .before .before .before .before .before .before .before .before .before .before .before .before .before .before .before .before .before .before .before .before .before .before .before .before .if1 .left) (last-place (c .before .before .before .before .before .before .before .before .before .before .before .before .before .before .before .before .before .before .before .before .before)) (sym (vip-read (c .before .before .before .before .before .before .before .before .before .before .before .before .before .before .before .before .before)) ∙ c .before .before .before .before .before .before .before .before .before .before .before .before .before .before .before .if3 .left) (sym (fresh (c .before .before .before .before .before .before .before .before .before .before .before .before .before)) ∙ not-false _ (c .before .before .before .before .before .before .before .before .before .before .before .before .if4 .left)) (s .pre .1)
+    _ _ _ _ _ (placed (c .before .before .before .before .before .before .before .before .before .before .before .before .before .before .before .before .before .before .before)) (begins (c .before .before .before .before .before .before .before .before .before .before .before .before .before .before .before .before .before .before .before .before .before .before .before)) (c .before .before .before .before .before .before .before .before .before .before .clear .ensures) (c .before .before .before .before .before .before .put-u32 .ensures) (c .before .before .clear2 .ensures))
+
+pub undo-create-spec : {M : Type 1} → statement M
+undo-create-spec =
+    tie.close
+    (tie.spec
+    returns
+    blocks-of-requires
+    cast-if2
+    add-if2
+    cast-if2-2
+    same-length
+    returns-2
+    cast-block-offset
+    block-offset-requires
+    word64-requires
+    same-length-2
+    returns-3
+    is-fresh-requires
+    same-length-3
+    returns-4
+    clear-requires
+    sub-put-u32
+    put-u32-requires
+    sub-clear
+    clear-requires-2
+    sub-t14
+    same-length-4
+    same-length-5
+    returns-5)
