@@ -2,7 +2,6 @@
 //
 // `undo` requires that the state is sound: it is for the crate above, whose call inspects the lent image and the book first.
 ghost use mathlib.Core.Path.{_≡_};
-ghost use Prim.Native.Nat.{_≤_};
 ghost use Rattle.machine.specs.Machine.{undo};
 ghost use Rattle.machine.specs.Book.{step};
 ghost use Rattle.book.specs.Says.{state, outcome};
@@ -38,41 +37,14 @@ pub fn undo(book: Book, image: &mut [u8], journal: &mut [u8]) -> Answer
     let last = trailer::read_trailer(journal, used - trailer::TRAILER_SIZE);
     let kind = last.kind;
     if kind == CREATED {
-        return undo_create(book, image, journal, last);
+        return undo::undo_create(book, image, journal, last);
     }
     if kind == REMOVED {
         return restore::undo_remove(book, image, journal, last);
     }
     if kind == APPENDED {
-        return undo_append(book, image, journal, last);
+        return undo::undo_append(book, image, journal, last);
     }
-    Answer {
-        refusal: book::SPOILED_BOOK,
-        book,
-    }
-}
-// STAND-IN
-ghost use Rattle.fields.specs.Outcome.{accepted};
-ghost use Rattle.pod.specs.Values.{Routine};
-ghost use Rattle.machine.specs.Journal.{undo-create, undo-append};
-ghost use Rattle.machine.specs.Book.{held, restored};
-ghost use Rattle.trailer.specs.Says.{trailer-of};
-use trailer::Trailer;
-
-pub fn undo_create(book: Book, image: &mut [u8], journal: &mut [u8], last: Trailer) -> Answer
-    requires { ⌜ Held (state (now image) (now journal) book) × (20 ≤ book .used) ⌝ }
-    ensures { λ x. ⌜ ((r : Routine) → held (state (now (image .entry)) (now (journal .entry)) book) ≡ accepted r → outcome x (now (image .exit)) (now (journal .exit)) ≡ restored (state (now (image .entry)) (now (journal .entry)) book) (undo-create r (trailer-of last))) ⌝ }
-{
-    Answer {
-        refusal: book::SPOILED_BOOK,
-        book,
-    }
-}
-
-pub fn undo_append(book: Book, image: &mut [u8], journal: &mut [u8], last: Trailer) -> Answer
-    requires { ⌜ Held (state (now image) (now journal) book) × (20 ≤ book .used) ⌝ }
-    ensures { λ x. ⌜ ((r : Routine) → held (state (now (image .entry)) (now (journal .entry)) book) ≡ accepted r → outcome x (now (image .exit)) (now (journal .exit)) ≡ restored (state (now (image .entry)) (now (journal .entry)) book) (undo-append r (trailer-of last))) ⌝ }
-{
     Answer {
         refusal: book::SPOILED_BOOK,
         book,

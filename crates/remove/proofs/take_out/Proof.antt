@@ -85,7 +85,7 @@ exchange-requires c κs =
     let o = c .before in
     let p = start (o .before .before .before) .pre in
     let w = T.last-after (p .r) (p .i) _ _ _ _ (p .leaving) (o .before .before .if1 .left) _ (last-is o (p .r) (p .i) (p .leaving)) in
-    (omega (arith, p .leaving .stop), (w .0, (w .1, T.in-image-end (p .r) (p .i) _ _ _ _ (p .leaving))))
+    (omega (arith, p .leaving .stop), (omega (arith, w .0), (omega (arith, w .1), omega (arith, T.in-image-end (p .r) (p .i) _ _ _ _ (p .leaving)))))
 
 clear-requires-2 : tie.Need-clear-requires-2
 clear-requires-2 c κs = search needs
