@@ -56,15 +56,5 @@ pub fn undo(book: Book, image: &mut [u8], journal: &mut [u8]) -> Answer
     if refusal != 0 {
         return Answer { refusal, book };
     }
-    undo_undo(book, image, journal)
-}
-
-// STAND-IN
-ghost use Rattle.edits.specs.Held.{Held};
-
-pub fn undo_undo(book: Book, image: &mut [u8], journal: &mut [u8]) -> Answer
-    requires { ⌜ Held (state (now image) (now journal) book) ⌝ }
-    ensures { λ r. ⌜ outcome r (now (image .exit)) (now (journal .exit)) ≡ step undo (state (now (image .entry)) (now (journal .entry)) book) ⌝ }
-{
-    Answer { refusal: 1, book }
+    takeback::undo(book, image, journal)
 }

@@ -50,15 +50,15 @@ fn call(
     ensures { λ r. ⌜ outcome r (now (image .exit)) (now (journal .exit)) ≡ step (call-of kind (vip .0) (now (bytes .entry))) (state (now (image .entry)) (now (journal .entry)) book) ⌝ }
 {
     if kind == 0 {
-        return create_block(book, image, journal, vip);
+        return calls::create_block(book, image, journal, vip);
     }
     if kind == 1 {
-        return remove_block(book, image, journal, vip);
+        return calls::remove_block(book, image, journal, vip);
     }
     if kind == 2 {
-        return append(book, image, journal, vip, bytes);
+        return calls::append(book, image, journal, vip, bytes);
     }
-    take_back(book, image, journal)
+    calls::undo(book, image, journal)
 }
 
 // The call whose four words begin at `at`.
@@ -106,35 +106,4 @@ pub fn run(file: &[u8], image: &mut [u8], journal: &mut [u8], words: &[u64], tex
         at += 4;
     }
     last
-}
-
-// STAND-IN
-pub fn create_block(book: Book, image: &mut [u8], journal: &mut [u8], vip: Vip) -> Answer
-    ensures { λ r. ⌜ outcome r (now (image .exit)) (now (journal .exit)) ≡ step (edit (create (vip .0))) (state (now (image .entry)) (now (journal .entry)) book) ⌝ }
-{
-    Answer { refusal: 1, book }
-}
-
-pub fn remove_block(book: Book, image: &mut [u8], journal: &mut [u8], vip: Vip) -> Answer
-    ensures { λ r. ⌜ outcome r (now (image .exit)) (now (journal .exit)) ≡ step (edit (remove (vip .0))) (state (now (image .entry)) (now (journal .entry)) book) ⌝ }
-{
-    Answer { refusal: 1, book }
-}
-
-pub fn append(
-    book: Book,
-    image: &mut [u8],
-    journal: &mut [u8],
-    vip: Vip,
-    instruction: &[u8],
-) -> Answer
-    ensures { λ r. ⌜ outcome r (now (image .exit)) (now (journal .exit)) ≡ step (edit (append (vip .0) (now (instruction .entry)))) (state (now (image .entry)) (now (journal .entry)) book) ⌝ }
-{
-    Answer { refusal: 1, book }
-}
-
-pub fn take_back(book: Book, image: &mut [u8], journal: &mut [u8]) -> Answer
-    ensures { λ r. ⌜ outcome r (now (image .exit)) (now (journal .exit)) ≡ step undo (state (now (image .entry)) (now (journal .entry)) book) ⌝ }
-{
-    Answer { refusal: 1, book }
 }

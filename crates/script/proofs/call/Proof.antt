@@ -50,8 +50,8 @@ returns-3 : tie.Need-returns-3
 returns-3 c = let t = c .before .before .before .before .before .before .before in let s = t .before .before .before .before .before .before in
     c .before .before .before .before .append .ensures ∙ ap (λ x. step x (found s)) (R.is-append (s .args .kind) (s .args .vip .0) (s .args .bytes .now) (t .if3 .taken))
 
-take-back-requires : tie.Need-take-back-requires
-take-back-requires c κs = search needs
+undo-requires : tie.Need-undo-requires
+undo-requires c κs = search needs
 
 same-length-7 : tie.Need-same-length-7
 same-length-7 c = search needs
@@ -61,7 +61,7 @@ same-length-8 c = search needs
 
 returns-4 : tie.Need-returns-4
 returns-4 c = let t = c .before .before .before .before .before .before .before in let s = t .before .before .before .before .before .before in
-    c .before .before .before .before .take-back .ensures
+    c .before .before .before .before .undo .ensures
     ∙ ap (λ x. step x (found s)) (R.is-undo (s .args .kind) (s .args .vip .0) (s .args .bytes .now) (t .before .before .if1 .left) (t .before .if2 .left) (t .if3 .left))
 
 pub call-spec : {M : Type 1} → statement M
@@ -80,7 +80,7 @@ call-spec =
     same-length-5
     same-length-6
     returns-3
-    take-back-requires
+    undo-requires
     same-length-7
     same-length-8
     returns-4)
