@@ -1,0 +1,3 @@
+pub mod Words
+pub mod Runs
+pub mod Every

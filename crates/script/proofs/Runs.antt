@@ -1,0 +1,149 @@
+-- A run of calls: one call at a time, from the opening on, and that it is what the machine does. The first by computing; the second since the words
+-- fit 64 bits and the texts are bytes, so that the calls are among those of which the third demand is proved.
+-- Assumes nothing.
+use mathlib.Core.Path.{_≡_, refl, sym, ap, ap₂, _∙_}
+use mathlib.Core.Bool.{Bool, true, false}
+use mathlib.Core.List.{List, [], _∷_}
+use Prim.Native.Nat.{ℕ, zero, suc, _+_, _-_, _≤_, _<_, _^_}
+use native.Mathlib.Omega.{arith}
+use lib.ListN.{length, take, drop, getD}
+use lib.Dec.{eqb}
+use borrow.Author.Tests.{eq-eqb, ne-eqb}
+use Rattle.fields.specs.Parse.{choose}
+use Rattle.fields.specs.Outcome.{Outcome, refused, accepted}
+use Rattle.machine.specs.Edits.{create, remove, append}
+use Rattle.machine.specs.Machine.{Call, edit, undo, Answer}
+use Rattle.machine.specs.Book.{State, unopened, open-book, step, run}
+use Rattle.machine.specs.Demand.{Bytes, Sendable, Every, Opening}
+use Rattle.demand.proofs.Theorem.{follows}
+use Rattle.script.specs.Script.{is-script, call-of, between, call-at, calls, last-of, ran, after-opening, replayed}
+use Rattle.script.specs.Replays.{Agrees, Replays}
+use Rattle.script.proofs.Words.{none-left, calls-are, more, still}
+
+-- which call the code makes
+module _ (kind vip : ℕ) (bytes : List ℕ) where
+  pub is-create : kind ≡ 0 → edit (create vip) ≡ call-of kind vip bytes
+  unfolding call-of choose
+  is-create h = rw h
+
+  pub is-remove : kind ≡ 1 → edit (remove vip) ≡ call-of kind vip bytes
+  unfolding call-of choose
+  is-remove h = rw h
+
+  pub is-append : kind ≡ 2 → edit (append vip bytes) ≡ call-of kind vip bytes
+  unfolding call-of choose
+  is-append h = rw h
+
+  pub is-undo : (kind ≡ 0 → ⊥) → (kind ≡ 1 → ⊥) → (kind ≡ 2 → ⊥) → undo ≡ call-of kind vip bytes
+  unfolding call-of choose
+  is-undo a b c = rw (ne-eqb kind 0 a, ne-eqb kind 1 b, ne-eqb kind 2 c)
+
+-- what an answer says, by its number
+pub refused-is : {A : Type 0} (k : ℕ) (a : Outcome A) → (k ≡ 0 → ⊥) → choose (eqb k 0) a (refused k) ≡ refused k
+unfolding choose
+refused-is k a h = rw (ne-eqb k 0 h)
+
+pub accepted-is : {A : Type 0} (k : ℕ) (a b : Outcome A) → k ≡ 0 → choose (eqb k 0) a b ≡ a
+unfolding choose
+accepted-is k a b h = rw (eq-eqb k 0 h)
+
+-- after the last call, and one call before others
+pub ran-none : (x : Answer × State) → ran x [] ≡ x
+unfolding ran run last-of
+ran-none x = refl
+
+pub ran-one : (x : Answer × State) (c : Call) (cs : List Call) → ran x (c ∷ cs) ≡ ran (step c (x .1)) cs
+unfolding ran run last-of
+ran-one x c cs = refl
+
+-- The loop at an offset: x is what the opening left, and y what the calls before the offset did. The calls that are left do to y what all do to x
+pub record Reached (words texts : List ℕ) (x y : Answer × State) (at : ℕ) : Type 0 where
+  pub within : at ≤ length words
+  pub script : is-script (drop at words) texts ≡ true
+  pub same : ran y (calls (drop at words) texts) ≡ ran x (calls words texts)
+
+module _ (words texts : List ℕ) (x : Answer × State) where
+  pub begun : is-script words texts ≡ true → Reached words texts x x 0
+  begun h = record { within = omega arith; script = h; same = refl }
+
+  module _ (y : Answer × State) (at : ℕ) (g : Reached words texts x y at) where
+    pub next : (z : Answer × State) → at < length words → z ≡ step (call-at words texts at) (y .1) → Reached words texts x z (at + 4)
+    next z h e =
+        let c = calls-are words texts at (more words texts at h (g .script)) in
+        record {
+          within = more words texts at h (g .script);
+          script = still words texts at h (g .script);
+          same = ap (λ u. ran u (calls (drop (at + 4) words) texts)) e
+              ∙ sym (ran-one y (call-at words texts at) (calls (drop (at + 4) words) texts))
+              ∙ ap (ran y) (sym c)
+              ∙ g .same;
+        }
+
+    pub ended : length words ≤ at → y ≡ ran x (calls words texts)
+    unfolding calls
+    ended h = sym (ran-none y) ∙ ap (λ u. ran y (calls u texts)) (sym (none-left words texts at (g .within) h)) ∙ g .same
+
+-- what is replayed, by what the code found
+module _ (file image journal words texts : List ℕ) where
+  pub no-script : is-script words texts ≡ false
+      → _≡_ {A = Answer × State} (refused 15, record { image = image; journal = journal; book = record { written = 0; used = 0 } }) (replayed file image journal words texts)
+  unfolding replayed unopened choose
+  no-script h = rw h
+
+  module _ (h : is-script words texts ≡ true) (x : Answer × State) (e : x ≡ open-book file image journal) where
+    pub not-opened : {k : ℕ} → x .0 ≡ refused k → x ≡ replayed file image journal words texts
+    unfolding replayed choose after-opening
+    not-opened {k} r = rw (h, ← e, r)
+
+    pub opened-ran : {b : _} → x .0 ≡ accepted b → ran x (calls words texts) ≡ replayed file image journal words texts
+    unfolding replayed choose after-opening
+    opened-ran {b} a = rw (h, ← e, a)
+
+-- the calls can be sent
+bytes-take : (n : ℕ) (s : List ℕ) → Bytes s → Bytes (take n s)
+bytes-take zero s b i = omega arith
+bytes-take (suc n) [] b i = omega arith
+bytes-take (suc n) (x ∷ s) b zero = b 0
+bytes-take (suc n) (x ∷ s) b (suc i) = bytes-take n s (λ k. b (suc k)) i
+
+bytes-drop : (n : ℕ) (s : List ℕ) → Bytes s → Bytes (drop n s)
+bytes-drop zero s b i = b i
+bytes-drop (suc n) [] b i = omega arith
+bytes-drop (suc n) (x ∷ s) b i = bytes-drop n s (λ k. b (suc k)) i
+
+sent-one : (vip : ℕ) (bytes : List ℕ) → vip < 2 ^ 64 → Bytes bytes → (t u v : Bool)
+    → Sendable (choose t (edit (create vip)) (choose u (edit (remove vip)) (choose v (edit (append vip bytes)) undo)))
+unfolding choose
+sent-one vip bytes h b true u v = h
+sent-one vip bytes h b false true v = h
+sent-one vip bytes h b false false true = (h, b)
+sent-one vip bytes h b false false false = tt
+
+pub sent : (words texts : List ℕ) → ((i : ℕ) → getD words i 0 < 2 ^ 64) → Bytes texts → Every Sendable (calls words texts)
+unfolding calls call-of
+sent [] texts w b = tt
+sent (kind ∷ []) texts w b = tt
+sent (kind ∷ vip ∷ []) texts w b = tt
+sent (kind ∷ vip ∷ begin ∷ []) texts w b = tt
+sent (kind ∷ vip ∷ begin ∷ end ∷ words) texts w b = (
+  sent-one vip (between begin end texts) (w 1) (bytes-take (end - begin) (drop begin texts) (bytes-drop begin texts b)) (eqb kind 0) (eqb kind 1) (eqb kind 2),
+  sent words texts (λ i. w (suc (suc (suc (suc i))))) b,
+)
+
+-- an accepted opening and a list of calls that can be sent: the machine's answer and state
+agrees : (o : Opening) (cs : List Call) → Every Sendable cs → Agrees o cs (ran (open-book (o .file) (o .image) (o .journal)) cs)
+unfolding ran
+agrees o cs f =
+    let g = follows o cs f in
+    record { answer = ap₂ last-of (o .accepts) (g .answers); image = g .image; written = g .written; used = g .used }
+
+module _ (file image journal words texts : List ℕ) (w : (i : ℕ) → getD words i 0 < 2 ^ 64) (b : Bytes texts) (x : Answer × State) (e : x ≡ replayed file image journal words texts) where
+  claim : (o : Opening) → o .file ≡ file → o .image ≡ image → o .journal ≡ journal → is-script words texts ≡ true → Agrees o (calls words texts) x
+  claim o p q r h =
+      let y = open-book (o .file) (o .image) (o .journal) in
+      let z : open-book (o .file) (o .image) (o .journal) ≡ open-book file image journal = rw (p, q, r) in
+      let n : x ≡ ran y (calls words texts) = e ∙ sym (opened-ran file image journal words texts h y z (o .accepts)) in
+      rw n (agrees o (calls words texts) (sent words texts w b))
+
+  pub replays : Replays file image journal words texts x
+  replays = record { is = e; claim = claim }

@@ -1,0 +1,113 @@
+-- The words of a script, four at a time: what the call at an offset says, and what is left after it. By taking the list apart there.
+-- Assumes nothing.
+use mathlib.Core.Path.{_≡_, refl, sym, ap, _∙_}
+use mathlib.Core.Bool.{Bool, true, false, _&&_}
+use mathlib.Core.List.{List, [], _∷_}
+use Prim.Native.Nat.{ℕ, _+_, _-_, _≤_, _<_}
+use native.Mathlib.Omega.{arith}
+use native.Mathlib.Numerals.{add-one}
+use lib.ListN.{length, drop, getD, length-drop}
+use lib.Seq.{drop-cons, drop-length}
+use lib.Dec.{leb}
+use borrow.Author.Tests.{le-leb, lt-leb, leb-true}
+use Rattle.script.specs.Script.{is-script, call-at, Sits, calls}
+
+pub both : (t u : Bool) → (t && u) ≡ true → (t ≡ true) × (u ≡ true)
+both true u q = (refl, q)
+both false u q = let z : _≡_ {A = ℕ} 0 1 = cc in absurd (omega arith)
+
+-- fewer than four words are left, and not none
+pub too-few : (words texts : List ℕ) → 0 < length words → length words < 4 → is-script words texts ≡ false
+unfolding is-script
+too-few [] texts h k = absurd (omega arith)
+too-few (kind ∷ []) texts h k = refl
+too-few (kind ∷ vip ∷ []) texts h k = refl
+too-few (kind ∷ vip ∷ begin ∷ []) texts h k = refl
+too-few (kind ∷ vip ∷ begin ∷ end ∷ words) texts h k = absurd (omega arith)
+
+enough : (words texts : List ℕ) → 0 < length words → is-script words texts ≡ true → 4 ≤ length words
+unfolding is-script
+enough [] texts h s = absurd (omega arith)
+enough (kind ∷ []) texts h s = let z : _≡_ {A = ℕ} 0 1 = cc in absurd (omega arith)
+enough (kind ∷ vip ∷ []) texts h s = let z : _≡_ {A = ℕ} 0 1 = cc in absurd (omega arith)
+enough (kind ∷ vip ∷ begin ∷ []) texts h s = let z : _≡_ {A = ℕ} 0 1 = cc in absurd (omega arith)
+enough (kind ∷ vip ∷ begin ∷ end ∷ words) texts h s = omega arith
+
+module _ (words texts : List ℕ) where
+  pub none-left : (at : ℕ) → at ≤ length words → length words ≤ at → drop at words ≡ []
+  none-left at h k = let e : at ≡ length words = omega arith in ap (λ n. drop n words) e ∙ drop-length words
+
+  module _ (at : ℕ) (h : at + 4 ≤ length words) where
+    abbrev kind : ℕ
+    kind = getD words at 0
+
+    abbrev vip : ℕ
+    vip = getD words (at + 1) 0
+
+    abbrev begin : ℕ
+    begin = getD words (at + 2) 0
+
+    abbrev end : ℕ
+    end = getD words (at + 3) 0
+
+    one : (n : ℕ) → n < length words → drop n words ≡ getD words n 0 ∷ drop (n + 1) words
+    one n k = rw (add-one n) (drop-cons words n 0 k)
+
+    four : drop at words ≡ kind ∷ vip ∷ begin ∷ end ∷ drop (at + 4) words
+    four =
+        let a : at + 1 + 1 ≡ at + 2 = omega arith in
+        let b : at + 2 + 1 ≡ at + 3 = omega arith in
+        let c : at + 3 + 1 ≡ at + 4 = omega arith in
+        let w : drop at words ≡ kind ∷ drop (at + 1) words = one at (omega arith) in
+        let x : drop (at + 1) words ≡ vip ∷ drop (at + 2) words = one (at + 1) (omega arith) ∙ ap (λ n. vip ∷ drop n words) a in
+        let y : drop (at + 2) words ≡ begin ∷ drop (at + 3) words = one (at + 2) (omega arith) ∙ ap (λ n. begin ∷ drop n words) b in
+        let z : drop (at + 3) words ≡ end ∷ drop (at + 4) words = one (at + 3) (omega arith) ∙ ap (λ n. end ∷ drop n words) c in
+        cc
+
+    pub tests : is-script (drop at words) texts ≡ leb kind 3 && (leb begin end && (leb end (length texts) && is-script (drop (at + 4) words) texts))
+    unfolding is-script
+    tests = rw four
+
+    pub wrong-kind : 3 < kind → is-script (drop at words) texts ≡ false
+    wrong-kind k = rw (tests, lt-leb kind 3 k)
+
+    pub wrong-order : kind ≤ 3 → end < begin → is-script (drop at words) texts ≡ false
+    wrong-order k o = rw (tests, le-leb kind 3 k, lt-leb begin end o)
+
+    pub outside : kind ≤ 3 → begin ≤ end → length texts < end → is-script (drop at words) texts ≡ false
+    outside k o i = rw (tests, le-leb kind 3 k, le-leb begin end o, lt-leb end (length texts) i)
+
+    pub well : kind ≤ 3 → begin ≤ end → end ≤ length texts → is-script (drop at words) texts ≡ is-script (drop (at + 4) words) texts
+    well k o i = rw (tests, le-leb kind 3 k, le-leb begin end o, le-leb end (length texts) i)
+
+    pub calls-are : calls (drop at words) texts ≡ call-at words texts at ∷ calls (drop (at + 4) words) texts
+    unfolding calls
+    calls-are = rw four
+
+  -- a script that has not ended has a whole call there
+  pub more : (at : ℕ) → at < length words → is-script (drop at words) texts ≡ true → at + 4 ≤ length words
+  more at h s =
+      let l : 0 < length (drop at words) = omega (arith, length-drop at words) in
+      omega (arith, enough (drop at words) texts l s, length-drop at words)
+
+  module _ (at : ℕ) (h : at < length words) (s : is-script (drop at words) texts ≡ true) where
+    abbrev whole : at + 4 ≤ length words
+    whole = more at h s
+
+    passed : (leb (getD words (at + 2) 0) (getD words (at + 3) 0) ≡ true)
+        × (leb (getD words (at + 3) 0) (length texts) && is-script (drop (at + 4) words) texts) ≡ true
+    passed = both (leb (getD words (at + 2) 0) (getD words (at + 3) 0)) _ (both (leb (getD words at 0) 3) _ (sym (tests at whole) ∙ s) .1)
+
+    left : (leb (getD words (at + 3) 0) (length texts) ≡ true) × (is-script (drop (at + 4) words) texts ≡ true)
+    left = both (leb (getD words (at + 3) 0) (length texts)) _ (passed .1)
+
+    pub sits : Sits words texts at
+    sits =
+        record {
+          whole = whole;
+          ordered = leb-true _ _ (passed .0);
+          inside = leb-true _ _ (left .0);
+        }
+
+    pub still : is-script (drop (at + 4) words) texts ≡ true
+    still = left .1
