@@ -294,13 +294,17 @@ vtil_answer vtil_undo(vtil_book book, uint8_t *image, size_t image_len, uint8_t 
  * same.
  *
  *   words      four for each call: its kind (0 create, 1 remove, 2 append, 3
- *              undo), its vip, and where its bytes begin and end in `texts`. Words
- *              that a kind has no use for are ignored.
+ *              undo), its vip, and where its bytes begin and end in `texts`. A
+ *              kind that has no use for the vip or the bytes ignores them; 0 and 0
+ *              do for the bytes.
  *   words_len  the number of words, not of bytes: four times the number of calls.
  *   texts      the bytes of the instructions to append.
  *
  * Answers what the last call answers; where the list is empty or the opening is
- * refused, what the opening answers.
+ * refused, what the opening answers. Words that are no list of calls (not four for
+ * each, a kind over 3, or bytes that do not begin at or before their end within
+ * the texts) are refused 15 before all else: nothing is opened or changed, and the
+ * book answered is one of zeros.
  */
 vtil_answer vtil_run(const uint8_t *file, size_t file_len, uint8_t *image, size_t image_len, uint8_t *journal,
                      size_t journal_len, const uint64_t *words, size_t words_len, const uint8_t *texts,

@@ -262,16 +262,19 @@ static void odd_runs(void)
     end();
 }
 
+/* The words are a list of calls, with at most the one call; or they are none, and call is NULL where they are not empty. */
 static void hold_words(const uint64_t *words, size_t count, const struct ref_call *call)
 {
     static struct bytes smallest;
     static const uint8_t texts[4] = {1, 0, 0, 0};
+    vtil_answer want = {VTIL_NO_SUCH_BLOCK, {0, 0}};
     smallest.len = 0;
     put_front(&smallest);
     put(&smallest, 4, 0);
     lend_book(200, 60);
     ref_forget();
-    vtil_answer want = ref_open(&twin, smallest.at, smallest.len);
+    if (count == 0 || call != NULL)
+        want = ref_open(&twin, smallest.at, smallest.len);
     if (call != NULL)
         want = ref_step(&twin, call);
     next_case();
@@ -281,27 +284,30 @@ static void hold_words(const uint64_t *words, size_t count, const struct ref_cal
     hold_bytes();
 }
 
-/* What no list of calls has: the words are read in this way all the same, and never outside the texts. */
+/* Words that are no list of calls are refused before anything is opened, and nothing is read outside the texts. */
 static void odd_words(void)
 {
     uint64_t odd[EXTREMES];
-    begin("vtil_run: parts that are not in the texts count as empty, fewer than four words as no call, other kinds as undo");
+    begin("vtil_run: parts outside the texts, other kinds and words that do not come in fours are refused 15, and nothing changes");
     extremes(4, odd);
     for (int i = 0; i < EXTREMES; i++) {
         for (int j = 0; j < EXTREMES; j++) {
             uint64_t words[4] = {REF_APPEND, 5, odd[i], odd[j]};
             if (odd[i] <= odd[j] && odd[j] <= 4)
                 continue;
-            struct ref_call call = call_of(REF_APPEND, 5);
-            hold_words(words, 4, &call);
+            hold_words(words, 4, NULL);
+            words[0] = REF_CREATE;
+            hold_words(words, 4, NULL);
         }
         uint64_t words[4] = {odd[i], 5, 0, 0};
-        struct ref_call undo = call_of(REF_UNDO, 5);
-        if (odd[i] > 2)
-            hold_words(words, 4, &undo);
-        uint64_t create[4] = {REF_CREATE, 5, odd[i], 0};
+        if (odd[i] > 3)
+            hold_words(words, 4, NULL);
+        uint64_t create[4] = {REF_CREATE, 5, 0, 0};
         hold_words(create, (size_t)i % 4, NULL);
     }
+    uint64_t undo_words[4] = {REF_UNDO, 5, 4, 4};
+    struct ref_call undo = call_of(REF_UNDO, 5);
+    hold_words(undo_words, 4, &undo);
     end();
 }
 

@@ -4,12 +4,15 @@ ghost use Prim.Native.Nat.{_<_, _^_};
 ghost use lib.IntN.{pos};
 ghost use lib.ListN.{length};
 ghost use Rattle.pod.specs.Descs.{writing, written-over};
-ghost use Rattle.machine.specs.Book.{open-book};
+ghost use Rattle.machine.specs.Edits.{create, remove, append};
+ghost use Rattle.machine.specs.Machine.{edit, undo};
+ghost use Rattle.machine.specs.Book.{open-book, step};
 ghost use Rattle.machine.specs.Look.{look-routine, look-block, look-instruction, look-vip, look-convention, look-register};
 ghost use Rattle.book.specs.Says.{state, outcome};
 ghost use Rattle.look.specs.Answers.{routine-look, block-look, instruction-look, vip-look};
 ghost use Rattle.look_convention.specs.Answers.{convention-look, register-look};
 ghost use Rattle.writer.specs.Answers.{write-answer};
+ghost use Rattle.script.specs.Replays.{Replays};
 ghost use Rattle.vtil.specs.Check.{check-file};
 use book::Answer;
 use book::Book;
@@ -21,6 +24,7 @@ use look::VipLook;
 use look_convention::ConventionLook;
 use look_convention::RegisterLook;
 use pod::InstructionDesc;
+use pod::Vip;
 use writer::Written;
 
 // The most that a slice's length can be: 2^63 - 1. A C caller may hand in more.
@@ -130,4 +134,53 @@ pub extern "C" fn vtil_convention_register(
     ensures { λ r. ⌜ r ≡ register-look (look-register convention list place (state (now (image .entry)) (now (journal .entry)) book)) ⌝ }
 {
     look_convention::look_register(book, image, journal, convention, list, place)
+}
+
+// The edits, and undo: document 01's take back.
+#[no_mangle]
+pub extern "C" fn vtil_create_block(book: Book, image: &mut [u8], journal: &mut [u8], vip: u64) -> Answer
+    ensures { λ r. ⌜ outcome r (now (image .exit)) (now (journal .exit)) ≡ step (edit (create vip)) (state (now (image .entry)) (now (journal .entry)) book) ⌝ }
+{
+    calls::create_block(book, image, journal, Vip(vip))
+}
+
+#[no_mangle]
+pub extern "C" fn vtil_remove_block(book: Book, image: &mut [u8], journal: &mut [u8], vip: u64) -> Answer
+    ensures { λ r. ⌜ outcome r (now (image .exit)) (now (journal .exit)) ≡ step (edit (remove vip)) (state (now (image .entry)) (now (journal .entry)) book) ⌝ }
+{
+    calls::remove_block(book, image, journal, Vip(vip))
+}
+
+#[no_mangle]
+pub extern "C" fn vtil_append(
+    book: Book,
+    image: &mut [u8],
+    journal: &mut [u8],
+    vip: u64,
+    instruction: &[u8],
+) -> Answer
+    ensures { λ r. ⌜ outcome r (now (image .exit)) (now (journal .exit)) ≡ step (edit (append vip (now (instruction .entry)))) (state (now (image .entry)) (now (journal .entry)) book) ⌝ }
+{
+    calls::append(book, image, journal, Vip(vip), instruction)
+}
+
+#[no_mangle]
+pub extern "C" fn vtil_undo(book: Book, image: &mut [u8], journal: &mut [u8]) -> Answer
+    ensures { λ r. ⌜ outcome r (now (image .exit)) (now (journal .exit)) ≡ step undo (state (now (image .entry)) (now (journal .entry)) book) ⌝ }
+{
+    calls::undo(book, image, journal)
+}
+
+// Opens a file and runs a list of calls on it: demand 3 is its contract.
+#[no_mangle]
+pub extern "C" fn vtil_run(
+    file: &[u8],
+    image: &mut [u8],
+    journal: &mut [u8],
+    words: &[u64],
+    texts: &[u8],
+) -> Answer
+    ensures { λ r. ⌜ Replays (now (file .entry)) (now (image .entry)) (now (journal .entry)) (now (words .entry)) (now (texts .entry)) (outcome r (now (image .exit)) (now (journal .exit))) ⌝ }
+{
+    script::run(file, image, journal, words, texts)
 }
