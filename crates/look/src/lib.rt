@@ -1,11 +1,9 @@
 // Looking at a book, by place from 0: at its routine, a block, one of a block's instructions or vips. Each look inspects the book first, so the
 // order is 10, 13, 15; it hands no book back, and image and journal are lent read-only. With a refusal the other fields of an answer are 0.
 ghost use mathlib.Core.Path.{_≡_};
-ghost use mathlib.Core.Bool.{Bool};
 ghost use Prim.Native.Nat.{ℕ, _<_};
 ghost use lib.ListN.{length};
 ghost use Rattle.pod.specs.Values.{Routine};
-ghost use Rattle.machine.specs.Edits.{block-at};
 ghost use Rattle.machine.specs.Look.{look-routine, look-block, look-instruction, look-vip};
 ghost use Rattle.book.specs.Says.{state};
 ghost use Rattle.book.specs.Holding.{Holding, block-start};

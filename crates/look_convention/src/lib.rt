@@ -1,7 +1,7 @@
 // Looking at a book's conventions, by place from 0: convention 0 is the routine's, 1 the subroutine's, then the special ones. As in crate `look`,
 // the order is 10, 13, 15, and with a refusal the other fields of an answer are 0.
 ghost use mathlib.Core.Path.{_≡_};
-ghost use Prim.Native.Nat.{ℕ, _+_, _≤_, _<_};
+ghost use Prim.Native.Nat.{_+_, _≤_};
 ghost use lib.ListN.{length};
 ghost use Rattle.fields.specs.Outcome.{refused};
 ghost use Rattle.pod.specs.Values.{RoutineConvention};
