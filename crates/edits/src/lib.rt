@@ -92,6 +92,7 @@ fn append_whole(
     let written = book.written as usize;
     let used = book.used as usize;
     let size = instruction.len();
+    let cost = trailer::TRAILER_SIZE;
     let spot = image::find(image, vip);
     let place = spot.place;
     let at = spot.at;
@@ -107,7 +108,7 @@ fn append_whole(
             book,
         };
     }
-    if journal.len() - used < trailer::TRAILER_SIZE {
+    if journal.len() - used < cost {
         return Answer {
             refusal: book::JOURNAL_FULL,
             book,
@@ -123,7 +124,7 @@ fn append_whole(
         refusal: 0,
         book: Book {
             written: (written + size) as u64,
-            used: (used + trailer::TRAILER_SIZE) as u64,
+            used: (used + cost) as u64,
         },
     }
 }

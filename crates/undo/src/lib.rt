@@ -3,8 +3,9 @@
 // Each function has a `requires` that the state is sound, or that an image holds a block: they are for the crate above, whose call inspects the lent
 // image and the book first, and reads the trailer.
 ghost use mathlib.Core.Path.{_≡_};
-ghost use Prim.Native.Nat.{_+_, _≤_};
+ghost use Prim.Native.Nat.{_+_, _-_, _≤_};
 ghost use lib.ListN.{length};
+ghost use Rattle.fields.specs.Bytes.{put, zeros};
 ghost use Rattle.fields.specs.Outcome.{accepted};
 ghost use Rattle.pod.specs.Values.{BasicBlock, Routine};
 ghost use Rattle.pod.specs.Written.{block-bytes};
@@ -41,6 +42,16 @@ fn is_fresh(image: &[u8], at: usize) -> bool
         return false;
     }
     walk::word32(image, at + 32) == 0
+}
+
+// The last entry, which is a trailer alone, becomes zeros. Answers how much of the journal is used before it.
+fn clear_entry(journal: &mut [u8], used: usize) -> usize
+    requires { ⌜ (20 ≤ used) × (used ≤ length (now journal)) ⌝ }
+    ensures { λ r. ⌜ (r ≡ used - 20) × (now (journal .exit) ≡ put (used - 20) (zeros 20) (now (journal .entry))) ⌝ }
+{
+    let before = used - trailer::TRAILER_SIZE;
+    buffer::clear(journal, before, used);
+    before
 }
 
 // Taking back a create: the last block, which must be the one that was created and as it was then, becomes zeros.
@@ -80,12 +91,12 @@ pub fn undo_create(book: Book, image: &mut [u8], journal: &mut [u8], last: Trail
     }
     buffer::clear(image, at, written);
     buffer::put_u32(image, start - 4, place);
-    buffer::clear(journal, used - trailer::TRAILER_SIZE, used);
+    let before = clear_entry(journal, used);
     Answer {
         refusal: 0,
         book: Book {
             written: at as u64,
-            used: (used - trailer::TRAILER_SIZE) as u64,
+            used: before as u64,
         },
     }
 }
@@ -131,12 +142,12 @@ pub fn undo_append(book: Book, image: &mut [u8], journal: &mut [u8], last: Trail
     buffer::move_within(image, end, from, written - end);
     buffer::clear(image, written - size, written);
     buffer::put_u32(image, at + edits::COUNT_AT, count - 1);
-    buffer::clear(journal, used - trailer::TRAILER_SIZE, used);
+    let before = clear_entry(journal, used);
     Answer {
         refusal: 0,
         book: Book {
             written: (written - size) as u64,
-            used: (used - trailer::TRAILER_SIZE) as u64,
+            used: before as u64,
         },
     }
 }

@@ -154,14 +154,8 @@ sub-put-u32 c = omega (arith, begins (c .before .before .before .before .before 
 put-u32-requires : tie.Need-put-u32-requires
 put-u32-requires c κs = let s = (c .before .before .before .before .before .before .before .before .before .before .before .before .before .before .before .before .before .before .before .before .before .before) in omega (arith, begins (c .before .before .before .before .before .before .before .before .before .before .before .before .before .before .before .before), routine-size (R s), s .pre .0 .sound .room, c .before .before .before .clear .kept .0)
 
-sub-clear : tie.Need-sub-clear
-sub-clear c = search needs
-
-clear-requires-2 : tie.Need-clear-requires-2
-clear-requires-2 c κs = let s = (c .before .before .before .before .before .before .before .before .before .before .before .before .before .before .before .before .before .before .before .before .before .before .before .before .before .before) in (omega (arith, s .pre .1), omega (arith, s .pre .0 .sound .used))
-
-sub-t14 : tie.Need-sub-t14
-sub-t14 c = search needs
+clear-entry-requires : tie.Need-clear-entry-requires
+clear-entry-requires c κs = let s = (c .before .before .before .before .before .before .before .before .before .before .before .before .before .before .before .before .before .before .before .before .before .before .before .before .before .before) in (s .pre .1, s .pre .0 .sound .used)
 
 same-length-4 : tie.Need-same-length-4
 same-length-4 c = search needs
@@ -173,8 +167,8 @@ returns-5 : tie.Need-returns-5
 unfolding choose
 returns-5 c =
     let s = (c .before .before .before .before .before .before .before .before .before .before .before .before .before .before .before .before .before .before .before .before .before .before .before .before .before .before .before .before .before) in
-    over s _ (U.create-final (S s) (R s) (s .pre .0 .sound) (T s) (c .before .before .before .before .before .before .before .before .before .before .before .before .before .before .before .before .before .before .before .before .before .before .before .before .before .if1 .left) (last-place (c .before .before .before .before .before .before .before .before .before .before .before .before .before .before .before .before .before .before .before .before .before)) (sym (vip-read (c .before .before .before .before .before .before .before .before .before .before .before .before .before .before .before .before .before)) ∙ c .before .before .before .before .before .before .before .before .before .before .before .before .before .before .before .if3 .left) (sym (fresh (c .before .before .before .before .before .before .before .before .before .before .before .before .before)) ∙ not-false _ (c .before .before .before .before .before .before .before .before .before .before .before .before .if4 .left)) (s .pre .1)
-    _ _ _ _ _ (placed (c .before .before .before .before .before .before .before .before .before .before .before .before .before .before .before .before .before .before .before)) (begins (c .before .before .before .before .before .before .before .before .before .before .before .before .before .before .before .before .before .before .before .before .before .before .before)) (c .before .before .before .before .before .before .before .before .before .before .clear .ensures) (c .before .before .before .before .before .before .put-u32 .ensures) (c .before .before .clear2 .ensures))
+    over s _ (U.create-final (S s) (R s) (s .pre .0 .sound) (T s) (c .before .before .before .before .before .before .before .before .before .before .before .before .before .before .before .before .before .before .before .before .before .before .before .before .before .if1 .left) (last-place (c .before .before .before .before .before .before .before .before .before .before .before .before .before .before .before .before .before .before .before .before .before)) (sym (vip-read (c .before .before .before .before .before .before .before .before .before .before .before .before .before .before .before .before .before)) ∙ c .before .before .before .before .before .before .before .before .before .before .before .before .before .before .before .if3 .left) (sym (fresh (c .before .before .before .before .before .before .before .before .before .before .before .before .before)) ∙ not-false _ (c .before .before .before .before .before .before .before .before .before .before .before .before .if4 .left))
+    _ _ _ _ _ _ (placed (c .before .before .before .before .before .before .before .before .before .before .before .before .before .before .before .before .before .before .before)) (begins (c .before .before .before .before .before .before .before .before .before .before .before .before .before .before .before .before .before .before .before .before .before .before .before)) (c .before .before .clear-entry .ensures .0) (c .before .before .before .before .before .before .before .before .before .before .clear .ensures) (c .before .before .before .before .before .before .put-u32 .ensures) (c .before .before .clear-entry .ensures .1))
 
 pub undo-create-spec : {M : Type 1} → statement M
 undo-create-spec =
@@ -198,9 +192,7 @@ undo-create-spec =
     clear-requires
     sub-put-u32
     put-u32-requires
-    sub-clear
-    clear-requires-2
-    sub-t14
+    clear-entry-requires
     same-length-4
     same-length-5
     returns-5)
