@@ -4,7 +4,7 @@
 use mathlib.Core.Path.{_≡_, refl, sym, ap, ap₂, _∙_}
 use mathlib.Core.Bool.{false}
 use mathlib.Core.List.{List, [], _∷_, _++_, append-assoc, append-nil}
-use Prim.Native.Nat.{ℕ, zero, suc, _+_, _-_, _≤_, _<_}
+use Prim.Native.Nat.{ℕ, suc, _+_, _-_, _≤_, _<_}
 use native.Mathlib.Omega.{arith}
 use lib.ListN.{length, take, drop, length-append, length-replicate}
 use lib.Dec.{eqb}
@@ -22,7 +22,7 @@ use Rattle.laws.proofs.Layouts.{instruction-layout, read-to, read-within}
 use Rattle.laws.proofs.Place.{many-append}
 use Rattle.laws.proofs.Sizes.{instruction-size}
 use Rattle.value.proofs.Refusal.{told-instruction}
-use Rattle.machine.specs.Edits.{append, edited, appended, place, change-at, append-to, with-blocks}
+use Rattle.machine.specs.Edits.{append, edited, appended, place, change-at, append-to}
 use Rattle.machine.specs.Machine.{Answer, edit, size}
 use Rattle.machine.specs.Journal.{trailer-bytes, entry, read-size}
 use Rattle.machine.specs.Book.{State, in-image, step}

@@ -1,12 +1,12 @@
 -- The written form of a routine cut at the block with a place, and there at the end of its instructions: what the edits that change a block leave
 -- before and after it. The cut is one law for every list of instructions that the block may have.
 -- Assumes nothing.
-use mathlib.Core.Path.{_≡_, refl, sym, ap, ap₂, _∙_}
+use mathlib.Core.Path.{_≡_, refl, sym, ap, _∙_}
 use mathlib.Core.List.{List, [], _∷_, _++_, append-assoc}
-use Prim.Native.Nat.{ℕ, zero, suc, _+_, _-_, _≤_, _<_}
+use Prim.Native.Nat.{ℕ, zero, suc, _+_, _≤_, _<_}
 use native.Mathlib.Nat.{not-suc-le-zero, le-of-suc-le-suc}
 use native.Mathlib.Omega.{arith}
-use lib.ListN.{length, take, drop, getD, length-append, replicate-append-replicate}
+use lib.ListN.{length, take, drop, length-append, replicate-append-replicate}
 use lib.Seq.{split-at}
 use Rattle.fields.specs.Bytes.{zeros}
 use Rattle.pod.specs.Values.{Instruction, BasicBlock, Routine}
@@ -16,8 +16,7 @@ use Rattle.laws.proofs.Place.{many-append}
 use Rattle.laws.proofs.Sizes.{block-head-size, vips-size}
 use Rattle.machine.specs.Edits.{block-at, change-at, with-instructions, with-blocks}
 use Rattle.machine.specs.Machine.{size}
-use Rattle.machine.specs.Book.{in-image}
-use Rattle.book.specs.Holding.{blocks-start, block-start}
+use Rattle.book.specs.Holding.{block-start}
 
 pub zeros-split : (n k m : ℕ) → n ≡ k + m → zeros n ≡ zeros k ++ zeros m
 zeros-split n k m h = ap zeros h ∙ sym (replicate-append-replicate k m 0)

@@ -1,12 +1,12 @@
 -- An instruction's bytes as they are stored: those that were read, the last, the sp reset, as 0 or 1.
 -- Assumes nothing.
 use mathlib.Core.Path.{_≡_, refl, sym, ap, ap₂, _∙_}
-use mathlib.Core.Bool.{Bool, true, false, not}
+use mathlib.Core.Bool.{false, not}
 use mathlib.Core.List.{List, [], _∷_, _++_}
-use Prim.Native.Nat.{ℕ, zero, suc, _+_, _-_, _≤_, _<_}
+use Prim.Native.Nat.{ℕ, suc, _+_, _-_, _≤_, _<_}
 use native.Mathlib.Omega.{arith}
 use lib.Dec.{eqb}
-use lib.ListN.{length, take, drop, getD, length-append, drop-of-length-le}
+use lib.ListN.{length, take, getD, length-append, drop-of-length-le}
 use lib.Seq.{split-at, length-take-le, take-length}
 use borrow.Author.Tests.{ne-eqb}
 use Rattle.fields.specs.Bytes.{put}

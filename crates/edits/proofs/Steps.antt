@@ -11,7 +11,7 @@ use lib.Dec.{leb, eqb}
 use borrow.Author.Tests.{le-leb, lt-leb}
 use Rattle.fields.specs.Bytes.{put}
 use Rattle.fields.specs.Parse.{choose}
-use Rattle.fields.specs.Outcome.{Outcome, refused, accepted}
+use Rattle.fields.specs.Outcome.{refused, accepted}
 use Rattle.pod.specs.Blocks.{vips, has}
 use Rattle.pod.specs.Values.{BasicBlock, Routine}
 use Rattle.machine.specs.Edits.{Edit, edited, present, place}

@@ -1,4 +1,4 @@
-// The edits create and append, in place.
+// The edits create and append, in place. The journal entry of either is a trailer alone.
 //
 // Each function has a `requires` that the state is sound: they are for the crate above, whose calls inspect the lent image and the book first.
 ghost use mathlib.Core.Path.{_≡_};
@@ -19,11 +19,8 @@ use pod::Vip;
 // An empty block: its vip, and 28 zeros.
 const EMPTY_BLOCK_SIZE: usize = 36;
 
-// What a create or an append costs of the journal: its entry is a trailer alone.
-const COST: usize = 20;
-
-// Where the count of its instructions stands in a block.
-const COUNT_AT: usize = 24;
+// In a block, where the count of its instructions stands.
+pub const COUNT_AT: usize = 24;
 
 // A block with the vip goes last. The image is zeros after the blocks, so of the new block only its vip is stored.
 pub fn create_block(book: Book, image: &mut [u8], journal: &mut [u8], vip: Vip) -> Answer
@@ -47,7 +44,7 @@ pub fn create_block(book: Book, image: &mut [u8], journal: &mut [u8], vip: Vip) 
             book,
         };
     }
-    if journal.len() - used < COST {
+    if journal.len() - used < trailer::TRAILER_SIZE {
         return Answer {
             refusal: book::JOURNAL_FULL,
             book,
@@ -57,12 +54,12 @@ pub fn create_block(book: Book, image: &mut [u8], journal: &mut [u8], vip: Vip) 
     let start = blocks.start;
     buffer::put_u64(image, written, v);
     buffer::put_u32(image, start - 4, count + 1);
-    trailer::put_trailer(journal, used, v, count, 0, 1);
+    trailer::put_trailer(journal, used, v, count, 0, trailer::CREATE);
     Answer {
         refusal: 0,
         book: Book {
             written: (written + EMPTY_BLOCK_SIZE) as u64,
-            used: (used + COST) as u64,
+            used: (used + trailer::TRAILER_SIZE) as u64,
         },
     }
 }
@@ -95,6 +92,7 @@ fn append_whole(
     let written = book.written as usize;
     let used = book.used as usize;
     let size = instruction.len();
+    let cost = trailer::TRAILER_SIZE;
     let spot = image::find(image, vip);
     let place = spot.place;
     let at = spot.at;
@@ -110,7 +108,7 @@ fn append_whole(
             book,
         };
     }
-    if journal.len() - used < COST {
+    if journal.len() - used < cost {
         return Answer {
             refusal: book::JOURNAL_FULL,
             book,
@@ -121,12 +119,12 @@ fn append_whole(
     buffer::move_within(image, end, end + size, written - end);
     put_instruction(image, end, instruction);
     buffer::put_u32(image, at + COUNT_AT, count + 1);
-    trailer::put_trailer(journal, used, v, place as u32, size as u32, 3);
+    trailer::put_trailer(journal, used, v, place as u32, size as u32, trailer::APPEND);
     Answer {
         refusal: 0,
         book: Book {
             written: (written + size) as u64,
-            used: (used + COST) as u64,
+            used: (used + cost) as u64,
         },
     }
 }

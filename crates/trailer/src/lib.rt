@@ -10,7 +10,7 @@ ghost use Rattle.fields.specs.Bytes.{put};
 ghost use Rattle.machine.specs.Journal.{trailer, trailer-bytes};
 ghost use Rattle.trailer.specs.Says.{named, trailer-of};
 
-// `kind` is that of the entry: 1 create, 2 remove, 3 append. `place` is the block's, and `length` the size of what was removed or appended.
+// `place` is the block's, and `length` the size of what was removed or appended.
 pub struct Trailer {
     pub vip: u64,
     pub place: u32,
@@ -20,6 +20,13 @@ pub struct Trailer {
 
 // The bytes of a trailer.
 pub const TRAILER_SIZE: usize = 20;
+
+// The kinds of entries, by the edit that wrote them.
+pub const CREATE: u32 = 1;
+
+pub const REMOVE: u32 = 2;
+
+pub const APPEND: u32 = 3;
 
 pub fn put_trailer(journal: &mut [u8], at: usize, vip: u64, place: u32, size: u32, kind: u32)
     requires { ⌜ at + 20 ≤ length (now journal) ⌝ }

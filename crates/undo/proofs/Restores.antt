@@ -27,16 +27,14 @@ unfolding restored
 spoiled s e = sym (ap (restored s) e)
 
 -- and of one that does, by the parts of the state that is left
-pub restored-to : (s : State) (r : Routine) {q : Outcome (Routine × ℕ)} → q ≡ accepted (r, 20) → 20 ≤ s .book .used
-    → (w : ℕ) (image journal : List ℕ) → w ≡ size r → image ≡ in-image (length (s .image)) r
-    → journal ≡ put (s .book .used - 20) (zeros (s .book .used - (s .book .used - 20))) (s .journal)
+pub restored-to : (s : State) (r : Routine) {q : Outcome (Routine × ℕ)} → q ≡ accepted (r, 20)
+    → (w u : ℕ) (image journal : List ℕ) → w ≡ size r → u ≡ s .book .used - 20 → image ≡ in-image (length (s .image)) r
+    → journal ≡ put (s .book .used - 20) (zeros 20) (s .journal)
     → _≡_ {A = Answer × State}
-    (accepted (record { written = w; used = s .book .used - 20 }), record { image = image; journal = journal; book = record { written = w; used = s .book .used - 20 } })
+    (accepted (record { written = w; used = u }), record { image = image; journal = journal; book = record { written = w; used = u } })
     (restored s q)
 unfolding restored
-restored-to s r e h w image journal ew ei ej =
-    let k : s .book .used - (s .book .used - 20) ≡ 20 = omega arith in
-    rw (e, ew, ei, ej, k)
+restored-to s r e w u image journal ew eu ei ej = rw (e, ew, eu, ei, ej)
 
 -- a block is within the written length
 pub block-fits : (s : State) (r : Routine) → Sound s r → (p : ℕ) → p < length (r .explored-blocks) → block-start r p + 36 ≤ s .book .written

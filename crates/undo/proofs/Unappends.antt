@@ -2,7 +2,7 @@
 -- it, and zeros stand where that ended.
 -- Assumes nothing.
 use mathlib.Core.Path.{_≡_, refl, sym, ap, ap₂, _∙_}
-use mathlib.Core.Bool.{Bool, true, false, _&&_}
+use mathlib.Core.Bool.{false}
 use mathlib.Core.List.{List, [], _∷_, _++_, append-assoc, append-nil}
 use Prim.Native.Nat.{ℕ, suc, _+_, _-_, _≤_, _<_}
 use native.Mathlib.Omega.{arith}
@@ -160,20 +160,20 @@ module _ (s : State) (r : Routine) (o : Sound s r) (t : Trailer) where
             = change-split (t .place) without-last (r .explored-blocks) h ∙ ap (λ b. take (t .place) (r .explored-blocks) ++ (b ∷ drop (suc (t .place)) (r .explored-blocks))) (without-final there k) in
             rw (lt-ltb (t .place) (length (r .explored-blocks)) h, eq-eqb (there .vip) (t .vip) e, final-size there k (t .length), eq-eqb (length (instruction-bytes (final there))) (t .length) f, c)
 
-        pub append-final : length (instruction-bytes (final there)) ≡ t .length → 20 ≤ s .book .used
-            → (at n from end : ℕ) (i₁ i₂ i₃ j : List ℕ) → at ≡ block-start r (t .place) → n ≡ length (there .instructions)
-            → from ≡ at + 28 + length (code-of (front there)) → end ≡ at + 28 + length (code-of (there .instructions))
+        pub append-final : length (instruction-bytes (final there)) ≡ t .length
+            → (at n from end u : ℕ) (i₁ i₂ i₃ j : List ℕ) → at ≡ block-start r (t .place) → n ≡ length (there .instructions)
+            → from ≡ at + 28 + length (code-of (front there)) → end ≡ at + 28 + length (code-of (there .instructions)) → u ≡ s .book .used - 20
             → i₁ ≡ put from (take (s .book .written - end) (drop end (s .image))) (s .image)
             → i₂ ≡ put (s .book .written - t .length) (zeros (s .book .written - (s .book .written - t .length))) i₁
             → i₃ ≡ put (at + 24) (bytes 4 (n - 1)) i₂
-            → j ≡ put (s .book .used - 20) (zeros (s .book .used - (s .book .used - 20))) (s .journal)
+            → j ≡ put (s .book .used - 20) (zeros 20) (s .journal)
             → _≡_ {A = Answer × State}
-            (accepted (record { written = s .book .written - t .length; used = s .book .used - 20 }), record { image = i₃; journal = j; book = record { written = s .book .written - t .length; used = s .book .used - 20 } })
+            (accepted (record { written = s .book .written - t .length; used = u }), record { image = i₃; journal = j; book = record { written = s .book .written - t .length; used = u } })
             (restored s (undo-append r t))
-        append-final f u at n from end i₁ i₂ i₃ j ea en ef ee e₁ e₂ e₃ e₄ =
+        append-final f at n from end u i₁ i₂ i₃ j ea en ef ee eu e₁ e₂ e₃ e₄ =
             let w = s .book .written in
-            restored-to s (without-one s r o (t .place) h k) (undoes f) u (w - t .length) i₃ j
-            (ap (λ m. w - m) (sym f) ∙ sym (without-size s r o (t .place) h k))
+            restored-to s (without-one s r o (t .place) h k) (undoes f) (w - t .length) u i₃ j
+            (ap (λ m. w - m) (sym f) ∙ sym (without-size s r o (t .place) h k)) eu
             (e₃ ∙ ap₂ (λ m i. put (at + 24) (bytes 4 (m - 1)) i) en (e₂ ∙ ap (put (w - t .length) (zeros (w - (w - t .length)))) e₁)
             ∙ unappended-image s r o (t .place) h k at from end (t .length) ea ef ee (sym f))
             e₄

@@ -1,12 +1,11 @@
 -- Taking back a create, by the tests that the code makes, and the image that it leaves: the last block becomes zeros, and the count one less.
 -- Assumes nothing.
-use mathlib.Core.Path.{_≡_, refl, sym, ap, ap₂, _∙_}
-use mathlib.Core.Bool.{Bool, true, false, _&&_}
-use mathlib.Core.List.{List, [], _∷_, _++_, append-assoc, append-nil}
+use mathlib.Core.Path.{_≡_, sym, ap, _∙_}
+use mathlib.Core.Bool.{Bool, true, false}
+use mathlib.Core.List.{List, _++_, append-assoc, append-nil}
 use Prim.Native.Nat.{ℕ, suc, _+_, _-_, _≤_, _<_}
 use native.Mathlib.Omega.{arith}
-use lib.Dec.{eqb}
-use lib.ListN.{length, take, drop, length-append, length-replicate, drop-of-length-le}
+use lib.ListN.{length, take, length-append, length-replicate, drop-of-length-le}
 use lib.Seq.{length-take-le}
 use borrow.Author.Tests.{eq-eqb, ne-eqb}
 use Rattle.fields.specs.Bytes.{zeros, put}
@@ -96,16 +95,16 @@ module _ (s : State) (r : Routine) (o : Sound s r) (t : Trailer) where
         unfolding choose
         create-changed e = spoiled s (by-fresh false e)
 
-        pub create-final : is-fresh there ≡ true → 20 ≤ s .book .used
-            → (at start : ℕ) (i₁ i₂ j : List ℕ) → at ≡ block-start r (t .place) → start ≡ blocks-start r
+        pub create-final : is-fresh there ≡ true
+            → (at start u : ℕ) (i₁ i₂ j : List ℕ) → at ≡ block-start r (t .place) → start ≡ blocks-start r → u ≡ s .book .used - 20
             → i₁ ≡ put at (zeros (s .book .written - at)) (s .image) → i₂ ≡ put (start - 4) (bytes 4 (t .place)) i₁
-            → j ≡ put (s .book .used - 20) (zeros (s .book .used - (s .book .used - 20))) (s .journal)
+            → j ≡ put (s .book .used - 20) (zeros 20) (s .journal)
             → _≡_ {A = Answer × State}
-            (accepted (record { written = at; used = s .book .used - 20 }), record { image = i₂; journal = j; book = record { written = at; used = s .book .used - 20 } })
+            (accepted (record { written = at; used = u }), record { image = i₂; journal = j; book = record { written = at; used = u } })
             (restored s (undo-create r t))
         unfolding choose
-        create-final f u at start i₁ i₂ j ea es e₄ e₅ e₆ =
-            restored-to s (up-to r (t .place)) (by-fresh true f) u at i₂ j (ea ∙ sym (up-to-size r (t .place) (omega arith)))
+        create-final f at start u i₁ i₂ j ea es eu e₄ e₅ e₆ =
+            restored-to s (up-to r (t .place)) (by-fresh true f) at u i₂ j (ea ∙ sym (up-to-size r (t .place) (omega arith))) eu
             (e₅ ∙ ap (put (start - 4) (bytes 4 (t .place))) e₄
             ∙ uncreated-image (length (s .image)) (s .image) (s .book .written) at start r (t .place) (o .image) (o .written) (omega (arith, o .written, o .room)) e₂ ea es)
             e₆

@@ -1,10 +1,11 @@
-// Taking back a create and an append, from the trailer of the journal's last entry.
+// Taking back a create and an append, from the trailer of the journal's last entry, which is all of that entry.
 //
 // Each function has a `requires` that the state is sound, or that an image holds a block: they are for the crate above, whose call inspects the lent
 // image and the book first, and reads the trailer.
 ghost use mathlib.Core.Path.{_≡_};
-ghost use Prim.Native.Nat.{_+_, _≤_};
+ghost use Prim.Native.Nat.{_+_, _-_, _≤_};
 ghost use lib.ListN.{length};
+ghost use Rattle.fields.specs.Bytes.{put, zeros};
 ghost use Rattle.fields.specs.Outcome.{accepted};
 ghost use Rattle.pod.specs.Values.{BasicBlock, Routine};
 ghost use Rattle.pod.specs.Written.{block-bytes};
@@ -18,12 +19,6 @@ ghost use Rattle.edits.specs.Held.{Held};
 use book::Answer;
 use book::Book;
 use trailer::Trailer;
-
-// What the entry of a create or an append takes of the journal.
-const COST: usize = 20;
-
-// Where the count of its instructions stands in a block.
-const COUNT_AT: usize = 24;
 
 // Whether the block at `at` is as create left it: no list has an element, and the fields before them but the vip are 0. Where a list is empty, the
 // count of the next follows its own.
@@ -47,6 +42,16 @@ fn is_fresh(image: &[u8], at: usize) -> bool
         return false;
     }
     walk::word32(image, at + 32) == 0
+}
+
+// The last entry, which is a trailer alone, becomes zeros. Answers how much of the journal is used before it.
+fn clear_entry(journal: &mut [u8], used: usize) -> usize
+    requires { ⌜ (20 ≤ used) × (used ≤ length (now journal)) ⌝ }
+    ensures { λ r. ⌜ (r ≡ used - 20) × (now (journal .exit) ≡ put (used - 20) (zeros 20) (now (journal .entry))) ⌝ }
+{
+    let before = used - trailer::TRAILER_SIZE;
+    buffer::clear(journal, before, used);
+    before
 }
 
 // Taking back a create: the last block, which must be the one that was created and as it was then, becomes zeros.
@@ -86,12 +91,12 @@ pub fn undo_create(book: Book, image: &mut [u8], journal: &mut [u8], last: Trail
     }
     buffer::clear(image, at, written);
     buffer::put_u32(image, start - 4, place);
-    buffer::clear(journal, used - COST, used);
+    let before = clear_entry(journal, used);
     Answer {
         refusal: 0,
         book: Book {
             written: at as u64,
-            used: (used - COST) as u64,
+            used: before as u64,
         },
     }
 }
@@ -119,7 +124,7 @@ pub fn undo_append(book: Book, image: &mut [u8], journal: &mut [u8], last: Trail
             book,
         };
     }
-    let count = walk::word32(image, at + COUNT_AT);
+    let count = walk::word32(image, at + edits::COUNT_AT);
     if count == 0 {
         return Answer {
             refusal: book::SPOILED_BOOK,
@@ -136,13 +141,13 @@ pub fn undo_append(book: Book, image: &mut [u8], journal: &mut [u8], last: Trail
     }
     buffer::move_within(image, end, from, written - end);
     buffer::clear(image, written - size, written);
-    buffer::put_u32(image, at + COUNT_AT, count - 1);
-    buffer::clear(journal, used - COST, used);
+    buffer::put_u32(image, at + edits::COUNT_AT, count - 1);
+    let before = clear_entry(journal, used);
     Answer {
         refusal: 0,
         book: Book {
             written: (written - size) as u64,
-            used: (used - COST) as u64,
+            used: before as u64,
         },
     }
 }

@@ -1,6 +1,6 @@
 -- `edits::append` meets its contract: each answer is one law of appending, with what `instruction_skip` tells of the bytes.
 -- Assumes nothing.
-use mathlib.Core.Path.{_≡_, refl, sym, ap, _∙_}
+use mathlib.Core.Path.{_≡_, sym, ap, _∙_}
 use mathlib.Core.Bool.{false}
 use Rattle.fields.specs.Parse.{ok, no, choose, span}
 use Rattle.fields.specs.Answers.{of-skip}

@@ -1,8 +1,8 @@
 -- `edits::append_whole` meets its contract: each answer is one law of appending, with what `find` and the walk tell of the routine held.
 -- Assumes nothing.
-use mathlib.Core.Path.{_≡_, refl, sym, ap, ap₂, _∙_}
+use mathlib.Core.Path.{_≡_, sym, ap, ap₂, _∙_}
 use native.Mathlib.Omega.{arith}
-use Prim.Native.Nat.{ℕ, _+_, _-_, _≤_, _<_}
+use Prim.Native.Nat.{ℕ, _+_, _≤_, _<_}
 use lib.ListN.{length}
 use lib.Seq.{take-length}
 use Rattle.fields.specs.Parse.{choose}
@@ -13,8 +13,6 @@ use Rattle.machine.specs.Edits.{place}
 use Rattle.machine.specs.Book.{State}
 use Rattle.machine.proofs.Keeps.{blocks-few}
 use Rattle.book.specs.Says.{state}
-use Rattle.book.specs.Holding.{block-start}
-use Rattle.edits.specs.Held.{Whole}
 use Rattle.image.specs.Places.{Spotted}
 use Rattle.edits.proofs.Cuts.{the-block, behind, code-of}
 use Rattle.image.proofs.Inspects.{sound-holding}
@@ -43,30 +41,45 @@ few s = omega (arith, blocks-few (R s) (R s .explored-blocks), s .pre .0 .sound 
 lent : (s : tie.Start) → (s .args .book .written ≤ length (s .args .image .now)) × (length (s .args .image .now) ≤ 16777216)
 lent s = let o = s .pre .0 .sound in (omega (arith, o .written, o .room), o .image-lent)
 
-octets : (c : tie.After-shared-slice-known) → Bytes (c .before .before .before .args .instruction .now)
+abbrev start : tie.After-shared-slice-known → tie.Start
+start c = c .before .before .before
+
+octets : (c : tie.After-shared-slice-known) → Bytes (start c .args .instruction .now)
 octets c = c .shared-slice-known .given
 
-spotted : (c : tie.After-find) → Spotted (R (c .before .before .before .before .before)) (c .before .before .before .before .before .args .vip .0) (c .find .result)
-spotted c = let s = (c .before .before .before .before .before) in c .find .ensures (R s) (sound-holding (s .pre .0 .sound))
+abbrev start₁ : tie.After-find → tie.Start
+start₁ c = start (c .before .before)
+
+spotted : (c : tie.After-find) → Spotted (R (start₁ c)) (start₁ c .args .vip .0) (c .find .result)
+spotted c = let s = start₁ c in c .find .ensures (R s) (sound-holding (s .pre .0 .sound))
 
 -- the block is there, and ends within the written length
-within : (c : tie.Else1) → I (c .before .before .before .before .before .before .before) < length (R (c .before .before .before .before .before .before .before) .explored-blocks)
+abbrev start₂ : tie.Else1 → tie.Start
+start₂ c = start₁ (c .before .before)
+
+within : (c : tie.Else1) → I (start₂ c) < length (R (start₂ c) .explored-blocks)
 within c = let f = spotted (c .before .before) in omega (arith, c .if1 .left, f .place, f .count)
 
-ends : (c : tie.Else1) → c .before .before .find .result .at + 28 + length (code-of (B (c .before .before .before .before .before .before .before) .instructions)) + length (behind (R (c .before .before .before .before .before .before .before)) (I (c .before .before .before .before .before .before .before))) ≡ c .before .before .before .before .before .before .before .args .book .written
-ends c = let s = (c .before .before .before .before .before .before .before) in omega (arith, spotted (c .before .before) .at, ends-within (S s) (R s) (s .pre .0 .sound) (I s) (within c))
+ends : (c : tie.Else1) → c .before .before .find .result .at + 28 + length (code-of (B (start₂ c) .instructions)) + length (behind (R (start₂ c)) (I (start₂ c))) ≡ start₂ c .args .book .written
+ends c = let s = start₂ c in omega (arith, spotted (c .before .before) .at, ends-within (S s) (R s) (s .pre .0 .sound) (I s) (within c))
 
-counted : (c : tie.After-word32) → c .word32 .result ≡ length (B (c .before .before .before .before .before .before .before .before .before .before .before) .instructions)
+abbrev start₃ : tie.After-word32 → tie.Start
+start₃ c = start₂ (c .before .before .before .before)
+
+counted : (c : tie.After-word32) → c .word32 .result ≡ length (B (start₃ c) .instructions)
 counted c =
-    let s = (c .before .before .before .before .before .before .before .before .before .before .before) in
+    let s = start₃ c in
     c .word32 .ensures ∙ ap (λ a. word 4 (s .args .image .now) (a + 24)) (spotted (c .before .before .before .before .before .before) .at) ∙ count-read (S s) (R s) (s .pre .0 .sound) (I s) (within (c .before .before .before .before))
 
 few-counted : (c : tie.After-word32) → c .word32 .result ≤ 16777216
-few-counted c = let s = (c .before .before .before .before .before .before .before .before .before .before .before) in omega (arith, counted c, count-few (S s) (R s) (s .pre .0 .sound) (I s) (within (c .before .before .before .before)), lent s .0, lent s .1)
+few-counted c = let s = start₃ c in omega (arith, counted c, count-few (S s) (R s) (s .pre .0 .sound) (I s) (within (c .before .before .before .before)), lent s .0, lent s .1)
 
-ended : (c : tie.After-instructions-end) → c .instructions-end .result ≡ c .before .before .before .before .before .before .before .before .find .result .at + 28 + length (code-of (B (c .before .before .before .before .before .before .before .before .before .before .before .before .before) .instructions))
+abbrev start₄ : tie.After-instructions-end → tie.Start
+start₄ c = start₃ (c .before .before)
+
+ended : (c : tie.After-instructions-end) → c .instructions-end .result ≡ c .before .before .before .before .before .before .before .before .find .result .at + 28 + length (code-of (B (start₄ c) .instructions))
 ended c =
-    let s = (c .before .before .before .before .before .before .before .before .before .before .before .before .before) in
+    let s = start₄ c in
     let at = spotted (c .before .before .before .before .before .before .before .before) .at in
     c .instructions-end .ensures (R s) (I s) (sound-holding (s .pre .0 .sound)) (within (c .before .before .before .before .before .before)) at
     ∙ ap₂ (λ a is. a + 28 + length (code-of is)) (sym at) (take-length (B s .instructions))
@@ -154,11 +167,11 @@ cast-put-trailer-2 c = let s = (c .before .before .before .before .before .befor
 put-trailer-requires : tie.Need-put-trailer-requires
 put-trailer-requires c κs = search needs
 
-add-t19 : tie.Need-add-t19
-add-t19 c = let s = (c .before .before .before .before .before .before .before .before .before .before .before .before .before .before .before .before .before .before .before .before .before .before .before .before .before .before .before .before .before) in omega (arith, c .before .before .before .before .before .before .before .before .before .before .before .before .before .before .before .before .before .before .before .before .if3 .left, s .pre .0 .sound .used, s .pre .0 .sound .journal-lent)
+add-t20 : tie.Need-add-t20
+add-t20 c = let s = (c .before .before .before .before .before .before .before .before .before .before .before .before .before .before .before .before .before .before .before .before .before .before .before .before .before .before .before .before .before) in omega (arith, c .before .before .before .before .before .before .before .before .before .before .before .before .before .before .before .before .before .before .before .before .if3 .left, s .pre .0 .sound .used, s .pre .0 .sound .journal-lent)
 
-add-t17 : tie.Need-add-t17
-add-t17 c = let s = (c .before .before .before .before .before .before .before .before .before .before .before .before .before .before .before .before .before .before .before .before .before .before .before .before .before .before .before .before .before) in omega (arith, c .before .before .before .before .before .before .before .before .before .before .before .before .before .before .before .before .before .before .before .before .before .if2 .left, lent s .0, lent s .1)
+add-t18 : tie.Need-add-t18
+add-t18 c = let s = (c .before .before .before .before .before .before .before .before .before .before .before .before .before .before .before .before .before .before .before .before .before .before .before .before .before .before .before .before .before) in omega (arith, c .before .before .before .before .before .before .before .before .before .before .before .before .before .before .before .before .before .before .before .before .before .if2 .left, lent s .0, lent s .1)
 
 same-length-4 : tie.Need-same-length-4
 same-length-4 c = search needs
@@ -202,8 +215,8 @@ append-whole-spec =
     cast-put-trailer
     cast-put-trailer-2
     put-trailer-requires
-    add-t19
-    add-t17
+    add-t20
+    add-t18
     same-length-4
     same-length-5
     returns-4)

@@ -1,8 +1,8 @@
 -- `edits::create_block` meets its contract: each answer is one law of creating a block, with what `find` and `blocks_of` tell of the routine held.
 -- Assumes nothing.
-use mathlib.Core.Path.{_≡_, refl, sym, ap, _∙_}
+use mathlib.Core.Path.{_≡_}
 use native.Mathlib.Omega.{arith}
-use Prim.Native.Nat.{ℕ, _+_, _≤_, _<_}
+use Prim.Native.Nat.{_≤_}
 use lib.ListN.{length}
 use Rattle.fields.specs.Parse.{choose}
 use Rattle.pod.specs.Values.{Routine}

@@ -1,6 +1,6 @@
 -- `edits::put_instruction` meets its contract: a last byte of 0 stays, and over any other 1 is stored.
 -- Assumes nothing.
-use mathlib.Core.Path.{_≡_, refl, sym, ap, _∙_}
+use mathlib.Core.Path.{ap, _∙_}
 use Rattle.fields.specs.Bytes.{put}
 use Rattle.edits.proofs.Flags.{flag-off, flag-on}
 use lib.ListN.{length}

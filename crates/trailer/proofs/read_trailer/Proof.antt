@@ -1,7 +1,6 @@
 -- `trailer::read_trailer` meets its contract: each field is the number that stands there, and four bytes hold less than 2^32.
 -- Assumes nothing.
-use mathlib.Core.Path.{sym, _∙_}
-use native.Mathlib.Omega.{arith}
+use mathlib.Core.Path.{_∙_}
 use Rattle.fields.proofs.Le.{le-lt}
 use Rattle.trailer.proofs.Trailers.{trailer-at}
 use borrow.Author.Needs.{needs}

@@ -8,25 +8,36 @@ use Rattle.undo.proofs.Fresh as F
 use borrow.Author.Needs.{needs}
 use Rattle.undo.proofs.is_fresh.Statement.{statement}
 use Rattle.undo.proofs.is_fresh.Tie as tie
-use Rattle.undo.proofs.is_fresh.Reads as reads
-use Rattle.undo.proofs.is_fresh.Lts as lts
-use Rattle.walk.proofs.word32.Reads as word32-reads
-use Rattle.walk.proofs.word64.Reads as word64-reads
 
 -- the numbers that were 0
-zero-1 : (c : tie.Else1) → word 8 (c .before .before .before .args .image .now) (c .before .before .before .args .at + 8) ≡ 0
+abbrev start : tie.Else1 → tie.Start
+start c = c .before .before .before
+
+zero-1 : (c : tie.Else1) → word 8 (start c .args .image .now) (start c .args .at + 8) ≡ 0
 zero-1 c = sym (c .before .word64 .ensures) ∙ c .if1 .left
 
-zero-2 : (c : tie.Else2) → word 4 (c .before .before .before .before .before .args .image .now) (c .before .before .before .before .before .args .at + 16) ≡ 0
+abbrev start₁ : tie.Else2 → tie.Start
+start₁ c = start (c .before .before)
+
+zero-2 : (c : tie.Else2) → word 4 (start₁ c .args .image .now) (start₁ c .args .at + 16) ≡ 0
 zero-2 c = sym (c .before .word32 .ensures) ∙ c .if2 .left
 
-zero-3 : (c : tie.Else3) → word 4 (c .before .before .before .before .before .before .before .args .image .now) (c .before .before .before .before .before .before .before .args .at + 20) ≡ 0
+abbrev start₂ : tie.Else3 → tie.Start
+start₂ c = start₁ (c .before .before)
+
+zero-3 : (c : tie.Else3) → word 4 (start₂ c .args .image .now) (start₂ c .args .at + 20) ≡ 0
 zero-3 c = sym (c .before .word322 .ensures) ∙ c .if3 .left
 
-zero-4 : (c : tie.Else4) → word 4 (c .before .before .before .before .before .before .before .before .before .args .image .now) (c .before .before .before .before .before .before .before .before .before .args .at + 24) ≡ 0
+abbrev start₃ : tie.Else4 → tie.Start
+start₃ c = start₂ (c .before .before)
+
+zero-4 : (c : tie.Else4) → word 4 (start₃ c .args .image .now) (start₃ c .args .at + 24) ≡ 0
 zero-4 c = sym (c .before .word323 .ensures) ∙ c .if4 .left
 
-zero-5 : (c : tie.Else5) → word 4 (c .before .before .before .before .before .before .before .before .before .before .before .args .image .now) (c .before .before .before .before .before .before .before .before .before .before .before .args .at + 28) ≡ 0
+abbrev start₄ : tie.Else5 → tie.Start
+start₄ c = start₃ (c .before .before)
+
+zero-5 : (c : tie.Else5) → word 4 (start₄ c .args .image .now) (start₄ c .args .at + 28) ≡ 0
 zero-5 c = sym (c .before .word324 .ensures) ∙ c .if5 .left
 
 add-word64 : tie.Need-add-word64

@@ -1,8 +1,8 @@
 -- `undo::undo_append` meets its contract: each answer is one law of taking back an append, with what the image's readers tell of the routine held.
 -- Assumes nothing.
-use mathlib.Core.Path.{_≡_, refl, sym, ap, ap₂, _∙_}
+use mathlib.Core.Path.{_≡_, sym, ap, ap₂, _∙_}
 use native.Mathlib.Omega.{arith}
-use Prim.Native.Nat.{ℕ, _+_, _-_, _≤_, _<_}
+use Prim.Native.Nat.{_+_, _-_, _≤_, _<_}
 use lib.ListN.{length, take}
 use lib.Seq.{take-length}
 use Rattle.fields.specs.Parse.{choose}
@@ -27,17 +27,6 @@ use Rattle.undo.proofs.Unappends as U
 use borrow.Author.Needs.{needs}
 use Rattle.undo.proofs.undo_append.Statement.{statement}
 use Rattle.undo.proofs.undo_append.Tie as tie
-use Rattle.undo.proofs.undo_append.Reads as reads
-use Rattle.undo.proofs.undo_append.Lts as lts
-use Rattle.buffer.proofs.clear.Reads as clear-reads
-use Rattle.buffer.proofs.move_within.Reads as move-within-reads
-use Rattle.buffer.proofs.put_u32.Reads as put-u32-reads
-use Rattle.image.proofs.block_offset.Reads as block-offset-reads
-use Rattle.image.proofs.blocks_of.Reads as blocks-of-reads
-use Rattle.image.proofs.instruction_offset.Reads as instruction-offset-reads
-use Rattle.image.proofs.instructions_end.Reads as instructions-end-reads
-use Rattle.walk.proofs.word32.Reads as word32-reads
-use Rattle.walk.proofs.word64.Reads as word64-reads
 
 -- the state at entry, the routine that it holds, the trailer, and the block at its place
 abbrev S : tie.Start → State
@@ -223,17 +212,11 @@ sub-put-u32 c = search needs
 put-u32-requires : tie.Need-put-u32-requires
 put-u32-requires c κs = let s = (c .before .before .before .before .before .before .before .before .before .before .before .before .before .before .before .before .before .before .before .before .before .before .before .before .before .before .before .before .before .before) in omega (arith, ends (c .before .before .before .before .before .before .before .before .before .before .before .before .before .before .before .before .before .before .before .before .before), lent s .0, c .before .before .before .before .before .before .before .move-within .kept .0, c .before .before .before .clear .kept .0)
 
-sub-clear-2 : tie.Need-sub-clear-2
-sub-clear-2 c = omega (arith, c .before .before .before .before .before .before .before .before .before .before .before .before .before .before .before .before .before .before .before .before .before .before .before .before .before .before .before .before .before .before .before .before .before .before .pre .1)
+clear-entry-requires : tie.Need-clear-entry-requires
+clear-entry-requires c κs = let s = (c .before .before .before .before .before .before .before .before .before .before .before .before .before .before .before .before .before .before .before .before .before .before .before .before .before .before .before .before .before .before .before .before .before .before) in (s .pre .1, s .pre .0 .sound .used)
 
-clear-requires-2 : tie.Need-clear-requires-2
-clear-requires-2 c κs = let s = (c .before .before .before .before .before .before .before .before .before .before .before .before .before .before .before .before .before .before .before .before .before .before .before .before .before .before .before .before .before .before .before .before .before .before) in (omega arith, omega (arith, s .pre .0 .sound .used))
-
-sub-t19 : tie.Need-sub-t19
-sub-t19 c = omega (arith, inside (c .before .before .before .before .before .before .before .before .before .before .before .before .before .before .before .before), spans (c .before .before .before .before .before .before .before .before .before .before .before .before .before .before .before .before))
-
-sub-t39 : tie.Need-sub-t39
-sub-t39 c = omega (arith, c .before .before .before .before .before .before .before .before .before .before .before .before .before .before .before .before .before .before .before .before .before .before .before .before .before .before .before .before .before .before .before .before .before .before .before .before .before .pre .1)
+sub-t20 : tie.Need-sub-t20
+sub-t20 c = omega (arith, inside (c .before .before .before .before .before .before .before .before .before .before .before .before .before .before .before .before), spans (c .before .before .before .before .before .before .before .before .before .before .before .before .before .before .before .before))
 
 same-length-5 : tie.Need-same-length-5
 same-length-5 c = search needs
@@ -245,9 +228,9 @@ returns-5 : tie.Need-returns-5
 unfolding choose
 returns-5 c =
     let s = (c .before .before .before .before .before .before .before .before .before .before .before .before .before .before .before .before .before .before .before .before .before .before .before .before .before .before .before .before .before .before .before .before .before .before .before .before .before) in
-    over s _ (U.append-final (S s) (R s) (s .pre .0 .sound) (T s) (within (c .before .before .before .before .before .before .before .before .before .before .before .before .before .before .before .before .before .before .before .before .before .before .before .before .before .before .before .before .before .before)) (vip-is (c .before .before .before .before .before .before .before .before .before .before .before .before .before .before .before .before .before .before .before .before .before .before)) (some (c .before .before .before .before .before .before .before .before .before .before .before .before .before .before .before .before .before .before .before .before .before)) (size-is (c .before .before .before .before .before .before .before .before .before .before .before .before .before .before .before .before)) (s .pre .1)
-    _ _ _ _ _ _ _ _ (placed (c .before .before .before .before .before .before .before .before .before .before .before .before .before .before .before .before .before .before .before .before .before .before .before .before .before .before .before .before)) (instructions (c .before .before .before .before .before .before .before .before .before .before .before .before .before .before .before .before .before .before .before .before .before .before)) (begins (c .before .before .before .before .before .before .before .before .before .before .before .before .before .before .before .before .before .before .before)) (stops (c .before .before .before .before .before .before .before .before .before .before .before .before .before .before .before .before .before))
-    (c .before .before .before .before .before .before .before .before .before .before .before .before .before .before .move-within .ensures) (c .before .before .before .before .before .before .before .before .before .before .clear .ensures) (c .before .before .before .before .before .before .put-u32 .ensures) (c .before .before .clear2 .ensures))
+    over s _ (U.append-final (S s) (R s) (s .pre .0 .sound) (T s) (within (c .before .before .before .before .before .before .before .before .before .before .before .before .before .before .before .before .before .before .before .before .before .before .before .before .before .before .before .before .before .before)) (vip-is (c .before .before .before .before .before .before .before .before .before .before .before .before .before .before .before .before .before .before .before .before .before .before)) (some (c .before .before .before .before .before .before .before .before .before .before .before .before .before .before .before .before .before .before .before .before .before)) (size-is (c .before .before .before .before .before .before .before .before .before .before .before .before .before .before .before .before))
+    _ _ _ _ _ _ _ _ _ (placed (c .before .before .before .before .before .before .before .before .before .before .before .before .before .before .before .before .before .before .before .before .before .before .before .before .before .before .before .before)) (instructions (c .before .before .before .before .before .before .before .before .before .before .before .before .before .before .before .before .before .before .before .before .before .before)) (begins (c .before .before .before .before .before .before .before .before .before .before .before .before .before .before .before .before .before .before .before)) (stops (c .before .before .before .before .before .before .before .before .before .before .before .before .before .before .before .before .before)) (c .before .before .clear-entry .ensures .0)
+    (c .before .before .before .before .before .before .before .before .before .before .before .before .before .before .move-within .ensures) (c .before .before .before .before .before .before .before .before .before .before .clear .ensures) (c .before .before .before .before .before .before .put-u32 .ensures) (c .before .before .clear-entry .ensures .1))
 
 pub undo-append-spec : {M : Type 1} → statement M
 undo-append-spec =
@@ -279,10 +262,8 @@ undo-append-spec =
     add-put-u32
     sub-put-u32
     put-u32-requires
-    sub-clear-2
-    clear-requires-2
-    sub-t19
-    sub-t39
+    clear-entry-requires
+    sub-t20
     same-length-5
     same-length-6
     returns-5)

@@ -1,15 +1,13 @@
 -- `undo::undo_create` meets its contract: each answer is one law of taking back a create, with what the image's readers tell of the routine held.
 -- Assumes nothing.
-use mathlib.Core.Path.{_≡_, refl, sym, ap, _∙_}
-use mathlib.Core.Bool.{true, false}
+use mathlib.Core.Path.{_≡_, sym, ap, _∙_}
 use native.Mathlib.Omega.{arith}
-use Prim.Native.Nat.{ℕ, _+_, _-_, _≤_, _<_}
+use Prim.Native.Nat.{_+_, _≤_, _<_}
 use lib.ListN.{length}
 use borrow.Author.Tests.{not-true, not-false}
 use Rattle.fields.specs.Parse.{choose}
 use Rattle.fields.specs.Outcome.{accepted}
 use Rattle.pod.specs.Values.{BasicBlock, Routine}
-use Rattle.walk.specs.Ends.{word}
 use Rattle.machine.specs.Edits.{block-at}
 use Rattle.machine.specs.Machine.{Answer}
 use Rattle.machine.specs.Journal.{Trailer, is-fresh, undo-create}
@@ -26,14 +24,6 @@ use Rattle.undo.proofs.Uncreates as U
 use borrow.Author.Needs.{needs}
 use Rattle.undo.proofs.undo_create.Statement.{statement}
 use Rattle.undo.proofs.undo_create.Tie as tie
-use Rattle.undo.proofs.undo_create.Reads as reads
-use Rattle.undo.proofs.undo_create.Lts as lts
-use Rattle.buffer.proofs.clear.Reads as clear-reads
-use Rattle.buffer.proofs.put_u32.Reads as put-u32-reads
-use Rattle.image.proofs.block_offset.Reads as block-offset-reads
-use Rattle.image.proofs.blocks_of.Reads as blocks-of-reads
-use Rattle.undo.proofs.is_fresh.Reads as is-fresh-reads
-use Rattle.walk.proofs.word64.Reads as word64-reads
 
 -- the state at entry, the routine that it holds, and the trailer
 abbrev S : tie.Start → State
@@ -55,36 +45,51 @@ over s x e r h = e ∙ ap (λ q. restored (S s) (undo-create q (T s))) (the-same
 lent : (s : tie.Start) → s .args .book .written ≤ length (s .args .image .now)
 lent s = let o = s .pre .0 .sound in omega (arith, o .written, o .room)
 
-counted : (c : tie.After-blocks-of) → c .blocks-of .result .count ≡ length (R (c .before .before .before .before .before .before) .explored-blocks)
-counted c = c .blocks-of .ensures (R (c .before .before .before .before .before .before)) (sound-holding (c .before .before .before .before .before .before .pre .0 .sound)) .1
+abbrev start : tie.After-blocks-of → tie.Start
+start c = c .before .before .before .before .before .before
 
-begins : (c : tie.After-blocks-of) → c .blocks-of .result .start ≡ blocks-start (R (c .before .before .before .before .before .before))
-begins c = c .blocks-of .ensures (R (c .before .before .before .before .before .before)) (sound-holding (c .before .before .before .before .before .before .pre .0 .sound)) .0
+counted : (c : tie.After-blocks-of) → c .blocks-of .result .count ≡ length (R (start c) .explored-blocks)
+counted c = c .blocks-of .ensures (R (start c)) (sound-holding (start c .pre .0 .sound)) .1
+
+begins : (c : tie.After-blocks-of) → c .blocks-of .result .start ≡ blocks-start (R (start c))
+begins c = c .blocks-of .ensures (R (start c)) (sound-holding (start c .pre .0 .sound)) .0
 
 -- the place is the last
-last-place : (c : tie.Else2) → c .before .before .before .before .before .before .before .before .args .last .place + 1 ≡ length (R (c .before .before .before .before .before .before .before .before) .explored-blocks)
+abbrev start₁ : tie.Else2 → tie.Start
+start₁ c = start (c .before .before)
+
+last-place : (c : tie.Else2) → start₁ c .args .last .place + 1 ≡ length (R (start₁ c) .explored-blocks)
 last-place c = omega (arith, c .if2 .left, counted (c .before .before))
 
-within : (c : tie.Else2) → c .before .before .before .before .before .before .before .before .args .last .place < length (R (c .before .before .before .before .before .before .before .before) .explored-blocks)
+within : (c : tie.Else2) → start₁ c .args .last .place < length (R (start₁ c) .explored-blocks)
 within c = omega (arith, last-place c)
 
-placed : (c : tie.After-block-offset) → c .block-offset .result ≡ block-start (R (c .before .before .before .before .before .before .before .before .before .before)) (c .before .before .before .before .before .before .before .before .before .before .args .last .place)
-placed c = c .block-offset .ensures (R (c .before .before .before .before .before .before .before .before .before .before)) (sound-holding (c .before .before .before .before .before .before .before .before .before .before .pre .0 .sound)) (omega (arith, within (c .before .before)))
+abbrev start₂ : tie.After-block-offset → tie.Start
+start₂ c = start₁ (c .before .before)
+
+placed : (c : tie.After-block-offset) → c .block-offset .result ≡ block-start (R (start₂ c)) (start₂ c .args .last .place)
+placed c = c .block-offset .ensures (R (start₂ c)) (sound-holding (start₂ c .pre .0 .sound)) (omega (arith, within (c .before .before)))
 
 -- the block there ends within the written length
-ends : (c : tie.After-block-offset) → c .block-offset .result + 36 ≤ c .before .before .before .before .before .before .before .before .before .before .args .book .written
-ends c = let s = (c .before .before .before .before .before .before .before .before .before .before) in omega (arith, placed c, block-fits (S s) (R s) (s .pre .0 .sound) (s .args .last .place) (within (c .before .before)))
+ends : (c : tie.After-block-offset) → c .block-offset .result + 36 ≤ start₂ c .args .book .written
+ends c = let s = start₂ c in omega (arith, placed c, block-fits (S s) (R s) (s .pre .0 .sound) (s .args .last .place) (within (c .before .before)))
 
-vip-read : (c : tie.After-word64) → c .word64 .result ≡ B (c .before .before .before .before .before .before .before .before .before .before .before .before) .vip
+abbrev start₃ : tie.After-word64 → tie.Start
+start₃ c = start₂ (c .before .before)
+
+vip-read : (c : tie.After-word64) → c .word64 .result ≡ B (start₃ c) .vip
 vip-read c =
-    let s = (c .before .before .before .before .before .before .before .before .before .before .before .before) in
+    let s = start₃ c in
     let h = sound-holding (s .pre .0 .sound) in
     let l = within (c .before .before .before .before) in
     c .word64 .ensures ∙ block-word _ (B s) (block-holds h (s .args .last .place) l) (stands-here (R s) (s .args .last .place) h l (placed (c .before .before)))
 
-fresh : (c : tie.After-is-fresh) → c .is-fresh .result ≡ is-fresh (B (c .before .before .before .before .before .before .before .before .before .before .before .before .before .before .before .before))
+abbrev start₄ : tie.After-is-fresh → tie.Start
+start₄ c = start₃ (c .before .before .before .before)
+
+fresh : (c : tie.After-is-fresh) → c .is-fresh .result ≡ is-fresh (B (start₄ c))
 fresh c =
-    let s = (c .before .before .before .before .before .before .before .before .before .before .before .before .before .before .before .before) in
+    let s = start₄ c in
     let h = sound-holding (s .pre .0 .sound) in
     let l = within (c .before .before .before .before .before .before .before .before) in
     c .is-fresh .ensures (B s) (block-holds h (s .args .last .place) l) (stands-here (R s) (s .args .last .place) h l (placed (c .before .before .before .before .before .before)))
@@ -149,14 +154,8 @@ sub-put-u32 c = omega (arith, begins (c .before .before .before .before .before 
 put-u32-requires : tie.Need-put-u32-requires
 put-u32-requires c κs = let s = (c .before .before .before .before .before .before .before .before .before .before .before .before .before .before .before .before .before .before .before .before .before .before) in omega (arith, begins (c .before .before .before .before .before .before .before .before .before .before .before .before .before .before .before .before), routine-size (R s), s .pre .0 .sound .room, c .before .before .before .clear .kept .0)
 
-sub-clear : tie.Need-sub-clear
-sub-clear c = search needs
-
-clear-requires-2 : tie.Need-clear-requires-2
-clear-requires-2 c κs = let s = (c .before .before .before .before .before .before .before .before .before .before .before .before .before .before .before .before .before .before .before .before .before .before .before .before .before .before) in (omega (arith, s .pre .1), omega (arith, s .pre .0 .sound .used))
-
-sub-t14 : tie.Need-sub-t14
-sub-t14 c = search needs
+clear-entry-requires : tie.Need-clear-entry-requires
+clear-entry-requires c κs = let s = (c .before .before .before .before .before .before .before .before .before .before .before .before .before .before .before .before .before .before .before .before .before .before .before .before .before .before) in (s .pre .1, s .pre .0 .sound .used)
 
 same-length-4 : tie.Need-same-length-4
 same-length-4 c = search needs
@@ -168,8 +167,8 @@ returns-5 : tie.Need-returns-5
 unfolding choose
 returns-5 c =
     let s = (c .before .before .before .before .before .before .before .before .before .before .before .before .before .before .before .before .before .before .before .before .before .before .before .before .before .before .before .before .before) in
-    over s _ (U.create-final (S s) (R s) (s .pre .0 .sound) (T s) (c .before .before .before .before .before .before .before .before .before .before .before .before .before .before .before .before .before .before .before .before .before .before .before .before .before .if1 .left) (last-place (c .before .before .before .before .before .before .before .before .before .before .before .before .before .before .before .before .before .before .before .before .before)) (sym (vip-read (c .before .before .before .before .before .before .before .before .before .before .before .before .before .before .before .before .before)) ∙ c .before .before .before .before .before .before .before .before .before .before .before .before .before .before .before .if3 .left) (sym (fresh (c .before .before .before .before .before .before .before .before .before .before .before .before .before)) ∙ not-false _ (c .before .before .before .before .before .before .before .before .before .before .before .before .if4 .left)) (s .pre .1)
-    _ _ _ _ _ (placed (c .before .before .before .before .before .before .before .before .before .before .before .before .before .before .before .before .before .before .before)) (begins (c .before .before .before .before .before .before .before .before .before .before .before .before .before .before .before .before .before .before .before .before .before .before .before)) (c .before .before .before .before .before .before .before .before .before .before .clear .ensures) (c .before .before .before .before .before .before .put-u32 .ensures) (c .before .before .clear2 .ensures))
+    over s _ (U.create-final (S s) (R s) (s .pre .0 .sound) (T s) (c .before .before .before .before .before .before .before .before .before .before .before .before .before .before .before .before .before .before .before .before .before .before .before .before .before .if1 .left) (last-place (c .before .before .before .before .before .before .before .before .before .before .before .before .before .before .before .before .before .before .before .before .before)) (sym (vip-read (c .before .before .before .before .before .before .before .before .before .before .before .before .before .before .before .before .before)) ∙ c .before .before .before .before .before .before .before .before .before .before .before .before .before .before .before .if3 .left) (sym (fresh (c .before .before .before .before .before .before .before .before .before .before .before .before .before)) ∙ not-false _ (c .before .before .before .before .before .before .before .before .before .before .before .before .if4 .left))
+    _ _ _ _ _ _ (placed (c .before .before .before .before .before .before .before .before .before .before .before .before .before .before .before .before .before .before .before)) (begins (c .before .before .before .before .before .before .before .before .before .before .before .before .before .before .before .before .before .before .before .before .before .before .before)) (c .before .before .clear-entry .ensures .0) (c .before .before .before .before .before .before .before .before .before .before .clear .ensures) (c .before .before .before .before .before .before .put-u32 .ensures) (c .before .before .clear-entry .ensures .1))
 
 pub undo-create-spec : {M : Type 1} → statement M
 undo-create-spec =
@@ -193,9 +192,7 @@ undo-create-spec =
     clear-requires
     sub-put-u32
     put-u32-requires
-    sub-clear
-    clear-requires-2
-    sub-t14
+    clear-entry-requires
     same-length-4
     same-length-5
     returns-5)
