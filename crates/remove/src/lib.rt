@@ -15,9 +15,6 @@ use book::Answer;
 use book::Book;
 use pod::Vip;
 
-// The kind of a removal's entry.
-const REMOVED: u32 = 2;
-
 // The block from `at` to `end` leaves the routine that ends at `written`, and the last block takes its place: no other block moves further than by
 // the difference of the two sizes, and what is freed at the end becomes 0. A block that ends where the routine does is the last itself, and nothing
 // moves. The count of blocks stands in the 4 bytes before them.
@@ -66,7 +63,14 @@ pub fn remove_block(book: Book, image: &mut [u8], journal: &mut [u8], vip: Vip) 
         };
     }
     buffer::copy_at(journal, used, &image[at..end]);
-    trailer::put_trailer(journal, used + size, v, place as u32, size as u32, REMOVED);
+    trailer::put_trailer(
+        journal,
+        used + size,
+        v,
+        place as u32,
+        size as u32,
+        trailer::REMOVE,
+    );
     take_out(image, at, end, written);
     Answer {
         refusal: 0,
