@@ -15,11 +15,9 @@ use book::Answer;
 use book::Book;
 use pod::Vip;
 
-// The kind of a removal's entry.
-const REMOVED: u32 = 2;
-
 // The block from `at` to `end` leaves the routine that ends at `written`, and the last block takes its place: no other block moves further than by
-// the difference of the two sizes, and what is freed at the end becomes 0.
+// the difference of the two sizes, and what is freed at the end becomes 0. A block that ends where the routine does is the last itself, and nothing
+// moves. The count of blocks stands in the 4 bytes before them.
 fn take_out(image: &mut [u8], at: usize, end: usize, written: usize)
     requires { ⌜ Leaves (now image) at end written ⌝ }
     ensures { λ _. ⌜ ((r : Routine) (i : ℕ) → Leaving r i (now (image .entry)) at end written → now (image .exit) ≡ in-image (length (now (image .entry))) (with-blocks (remove-at i (r .explored-blocks)) r)) ⌝ }
@@ -65,7 +63,14 @@ pub fn remove_block(book: Book, image: &mut [u8], journal: &mut [u8], vip: Vip) 
         };
     }
     buffer::copy_at(journal, used, &image[at..end]);
-    trailer::put_trailer(journal, used + size, v, place as u32, size as u32, REMOVED);
+    trailer::put_trailer(
+        journal,
+        used + size,
+        v,
+        place as u32,
+        size as u32,
+        trailer::REMOVE,
+    );
     take_out(image, at, end, written);
     Answer {
         refusal: 0,

@@ -2,7 +2,7 @@
 //
 // `undo_remove` requires that the state is sound: it is for the crate above, whose call inspects the lent image and the book first.
 ghost use mathlib.Core.Path.{_≡_};
-ghost use Prim.Native.Nat.{ℕ, _+_, _-_, _≤_};
+ghost use Prim.Native.Nat.{_-_, _≤_};
 ghost use lib.ListN.{length, take};
 ghost use Rattle.fields.specs.Outcome.{accepted};
 ghost use Rattle.pod.specs.Values.{BasicBlock, Routine};
@@ -39,7 +39,8 @@ fn is_block(s: &[u8], vip: u64) -> bool
     }
 }
 
-// The block goes to its place, and the one standing there goes last: it is written after the last block, and then the two change places.
+// The block goes to its place, and the one standing there goes last: it is written after the last block, and then the two change places. Where its
+// place is the number of blocks, it stays there. The count of blocks stands in the 4 bytes before them.
 fn put_in(image: &mut [u8], place: usize, written: usize, block: &[u8])
     requires { ⌜ Enters (now image) place written (now block) ⌝ }
     ensures { λ _. ⌜ ((r : Routine) (b : BasicBlock) → Entering r (now (image .entry)) place written (now (block .entry)) → now (block .entry) ≡ block-bytes b → now (image .exit) ≡ in-image (length (now (image .entry))) (with-blocks (insert-at place b (r .explored-blocks)) r)) ⌝ }

@@ -9,13 +9,6 @@ ghost use Rattle.edits.specs.Held.{Held};
 use book::Answer;
 use book::Book;
 
-// The kinds of entries.
-const CREATED: u32 = 1;
-
-const REMOVED: u32 = 2;
-
-const APPENDED: u32 = 3;
-
 // The entry that ends the journal's used part says what to take back; 16 where nothing is used, and 13 where that is no entry.
 pub fn undo(book: Book, image: &mut [u8], journal: &mut [u8]) -> Answer
     requires { ⌜ Held (state (now image) (now journal) book) ⌝ }
@@ -36,13 +29,13 @@ pub fn undo(book: Book, image: &mut [u8], journal: &mut [u8]) -> Answer
     }
     let last = trailer::read_trailer(journal, used - trailer::TRAILER_SIZE);
     let kind = last.kind;
-    if kind == CREATED {
+    if kind == trailer::CREATE {
         return undo::undo_create(book, image, journal, last);
     }
-    if kind == REMOVED {
+    if kind == trailer::REMOVE {
         return restore::undo_remove(book, image, journal, last);
     }
-    if kind == APPENDED {
+    if kind == trailer::APPEND {
         return undo::undo_append(book, image, journal, last);
     }
     Answer {
