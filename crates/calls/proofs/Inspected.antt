@@ -15,11 +15,11 @@ use Rattle.pod.specs.Values.{Routine}
 use Rattle.pod.specs.Layout.{read-file}
 use Rattle.machine.specs.Machine.{Call}
 use Rattle.machine.specs.Book.{State, lent, whole, held, step}
-use Rattle.machine.specs.Sound.{Sound}
 use Rattle.machine.proofs.Calls.{step-refused}
 use Rattle.machine.proofs.Held.{held-sound}
 use Rattle.book.specs.declared.Book.{Book}
 use Rattle.book.specs.Says.{state, outcome, refusal-of}
+use Rattle.edits.specs.Held.{Held}
 
 -- a refusal is never 0
 abbrev Numbered : {A : Type 0} → Outcome A → Type 0
@@ -55,11 +55,11 @@ refusal-is (accepted r) p = absurd (p refl)
 refusal-is (refused k) p = refl
 
 module _ (image journal : List ℕ) (b : Book) (n : ℕ) (is : n ≡ refusal-of (held (state image journal b))) where
-  pub sound : Bytes image → n ≡ 0 → (r : Routine) × Sound (state image journal b) r
+  pub sound : Bytes image → n ≡ 0 → Held (state image journal b)
   sound bytes z =
       let s = state image journal b in
       let h = by-number (held s) (held-numbered s) (sym is ∙ z) in
-      (h .0, held-sound s (h .0) bytes (h .1))
+      record { r = h .0; sound = held-sound s (h .0) bytes (h .1) }
 
   pub spoiled : (c : Call) → (n ≡ 0 → ⊥) → outcome (record { refusal = n; book = b }) image journal ≡ step c (state image journal b)
   unfolding choose

@@ -65,7 +65,8 @@ module _ (c : Call) (cs : List Call) (d : Encoded cs) where
       record {
         words = kind ∷ vip ∷ length t ∷ (length t + length bytes) ∷ d .words;
         texts = t ++ bytes;
-        script = rw (le-leb kind 3 k, le-leb (length t) (length t + length bytes) o, le-leb (length t + length bytes) (length (t ++ bytes)) i, r .0);
+        script =
+            rw (le-leb kind 3 k, le-leb (length t) (length t + length bytes) o, le-leb (length t + length bytes) (length (t ++ bytes)) i, r .0);
         is = ap₂ (λ x y. call-of kind vip x ∷ y) (between-new t bytes) (r .1 ∙ d .is) ∙ ap (λ x. x ∷ cs) e;
         bytes = bytes-append t bytes (d .bytes) b;
         fit = fits;

@@ -16,9 +16,13 @@ use Rattle.machine.specs.Machine.{Call, edit, undo, Answer}
 use Rattle.machine.specs.Book.{State, unopened, open-book, step, run}
 use Rattle.machine.specs.Demand.{Bytes, Sendable, Every, Opening}
 use Rattle.demand.proofs.Theorem.{follows}
-use Rattle.script.specs.Script.{is-script, call-of, between, call-at, calls, last-of, ran, after-opening, replayed}
+use Rattle.script.specs.Script.{is-script, call-of, call-at, calls, last-of, ran, after-opening, replayed}
 use Rattle.script.specs.Replays.{Agrees, Replays}
 use Rattle.script.proofs.Words.{none-left, calls-are, more, still}
+
+-- the step of a call, by another name of it
+pub same-call : (s : State) {x : Answer × State} {c d : Call} → x ≡ step c s → c ≡ d → x ≡ step d s
+same-call s e h = e ∙ ap (λ c. step c s) h
 
 -- which call the code makes
 module _ (kind vip : ℕ) (bytes : List ℕ) where
@@ -126,7 +130,7 @@ sent (kind ∷ []) texts w b = tt
 sent (kind ∷ vip ∷ []) texts w b = tt
 sent (kind ∷ vip ∷ begin ∷ []) texts w b = tt
 sent (kind ∷ vip ∷ begin ∷ end ∷ words) texts w b = (
-  sent-one vip (between begin end texts) (w 1) (bytes-take (end - begin) (drop begin texts) (bytes-drop begin texts b)) (eqb kind 0) (eqb kind 1) (eqb kind 2),
+  sent-one vip _ (w 1) (bytes-take (end - begin) (drop begin texts) (bytes-drop begin texts b)) (eqb kind 0) (eqb kind 1) (eqb kind 2),
   sent words texts (λ i. w (suc (suc (suc (suc i))))) b,
 )
 
@@ -137,8 +141,10 @@ agrees o cs f =
     let g = follows o cs f in
     record { answer = ap₂ last-of (o .accepts) (g .answers); image = g .image; written = g .written; used = g .used }
 
-module _ (file image journal words texts : List ℕ) (w : (i : ℕ) → getD words i 0 < 2 ^ 64) (b : Bytes texts) (x : Answer × State) (e : x ≡ replayed file image journal words texts) where
-  claim : (o : Opening) → o .file ≡ file → o .image ≡ image → o .journal ≡ journal → is-script words texts ≡ true → Agrees o (calls words texts) x
+module _ (file image journal words texts : List ℕ) (w : (i : ℕ) → getD words i 0 < 2 ^ 64) (b : Bytes texts) (x : Answer × State)
+    (e : x ≡ replayed file image journal words texts) where
+  claim : (o : Opening) → o .file ≡ file → o .image ≡ image → o .journal ≡ journal → is-script words texts ≡ true
+      → Agrees o (calls words texts) x
   claim o p q r h =
       let y = open-book (o .file) (o .image) (o .journal) in
       let z : open-book (o .file) (o .image) (o .journal) ≡ open-book file image journal = rw (p, q, r) in

@@ -18,11 +18,11 @@ same-length-2 c = search needs
 
 returns : tie.Need-returns
 returns c = let i = c .before in let s = i .before .before .before .before .before in
-    I.spoiled (s .args .image .now) (s .args .journal .now) (s .args .book) (i .inspect .result) (i .inspect .ensures) (edit (remove (s .args .vip .0))) (c .if1 .taken)
+    I.spoiled _ _ _ _ (i .inspect .ensures) (edit (remove (s .args .vip .0))) (c .if1 .taken)
 
 remove-block-requires : tie.Need-remove-block-requires
-remove-block-requires c κs = let e = c .before .before in let i = e .before in let k = i .before .before .before in let s = k .before .before in
-    let g = I.sound (s .args .image .now) (s .args .journal .now) (s .args .book) (i .inspect .result) (i .inspect .ensures) (k .before .slice-known .given) (e .if1 .left) in record { r = g .0; sound = g .1 }
+remove-block-requires c κs = let e = c .before .before in let i = e .before in let k = i .before .before .before in
+    I.sound _ _ _ _ (i .inspect .ensures) (k .before .slice-known .given) (e .if1 .left)
 
 same-length-3 : tie.Need-same-length-3
 same-length-3 c = search needs

@@ -1,15 +1,9 @@
 -- `script::call` meets its contract: each kind is its call, by what that call ensures.
 -- Assumes nothing.
-use mathlib.Core.Path.{ap, _∙_}
 use borrow.Author.Needs.{needs}
-use Rattle.machine.specs.Book.{State, step}
-use Rattle.book.specs.Says.{state}
 use Rattle.script.proofs.Runs as R
 use Rattle.script.proofs.call.Statement.{statement}
 use Rattle.script.proofs.call.Tie as tie
-
-abbrev found : tie.Start → State
-found s = state (s .args .image .now) (s .args .journal .now) (s .args .book)
 
 create-block-requires : tie.Need-create-block-requires
 create-block-requires c κs = search needs
@@ -21,8 +15,7 @@ same-length-2 : tie.Need-same-length-2
 same-length-2 c = search needs
 
 returns : tie.Need-returns
-returns c = let t = c .before .before .before .before .before .before .before in let s = t .before .before .before .before in
-    c .before .before .before .before .create-block .ensures ∙ ap (λ x. step x (found s)) (R.is-create (s .args .kind) (s .args .vip .0) (s .args .bytes .now) (t .if1 .taken))
+returns c = let k = c .before .before .before .before in R.same-call _ (k .create-block .ensures) (R.is-create _ _ _ (k .before .before .before .if1 .taken))
 
 remove-block-requires : tie.Need-remove-block-requires
 remove-block-requires c κs = search needs
@@ -34,8 +27,7 @@ same-length-4 : tie.Need-same-length-4
 same-length-4 c = search needs
 
 returns-2 : tie.Need-returns-2
-returns-2 c = let t = c .before .before .before .before .before .before .before in let s = t .before .before .before .before .before in
-    c .before .before .before .before .remove-block .ensures ∙ ap (λ x. step x (found s)) (R.is-remove (s .args .kind) (s .args .vip .0) (s .args .bytes .now) (t .if2 .taken))
+returns-2 c = let k = c .before .before .before .before in R.same-call _ (k .remove-block .ensures) (R.is-remove _ _ _ (k .before .before .before .if2 .taken))
 
 append-requires : tie.Need-append-requires
 append-requires c κs = search needs
@@ -47,8 +39,7 @@ same-length-6 : tie.Need-same-length-6
 same-length-6 c = search needs
 
 returns-3 : tie.Need-returns-3
-returns-3 c = let t = c .before .before .before .before .before .before .before in let s = t .before .before .before .before .before .before in
-    c .before .before .before .before .append .ensures ∙ ap (λ x. step x (found s)) (R.is-append (s .args .kind) (s .args .vip .0) (s .args .bytes .now) (t .if3 .taken))
+returns-3 c = let k = c .before .before .before .before in R.same-call _ (k .append .ensures) (R.is-append _ _ _ (k .before .before .before .if3 .taken))
 
 undo-requires : tie.Need-undo-requires
 undo-requires c κs = search needs
@@ -60,9 +51,8 @@ same-length-8 : tie.Need-same-length-8
 same-length-8 c = search needs
 
 returns-4 : tie.Need-returns-4
-returns-4 c = let t = c .before .before .before .before .before .before .before in let s = t .before .before .before .before .before .before in
-    c .before .before .before .before .undo .ensures
-    ∙ ap (λ x. step x (found s)) (R.is-undo (s .args .kind) (s .args .vip .0) (s .args .bytes .now) (t .before .before .if1 .left) (t .before .if2 .left) (t .if3 .left))
+returns-4 c = let k = c .before .before .before .before in let t = k .before .before .before in
+    R.same-call _ (k .undo .ensures) (R.is-undo _ _ _ (t .before .before .if1 .left) (t .before .if2 .left) (t .if3 .left))
 
 pub call-spec : {M : Type 1} → statement M
 call-spec =

@@ -34,7 +34,8 @@ sub-if1 : tie.Need-sub-if1 Inv-loop μ-loop
 sub-if1 c = search needs
 
 returns : tie.Need-returns Inv-loop μ-loop
-returns c = let a = c .before .before in let n = length-drop (a .loop .i) (words a) in sym (a .loop .inv .1 ∙ W.too-few (drop (a .loop .i) (words a)) (texts a) (omega arith) (omega arith))
+returns c = let a = c .before .before in let n = length-drop (a .loop .i) (words a) in
+    sym (a .loop .inv .1 ∙ W.too-few (drop (a .loop .i) (words a)) (texts a) (omega arith) (omega arith))
 
 mul-if2 : tie.Need-mul-if2 Inv-loop μ-loop
 mul-if2 c = search needs
@@ -92,7 +93,8 @@ loop-again c = let o = c .before .before in let k = o .before .before .before in
 
 returns-5 : tie.Need-returns-5 Inv-loop μ-loop
 unfolding is-script
-returns-5 c = let a = c .before in sym (a .loop .inv .1 ∙ ap (λ l. is-script l (texts a)) (W.none-left (words a) (texts a) (a .loop .i) (omega arith) (omega arith)))
+returns-5 c = let a = c .before in
+    sym (a .loop .inv .1 ∙ ap (λ l. is-script l (texts a)) (W.none-left (words a) (texts a) (a .loop .i) (omega arith) (omega arith)))
 
 pub is-script-spec : {M : Type 1} → statement M
 is-script-spec =

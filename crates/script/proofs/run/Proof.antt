@@ -23,7 +23,8 @@ use Rattle.script.proofs.run.Tie as tie
 
 abbrev Inv-loop : tie.InvT-loop
 Inv-loop file image₀ journal₀ words texts last₀ n at₀ image journal last at =
-    Reached words texts (outcome last₀ image₀ journal₀) (outcome last image journal) at × (length image ≡ length image₀) × (length journal ≡ length journal₀)
+    Reached words texts (outcome last₀ image₀ journal₀) (outcome last image journal) at
+    × (length image ≡ length image₀) × (length journal ≡ length journal₀)
 
 abbrev μ-loop : tie.MeasureT-loop
 μ-loop file image₀ journal₀ words texts last₀ n at₀ image journal last at = length words - at
@@ -31,14 +32,16 @@ abbrev μ-loop : tie.MeasureT-loop
 abbrev entry : tie.After-shared-slice-known3 Inv-loop μ-loop → tie.Start Inv-loop μ-loop
 entry k = k .before .before .before .before .before
 
+abbrev due : tie.After-shared-slice-known3 Inv-loop μ-loop → Answer × State
+due k = let a = entry k .args in replayed (a .file .now) (a .image .now) (a .journal .now) (a .words .now) (a .texts .now)
+
+abbrev Promised : tie.After-shared-slice-known3 Inv-loop μ-loop → Answer × State → Type 0
+Promised k x = let a = entry k .args in Replays (a .file .now) (a .image .now) (a .journal .now) (a .words .now) (a .texts .now) x
+
 -- what is replayed is what is promised
-promised : (k : tie.After-shared-slice-known3 Inv-loop μ-loop) (x : Answer × State)
-    → x ≡ replayed (entry k .args .file .now) (entry k .args .image .now) (entry k .args .journal .now) (entry k .args .words .now) (entry k .args .texts .now)
-    → Replays (entry k .args .file .now) (entry k .args .image .now) (entry k .args .journal .now) (entry k .args .words .now) (entry k .args .texts .now) x
+promised : (k : tie.After-shared-slice-known3 Inv-loop μ-loop) (x : Answer × State) → x ≡ due k → Promised k x
 promised k =
-    R.replays (entry k .args .file .now) (entry k .args .image .now) (entry k .args .journal .now) (entry k .args .words .now) (entry k .args .texts .now)
-    (λ i. omega (arith, k .before .shared-slice-known2 .given i))
-    (λ i. omega (arith, k .shared-slice-known3 .given i))
+    R.replays _ _ _ _ _ (λ i. omega (arith, k .before .shared-slice-known2 .given i)) (λ i. omega (arith, k .shared-slice-known3 .given i))
 
 -- the words are a script
 scripted : (c : tie.Else1 Inv-loop μ-loop) → is-script (entry (c .before .before) .args .words .now) (entry (c .before .before) .args .texts .now) ≡ true
@@ -84,7 +87,7 @@ loop-holds c = let o = opening (c .before) in let e = o .before .before .before 
     (R.begun _ _ _ (scripted e), refl, refl)
 
 call-at-requires : tie.Need-call-at-requires Inv-loop μ-loop
-call-at-requires c κs = let t = c .before .before .before in let a = t .before in W.sits (words a) (texts a) (a .loop .at) (t .loop-test .taken) (a .loop .inv .0 .script)
+call-at-requires c κs = let t = c .before .before .before in let a = t .before in W.sits _ _ _ (t .loop-test .taken) (a .loop .inv .0 .script)
 
 add-at : tie.Need-add-at Inv-loop μ-loop
 add-at c = let t = c .before .before .before .before .before .before .before .before in let a = t .before in
