@@ -93,13 +93,19 @@ fn second_create_full() {
 fn image_before_journal() {
     let mut image = [0u8; 149];
     let mut journal = [0u8; 19];
-    print_answer(b"Image 149 and journal 19, create: ", create_one(&mut image, &mut journal).refusal);
+    print_answer(
+        b"Image 149 and journal 19, create: ",
+        create_one(&mut image, &mut journal).refusal,
+    );
 }
 
 fn journal_full() {
     let mut image = [0u8; 150];
     let mut journal = [0u8; 19];
-    print_answer(b"Image 150 and journal 19, create: ", create_one(&mut image, &mut journal).refusal);
+    print_answer(
+        b"Image 150 and journal 19, create: ",
+        create_one(&mut image, &mut journal).refusal,
+    );
 }
 
 fn main() {

@@ -115,7 +115,12 @@ pub extern "C" fn vtil_block_vip(
 
 // a convention: 0 the routine's, 1 the subroutine's, then the special ones,
 #[no_mangle]
-pub extern "C" fn vtil_convention(book: Book, image: &[u8], journal: &[u8], place: u64) -> ConventionLook
+pub extern "C" fn vtil_convention(
+    book: Book,
+    image: &[u8],
+    journal: &[u8],
+    place: u64,
+) -> ConventionLook
     ensures { λ r. ⌜ r ≡ convention-look (look-convention place (state (now (image .entry)) (now (journal .entry)) book)) ⌝ }
 {
     look_convention::look_convention(book, image, journal, place)
@@ -138,14 +143,24 @@ pub extern "C" fn vtil_convention_register(
 
 // The edits, and undo: document 01's take back.
 #[no_mangle]
-pub extern "C" fn vtil_create_block(book: Book, image: &mut [u8], journal: &mut [u8], vip: u64) -> Answer
+pub extern "C" fn vtil_create_block(
+    book: Book,
+    image: &mut [u8],
+    journal: &mut [u8],
+    vip: u64,
+) -> Answer
     ensures { λ r. ⌜ outcome r (now (image .exit)) (now (journal .exit)) ≡ step (edit (create vip)) (state (now (image .entry)) (now (journal .entry)) book) ⌝ }
 {
     calls::create_block(book, image, journal, Vip(vip))
 }
 
 #[no_mangle]
-pub extern "C" fn vtil_remove_block(book: Book, image: &mut [u8], journal: &mut [u8], vip: u64) -> Answer
+pub extern "C" fn vtil_remove_block(
+    book: Book,
+    image: &mut [u8],
+    journal: &mut [u8],
+    vip: u64,
+) -> Answer
     ensures { λ r. ⌜ outcome r (now (image .exit)) (now (journal .exit)) ≡ step (edit (remove vip)) (state (now (image .entry)) (now (journal .entry)) book) ⌝ }
 {
     calls::remove_block(book, image, journal, Vip(vip))
