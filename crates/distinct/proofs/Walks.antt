@@ -12,36 +12,12 @@ use Rattle.pod.specs.Blocks.{repeats}
 use Rattle.sorting.specs.Counts.{count, hit}
 use Rattle.sorting.specs.Buffer.{TOP, Cleared, Heap, Under, Sifted}
 use Rattle.sorting.proofs.Order.{equal?, below?, false-true, true-false}
-use Rattle.sorting.proofs.Counts.{hit-same, hit-other, hit-le, count-set, count-at, count-only}
+use Rattle.sorting.proofs.Counts.{hit-same, hit-other, count-set, count-at, count-only}
 use Rattle.sorting.proofs.Heaps.{root-max}
 use Rattle.walk.specs.Ends.{word, blockEnd}
 use Rattle.distinct.specs.Walked.{vipsFrom, TopTwice, Gathered}
-use Rattle.distinct.proofs.Repeats.{rep-true, rep-false}
+use Rattle.distinct.proofs.Repeats.{rep-true}
 use Rattle.distinct.proofs.Read.{count-step, count-none}
-
--- the vips passed ascend, and end below `floor`
-pub record Ascends (s xs : List ℕ) (left at floor : ℕ) : Type 0 where
-  pub low : (v : ℕ) → v < floor → count v xs ≤ count v (vipsFrom s at left) + 1
-  pub high : (v : ℕ) → floor ≤ v → count v xs ≡ count v (vipsFrom s at left)
-
-pub asc-start : (s : List ℕ) (o n : ℕ) → Ascends s (vipsFrom s o n) n o 0
-asc-start s o n = record { low = λ v h. omega arith; high = λ v h. refl }
-
-pub asc-more : (s xs : List ℕ) (left at floor x n : ℕ) → x ≡ word 8 s at → n ≡ blockEnd s at → 0 < left → floor ≤ x
-    → Ascends s xs left at floor → Ascends s xs (left - 1) n (x + 1)
-asc-more s xs left at floor x n p q h l a = record {
-  low = λ v w. let st = count-step s at left v x n p q h in ⊎-elim
-      (λ b. omega (arith, a .low v b, hit-other v x (λ e. omega arith)))
-      (λ b. omega (arith, a .high v b, hit-le v x))
-      (below? v floor);
-  high = λ v w. let st = count-step s at left v x n p q h in omega (arith, a .high v (omega arith), hit-other v x (λ e. omega arith));
-}
-
-pub asc-end : (s xs : List ℕ) (left at floor : ℕ) → left ≤ 0 → Ascends s xs left at floor → repeats xs ≡ false
-asc-end s xs left at floor h a = rep-false xs (λ v. ⊎-elim
-    (λ b. omega (arith, a .low v b, count-none s at left v h))
-    (λ b. omega (arith, a .high v b, count-none s at left v h))
-    (below? v floor))
 
 -- the highest vip was passed `seen` times
 pub record Tops (s xs : List ℕ) (left at seen : ℕ) : Type 0 where

@@ -1,6 +1,5 @@
 // Whether two blocks share a vip: document 01's refusal 9. The blocks were accepted before, the file is only read, and the memory is 64,000
-// bytes of stack. n blocks take at most n / 8000 + 3 walks, whatever their vips and their order, and one where the vips ascend; no contract
-// says this.
+// bytes of stack. n blocks take at most n / 8000 + 2 walks, whatever their vips and their order; no contract says this.
 ghost use mathlib.Core.Path.{_≡_};
 ghost use mathlib.Core.Bool.{Bool, true, false};
 ghost use mathlib.Core.List.{List};
@@ -12,29 +11,6 @@ ghost use Rattle.pod.specs.Layout.{block};
 ghost use Rattle.pod.specs.Blocks.{vips, repeats};
 ghost use Rattle.sorting.specs.Buffer.{TOP};
 ghost use Rattle.distinct.specs.Walked.{vipsFrom, TopTwice, Gathered};
-
-// Whether the vips ascend strictly, and none is the highest number.
-fn ascending(s: &[u8], start: usize, count: usize) -> bool
-    ensures { λ r. ⌜ (r ≡ true → repeats (vipsFrom (now (s .entry)) start count) ≡ false) ⌝ }
-{
-    let mut left = count;
-    let mut at = start;
-    let mut floor: u64 = 0;
-    while 0 < left {
-        let b = walk::block_at(s, at);
-        let v = b.vip.0;
-        if v < floor {
-            return false;
-        }
-        if v == sorting::TOP {
-            return false;
-        }
-        floor = v + 1;
-        at = b.next;
-        left -= 1;
-    }
-    true
-}
 
 // Whether the highest number is the vip of two blocks. Where it is not, it can stand for an empty place in the buffer.
 fn top_twice(s: &[u8], start: usize, count: usize) -> bool
@@ -118,9 +94,6 @@ fn has_repeat_in(s: &[u8], start: usize, count: usize, b: &mut [u64]) -> bool
     ensures { λ r. ⌜ r ≡ repeats (vipsFrom (now (s .entry)) start count) ⌝ }
 {
     if count < 2 {
-        return false;
-    }
-    if ascending(s, start, count) {
         return false;
     }
     if top_twice(s, start, count) {

@@ -3,7 +3,10 @@ ghost use mathlib.Core.Path.{_≡_};
 ghost use Rattle.fields.specs.Parse.{many, counted, bind, span};
 ghost use Rattle.fields.specs.Answers.{of-skip};
 ghost use Rattle.routine.specs.Header.{marked, machine-byte};
-ghost use Prim.Native.Nat.{_≤_};
+ghost use mathlib.Core.Bool.{true};
+ghost use Prim.Native.Nat.{_+_, _≤_, _<_};
+ghost use Rattle.sorting.specs.Buffer.{TOP};
+ghost use Rattle.routine.specs.Rising.{of-blocks, rising, Apart};
 ghost use Rattle.pod.specs.Layout.{header, convention, block, blocks, routine};
 use fields::Skip;
 use fields::U8Read;
@@ -81,20 +84,43 @@ fn conventions_run(s: &[u8], at: usize, count: u32, exact: bool) -> Skip
     Skip::Past(o)
 }
 
-// `count` blocks.
-fn blocks_run(s: &[u8], at: usize, count: u32, exact: bool) -> Skip
-    ensures { λ r. ⌜ of-skip r ≡ span (many (block exact) count (now (s .entry)) at) ⌝ }
+// Blocks that were passed over: the offset past them, and whether their vips were seen to rise; or the refusal.
+enum BlocksSkip {
+    Past(usize, bool),
+    Refused(u8),
+}
+
+// The least vip that may come after `vip` where vips rise, one more, if `vip` itself may come. If not, the highest number, and it stays that.
+fn floor_after(floor: u64, vip: u64) -> u64
+    ensures { λ r. ⌜ (r < TOP → (floor ≤ vip) × (r ≡ vip + 1)) ⌝ }
+{
+    if vip < floor {
+        return sorting::TOP;
+    }
+    if vip == sorting::TOP {
+        return sorting::TOP;
+    }
+    vip + 1
+}
+
+// `count` blocks. Their vips are looked at on the way: where they rise, as compilers write them, no search for repeated ones is needed.
+fn blocks_run(s: &[u8], at: usize, count: u32, exact: bool) -> BlocksSkip
+    ensures { λ r. ⌜ (of-blocks r ≡ span (many (block exact) count (now (s .entry)) at)) × (rising r ≡ true → Apart (many (block exact) count (now (s .entry)) at)) ⌝ }
 {
     let mut left = count;
     let mut o = at;
+    let mut floor: u64 = 0;
     while 0 < left {
         match block::block_skip(s, o, exact) {
-            Skip::Refused(e) => return Skip::Refused(e),
-            Skip::Past(n) => o = n,
+            Skip::Refused(e) => return BlocksSkip::Refused(e),
+            Skip::Past(n) => {
+                floor = floor_after(floor, walk::word64(s, o));
+                o = n;
+            }
         }
         left -= 1;
     }
-    Skip::Past(o)
+    BlocksSkip::Past(o, floor < sorting::TOP)
 }
 
 fn then_convention(s: &[u8], far: Skip, exact: bool) -> Skip
@@ -127,9 +153,11 @@ fn blocks_skip(s: &[u8], at: usize, exact: bool) -> Skip
     match fields::u32_at(s, at) {
         U32Read::Refused(e) => Skip::Refused(e),
         U32Read::Value(count, a) => match blocks_run(s, a, count, exact) {
-            Skip::Refused(e) => Skip::Refused(e),
-            Skip::Past(n) => {
-                if distinct::has_repeat(s, a, count) {
+            BlocksSkip::Refused(e) => Skip::Refused(e),
+            BlocksSkip::Past(n, rising) => {
+                if rising {
+                    Skip::Past(n)
+                } else if distinct::has_repeat(s, a, count) {
                     Skip::Refused(fields::REPEATED_BLOCK)
                 } else {
                     Skip::Past(n)

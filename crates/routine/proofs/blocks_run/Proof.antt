@@ -1,10 +1,17 @@
--- A run of blocks passed over. The loop keeps that what is left is read as the whole run is.
-use mathlib.Core.Path.{_≡_, _∙_, sym, ap}
+-- A run of blocks passed over. The loop keeps that what is left is read as the whole run is, and that the vips of all blocks rise from 0 if those left
+-- rise from the floor.
+use mathlib.Core.Path.{_≡_, refl, sym, ap, _∙_}
+use native.Mathlib.Omega.{arith}
+use borrow.Author.Tests.{ltb-true}
+use Prim.Native.Nat.{_<_}
 use Rattle.fields.specs.Parse.{many, span}
 use Rattle.fields.specs.Answers.{of-skip}
 use Rattle.fields.proofs.Many.{run-end}
 use Rattle.block.proofs.Skip.{skip-next, skip-stop}
 use Rattle.pod.specs.Layout.{block}
+use Rattle.sorting.specs.Buffer.{TOP}
+use Rattle.sorting.proofs.Order.{false-true}
+use Rattle.routine.proofs.Rising.{RisesFrom, rises-more, rises-end, all-different}
 use borrow.Author.Needs.{needs}
 use Rattle.routine.proofs.blocks_run.Statement.{statement}
 use Rattle.routine.proofs.blocks_run.Tie as tie
@@ -13,13 +20,15 @@ use Rattle.routine.proofs.blocks_run.Lts as lts
 use Rattle.block.proofs.block_skip.Reads as block-skip-reads
 
 abbrev Inv-loop : tie.InvT-loop
-Inv-loop s at count exact left₀ o₀ left o = span (many (block exact) left s o) ≡ span (many (block exact) count s at)
+Inv-loop s at count exact left₀ o₀ floor₀ left o floor =
+    (span (many (block exact) left s o) ≡ span (many (block exact) count s at))
+    × (floor < TOP → RisesFrom exact s left o floor → RisesFrom exact s count at 0)
 
 abbrev μ-loop : tie.MeasureT-loop
-μ-loop s at count exact left₀ o₀ left o = left
+μ-loop s at count exact left₀ o₀ floor₀ left o floor = left
 
 loop-holds : tie.Need-loop-holds Inv-loop μ-loop
-loop-holds c = search needs
+loop-holds c = (refl, λ l r. r)
 
 block-skip-requires : tie.Need-block-skip-requires Inv-loop μ-loop
 block-skip-requires c κs = search needs
@@ -29,11 +38,19 @@ enum-known-e c = search needs
 
 returns : tie.Need-returns Inv-loop μ-loop
 returns c =
-    let d = c .before .before .before in
-    skip-stop (block _) _ _ _ (d .before .before .loop .inv) (d .before .loop-test .taken) (sym (ap of-skip (c .before .e .given .1)) ∙ d .block-skip .ensures)
+    let d = c .before .before .before in (
+      skip-stop (block _) _ _ _ (d .before .before .loop .inv .0) (d .before .loop-test .taken) (sym (ap of-skip (c .before .e .given .1)) ∙ d .block-skip .ensures),
+      λ w. false-true w,
+    )
 
 enum-known-n : tie.Need-enum-known-n Inv-loop μ-loop
 enum-known-n c = search needs
+
+word64-requires : tie.Need-word64-requires Inv-loop μ-loop
+word64-requires c κs = search needs
+
+floor-after-requires : tie.Need-floor-after-requires Inv-loop μ-loop
+floor-after-requires c κs = search needs
 
 sub-left : tie.Need-sub-left Inv-loop μ-loop
 sub-left c = search needs
@@ -43,11 +60,24 @@ loop-less c = search needs
 
 loop-again : tie.Need-loop-again Inv-loop μ-loop
 loop-again c =
-    let d = c .before .before .before in
-    skip-next (block _) _ _ _ (d .before .before .loop .inv) (d .before .loop-test .taken) (sym (ap of-skip (c .before .n .given .1)) ∙ d .block-skip .ensures)
+    let v = c .before in
+    let k = v .before in
+    let d = k .before .before .before in
+    let i = d .before .before .loop .inv in
+    let h = d .before .loop-test .taken in
+    let past = sym (ap of-skip (k .before .n .given .1)) ∙ d .block-skip .ensures in (
+      skip-next (block _) _ _ _ (i .0) h past,
+      λ l r. let f = c .floor-after .ensures l in
+          i .1 (omega (arith, f .0, f .1)) (rises-more _ _ _ _ _ _ _ h past (v .word64 .ensures) (f .0) (rw (f .1) at r)),
+    )
 
 returns-2 : tie.Need-returns-2 Inv-loop μ-loop
-returns-2 c = run-end (block _) _ _ _ (c .before .loop .inv) (c .loop-test .left)
+returns-2 c =
+    let i = c .before .loop .inv in
+    let none = c .loop-test .left in (
+      run-end (block _) _ _ _ (i .0) none,
+      λ w. all-different _ _ _ _ (i .1 (ltb-true _ _ w) (rises-end _ _ _ _ _ none)),
+    )
 
 pub blocks-run-spec : {M : Type 1} → statement M
 blocks-run-spec =
@@ -60,6 +90,8 @@ blocks-run-spec =
     enum-known-e
     returns
     enum-known-n
+    word64-requires
+    floor-after-requires
     sub-left
     loop-less
     loop-again

@@ -1,7 +1,7 @@
--- The blocks passed over, and then the test of their vips, which is asked only of blocks that were accepted.
+-- The blocks passed over, and then the test of their vips, which is asked only of blocks that were accepted. Where the vips rise it has its answer.
 use Rattle.routine.proofs.Skip.{shared, alone, assoc}
-use mathlib.Core.Path.{sym, ap, _∙_}
-use Rattle.fields.specs.Answers.{of-skip}
+use mathlib.Core.Path.{refl, sym, ap, _∙_}
+use Rattle.routine.specs.Rising.{of-blocks, rising}
 use Rattle.pod.specs.Layout.{blocks}
 use Rattle.fields.proofs.Steps.{skip-on-u32, skip-off-u32, skip-off}
 use borrow.Author.Needs.{needs}
@@ -43,23 +43,33 @@ unfolding blocks
 returns-2 c =
     let k = c .before .before .before .before in
     assoc _ _ _ (skip-on-u32 _ (k .before .count .given .1) (k .before .before .before .u32-at .ensures)
-    (skip-off _ _ (c .before .e2 .given .1) (c .before .before .before .blocks-run .ensures)))
+    (skip-off _ _ refl (sym (ap of-blocks (c .before .e2 .given .1)) ∙ c .before .before .before .blocks-run .ensures .0)))
 
 returns-3 : tie.Need-returns-3
 unfolding blocks
 returns-3 c =
-    let j = c .before .before in
+    let j = c .before in
+    let b = j .before .before .before .blocks-run .ensures in
     let k = j .before .before .before .before in
+    let n = j .before .n .given .1 in
     assoc _ _ _ (skip-on-u32 _ (k .before .count .given .1) (k .before .before .before .u32-at .ensures)
-    (shared _ _ (sym (ap of-skip (j .before .n .given .1)) ∙ j .before .before .before .blocks-run .ensures) (c .before .has-repeat .ensures _) (c .if1 .taken)))
+    (alone _ _ (sym (ap of-blocks n) ∙ b .0) (λ bs end e. sym (b .1 (ap rising n ∙ c .if1 .taken) bs end e)) refl))
 
 returns-4 : tie.Need-returns-4
 unfolding blocks
 returns-4 c =
-    let j = c .before .before in
+    let j = c .before .before .before in
     let k = j .before .before .before .before in
     assoc _ _ _ (skip-on-u32 _ (k .before .count .given .1) (k .before .before .before .u32-at .ensures)
-    (alone _ _ (sym (ap of-skip (j .before .n .given .1)) ∙ j .before .before .before .blocks-run .ensures) (c .before .has-repeat .ensures _) (c .if1 .left)))
+    (shared _ _ (sym (ap of-blocks (j .before .n .given .1)) ∙ j .before .before .before .blocks-run .ensures .0) (c .before .has-repeat .ensures _) (c .if2 .taken)))
+
+returns-5 : tie.Need-returns-5
+unfolding blocks
+returns-5 c =
+    let j = c .before .before .before in
+    let k = j .before .before .before .before in
+    assoc _ _ _ (skip-on-u32 _ (k .before .count .given .1) (k .before .before .before .u32-at .ensures)
+    (alone _ _ (sym (ap of-blocks (j .before .n .given .1)) ∙ j .before .before .before .blocks-run .ensures .0) (c .before .has-repeat .ensures _) (c .if2 .left)))
 
 pub blocks-skip-spec : {M : Type 1} → statement M
 blocks-skip-spec =
@@ -75,4 +85,5 @@ blocks-skip-spec =
     returns
     returns-2
     returns-3
-    returns-4)
+    returns-4
+    returns-5)
