@@ -31,6 +31,10 @@ word-is k s o = go (leb (o + k) (length s))
     go true = refl
     go false = refl
 
+pub word-in : (k : ℕ) (s : List ℕ) (o : ℕ) → o + k ≤ length s → word k s o ≡ le k s o
+unfolding word choose
+word-in k s o h = rw (le-leb _ _ h)
+
 -- a loop that counts down: what is left leads to q, as the whole does
 module _ (f : ℕ → ℕ) (n o : ℕ) {q : ℕ} (leads : times f n o ≡ q) where
   -- one more was passed
@@ -80,3 +84,14 @@ module _ (s : List ℕ) (o : ℕ) where
 
   pub reg-made : {a w r : ℕ} → a ≡ jump s o 4 → w ≡ word 4 s o → (w ≡ 0 → ⊥) → r ≡ jump s a 24 → r ≡ operandEnd s o
   reg-made p q z e = rw (e, p) (sym (reg-end s o (λ y. z (q ∙ y))))
+
+-- a block whose three lists are empty
+pub empty-block : (s : List ℕ) (o : ℕ) → o + 36 ≤ length s → le 4 s (o + 24) ≡ 0 → le 4 s (o + 28) ≡ 0 → le 4 s (o + 32) ≡ 0 → blockEnd s o ≡ o + 36
+unfolding times
+empty-block s o h p q r =
+    let jumps : (a k b : ℕ) → a + k ≡ b → b ≤ length s → b ≡ jump s a k = λ a k b e l. sym (jump-in s a k (omega arith) ∙ e) in
+    let none : (a : ℕ) → a + 4 ≤ length s → le 4 s a ≡ 0 → 0 ≡ word 4 s a = λ a l e. sym (word-in 4 s a l ∙ e) in
+    sym (block-made s o {i = o + 24} {c = 0} {a = o + 28} {e = o + 28} {p = o + 32} {r = o + 36}
+    (jumps o 24 _ refl (omega arith)) (none (o + 24) (omega arith) p) (jumps (o + 24) 4 _ (omega arith) (omega arith)) refl
+    (vips-made s (o + 28) {a = o + 32} {n = 0} {r = o + 32} (jumps (o + 28) 4 _ (omega arith) (omega arith)) (none (o + 28) (omega arith) q) (jumps (o + 32) 0 _ (omega arith) (omega arith)))
+    (vips-made s (o + 32) {a = o + 36} {n = 0} {r = o + 36} (jumps (o + 32) 4 _ (omega arith) (omega arith)) (none (o + 32) (omega arith) r) (jumps (o + 36) 0 _ (omega arith) (omega arith))))

@@ -1,6 +1,7 @@
 // The walk over blocks and conventions that were accepted before. It looks at counts, kinds and the size of a name alone, and reads no name, text or register
 // again: where a block is passed many times, that is most of the time.
 ghost use mathlib.Core.Path.{_≡_};
+ghost use Prim.Native.Nat.{_<_};
 ghost use Rattle.walk.specs.Ends.{word, operandEnd, times, instructionEnd, vipsEnd, blockEnd, registersEnd, conventionEnd};
 use fields::U32Read;
 use fields::U64Read;
@@ -104,10 +105,36 @@ pub fn vips_end(s: &[u8], at: usize) -> usize
     jump(s, a, 8 * (count as usize))
 }
 
+// The end of the block at `at` where it has no instruction and no vips, as one length test and three loads tell; or 0.
+fn quick(s: &[u8], at: usize) -> usize
+    ensures { λ r. ⌜ (0 < r → r ≡ blockEnd (now (s .entry)) at) ⌝ }
+{
+    if s.len() < at {
+        return 0;
+    }
+    if s.len() - at < 36 {
+        return 0;
+    }
+    if fields::four(s, at + 24) != 0 {
+        return 0;
+    }
+    if fields::four(s, at + 28) != 0 {
+        return 0;
+    }
+    if fields::four(s, at + 32) != 0 {
+        return 0;
+    }
+    at + 36
+}
+
 // The end of the block at `at`. The 24 bytes before its lists: vip 8, sp offset 8, sp index 4, last temporary index 4.
 pub fn block_end(s: &[u8], at: usize) -> usize
     ensures { λ r. ⌜ r ≡ blockEnd (now (s .entry)) at ⌝ }
 {
+    let end = quick(s, at);
+    if 0 < end {
+        return end;
+    }
     let i = jump(s, at, 24);
     let count = word32(s, i);
     let a = jump(s, i, 4);

@@ -1,8 +1,14 @@
--- Straight code: the calls put together are `blockEnd`.
+-- Where the quick way tells, it is `blockEnd`; else straight code, whose calls put together are `blockEnd`.
 use Rattle.walk.proofs.Steps.{block-made}
 use borrow.Author.Needs.{needs}
 use Rattle.walk.proofs.block_end.Statement.{statement}
 use Rattle.walk.proofs.block_end.Tie as tie
+
+quick-requires : tie.Need-quick-requires
+quick-requires c κs = search needs
+
+returns : tie.Need-returns
+returns c = c .before .quick .ensures (c .if1 .taken)
 
 jump-requires : tie.Need-jump-requires
 jump-requires c κs = search needs
@@ -22,8 +28,8 @@ vips-end-requires c κs = search needs
 vips-end-requires-2 : tie.Need-vips-end-requires-2
 vips-end-requires-2 c κs = search needs
 
-returns : tie.Need-returns
-returns c =
+returns-2 : tie.Need-returns-2
+returns-2 c =
     let p = c .before in
     let e = p .before in
     let a = e .before in
@@ -34,10 +40,12 @@ pub block-end-spec : {M : Type 1} → statement M
 block-end-spec =
     tie.close
     (tie.spec
+    quick-requires
+    returns
     jump-requires
     word32-requires
     jump-requires-2
     instructions-end-requires
     vips-end-requires
     vips-end-requires-2
-    returns)
+    returns-2)
