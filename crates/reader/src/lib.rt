@@ -7,6 +7,7 @@ ghost use lib.ListN.{length};
 ghost use Rattle.fields.specs.Parse.{u32, span};
 ghost use Rattle.fields.specs.Answers.{of-u32, of-skip};
 ghost use Rattle.pod.specs.Layout.{routine};
+ghost use Rattle.reader.specs.Past.{past};
 use fields::Skip;
 use fields::U32Read;
 
@@ -48,6 +49,24 @@ pub fn moved<'a>(r: Reader<'a>, at: usize) -> Reader<'a>
     ensures { λ q. ⌜ (q .src ≡ r .entry .src) × (q .at ≡ at) ⌝ }
 {
     Reader { src: r.src, at }
+}
+
+// The offset past a field of four bytes at `at`; `at` itself where the field passes the end.
+fn u32_past(s: &[u8], at: usize) -> usize
+    ensures { λ n. ⌜ n ≡ past at (u32 (now (s .entry)) at) ⌝ }
+{
+    if fields::within(s, at, 4) { at + 4 } else { at }
+}
+
+// scroll's `gread`: a field read at the offset reached, and the offset moved past it. A read that is refused moves nothing.
+pub fn gread_u32<'s, 'a>(r: &'s mut Reader<'a>) -> U32Read
+    ensures { λ v. ⌜ (of-u32 v ≡ u32 (now (now (r .entry) .src)) (now (r .entry) .at))
+        × (now (r .exit) .src ≡ now (r .entry) .src)
+        × (now (r .exit) .at ≡ past (now (r .entry) .at) (u32 (now (now (r .entry) .src)) (now (r .entry) .at))) ⌝ }
+{
+    let v = fields::u32_at(r.src, r.at);
+    r.at = u32_past(r.src, r.at);
+    v
 }
 
 // The routine at the offset reached is passed over.
