@@ -46,7 +46,7 @@ pub extern "C" fn vtil_check(file: &[u8]) -> i64
     if file.len() > MOST_LENGTH {
         return 0 - (fields::LENDING_TOO_LARGE as i64);
     }
-    match routine::routine_skip(file, 0, false) {
+    match reader::pass_file(file) {
         Skip::Past(n) => signed(n),
         Skip::Refused(e) => 0 - (e as i64),
     }

@@ -10,7 +10,7 @@ use Rattle.vtil.proofs.vtil_check.Statement.{statement}
 use Rattle.vtil.proofs.vtil_check.Tie as tie
 use Rattle.vtil.proofs.vtil_check.Reads as reads
 use Rattle.vtil.proofs.vtil_check.Lts as lts
-use Rattle.routine.proofs.routine_skip.Reads as routine-skip-reads
+use Rattle.reader.proofs.pass_file.Reads as pass-file-reads
 use Rattle.vtil.proofs.signed.Reads as signed-reads
 
 cast-result : tie.Need-cast-result
@@ -22,8 +22,8 @@ sub-result c = search needs
 returns : tie.Need-returns
 returns c = over-limit _ (c .if1 .taken)
 
-routine-skip-requires : tie.Need-routine-skip-requires
-routine-skip-requires c κs = search needs
+pass-file-requires : tie.Need-pass-file-requires
+pass-file-requires c κs = search needs
 
 enum-known-n : tie.Need-enum-known-n
 enum-known-n c = search needs
@@ -31,7 +31,7 @@ enum-known-n c = search needs
 signed-requires : tie.Need-signed-requires
 signed-requires c κs =
     let w = c .before .before .before in
-    omega (arith, ends _ (w .before .before .shared-slice-known .given) (sym (ap of-skip (c .before .n .given .1)) ∙ w .routine-skip .ensures))
+    omega (arith, ends _ (w .before .before .shared-slice-known .given) (sym (ap of-skip (c .before .n .given .1)) ∙ w .pass-file .ensures))
 
 enum-known-e : tie.Need-enum-known-e
 enum-known-e c = search needs
@@ -46,12 +46,12 @@ returns-2 : tie.Need-returns-2
 returns-2 c =
     let k = c .before in
     let w = k .before .before .before in
-    toZ-ofZ w64 _ (record { sfits = c .signed .ok }) ∙ c .signed .ensures ∙ told-ok _ (sym (ap of-skip (k .before .n .given .1)) ∙ w .routine-skip .ensures) ∙ within-limit _ (w .before .if1 .left)
+    toZ-ofZ w64 _ (record { sfits = c .signed .ok }) ∙ c .signed .ensures ∙ told-ok _ (sym (ap of-skip (k .before .n .given .1)) ∙ w .pass-file .ensures) ∙ within-limit _ (w .before .if1 .left)
 
 returns-3 : tie.Need-returns-3
 returns-3 c =
     let w = c .before .before .before in
-    told-no _ (omega arith) (sym (ap of-skip (c .before .e .given .1)) ∙ w .routine-skip .ensures) ∙ within-limit _ (w .before .if1 .left)
+    told-no _ (omega arith) (sym (ap of-skip (c .before .e .given .1)) ∙ w .pass-file .ensures) ∙ within-limit _ (w .before .if1 .left)
 
 pub vtil-check-spec : {M : Type 1} → statement M
 vtil-check-spec =
@@ -60,7 +60,7 @@ vtil-check-spec =
     cast-result
     sub-result
     returns
-    routine-skip-requires
+    pass-file-requires
     enum-known-n
     signed-requires
     enum-known-e
