@@ -4,8 +4,7 @@
 # Exit status: 0 measured, 2 bad words, 3 something is missing.
 set -euo pipefail
 
-here=$(cd "$(dirname "$0")" && pwd)
-. "$here/../oracle/archive.sh"
+. "$(dirname "$0")/../oracle/archive.sh"
 
 build bench
 echo "machine: $(uname -sm), $(nproc) x $(sed -n '/^model name/ { s/^[^:]*: //p; q }' /proc/cpuinfo)"

@@ -6,7 +6,7 @@ missing() {
     exit 3
 }
 
-oracle=$(cd "$here/../oracle" && pwd)
+oracle=$(cd "$(dirname "${BASH_SOURCE[0]}")" && pwd)
 : "${VTIL_LIB:=$oracle/../target/staticlib/libvtil.a}"
 [ -f "$VTIL_LIB" ] || missing "no archive at $VTIL_LIB: run 'rt staticlib vtil', or name one by VTIL_LIB"
 VTIL_LIB=$(realpath "$VTIL_LIB")

@@ -4,8 +4,7 @@
 # Exit status: 0 nothing differs, 1 something does, 2 bad words, 3 something is missing.
 set -euo pipefail
 
-here=$(cd "$(dirname "$0")" && pwd)
-. "$here/archive.sh"
+. "$(dirname "$0")/archive.sh"
 
 build compare
-exec "$here/target/release/compare" "$@"
+exec "$oracle/target/release/compare" "$@"
