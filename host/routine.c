@@ -110,7 +110,7 @@ static void print_help(FILE *to)
             "\n"
             "%s"
             "Exit status: 0 all was accepted; 1 something was refused, or two routines differ;\n"
-            "2 something could not be read or written, or the usage is wrong.\n",
+            "2 something could not be read or written, the usage is wrong, or a file of same was refused.\n",
             conventions);
 }
 
