@@ -1,4 +1,5 @@
 use crate::c::{self, Lengths};
+use crate::list::{Call, Encoded};
 use crate::look::{Block, Convention, Links, Overview, Registers};
 use crate::refusal::{accepted, Refusal};
 use crate::value::{Instruction, Register, Vip};
@@ -8,7 +9,7 @@ use crate::value::{Instruction, Register, Vip};
 /// the journal what [`Book::undo`] needs. Image and journal have at most 16,777,216 bytes each.
 ///
 /// Every call is the library's call of that name, on the memory as it is lent: nothing is copied or allocated, but
-/// for the list of an [`Instruction`]'s operands. Refusals come in the order in which they are listed. Before those
+/// for the operands of an [`Instruction`] that is looked at and the list that [`Book::run`] encodes. Refusals come in the order in which they are listed. Before those
 /// of the call itself there are two more: 10, the image or the journal is too long; 13, the lengths, the image and
 /// the journal do not fit each other, which happens only to a book from [`Book::resume`] and after a refused
 /// [`Book::reopen`].
@@ -244,6 +245,31 @@ impl<M: AsMut<[u8]>> Book<M> {
         // SAFETY: as in `reopen`.
         self.call(|book, image, journal| unsafe {
             c::vtil_undo(book, image.as_mut_ptr(), image.len(), journal.as_mut_ptr(), journal.len())
+        })
+    }
+
+    /// Opens another routine in the same image and journal, and runs a list of calls on it, in which a refused call
+    /// changes nothing and the next one follows all the same. The list is encoded for the library first, which
+    /// allocates.
+    ///
+    /// Answers what the last call of the list answers; where the list is empty or the opening is refused, what the
+    /// opening answers. No call is run after a refused opening.
+    pub fn run(&mut self, file: &[u8], calls: &[Call]) -> Result<(), Refusal> {
+        let Encoded { words, texts } = Encoded::of(calls);
+        // SAFETY: as in `reopen`.
+        self.call(|_, image, journal| unsafe {
+            c::vtil_run(
+                file.as_ptr(),
+                file.len(),
+                image.as_mut_ptr(),
+                image.len(),
+                journal.as_mut_ptr(),
+                journal.len(),
+                words.as_ptr(),
+                words.len(),
+                texts.as_ptr(),
+                texts.len(),
+            )
         })
     }
 

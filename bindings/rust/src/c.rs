@@ -214,4 +214,16 @@ extern "C" {
         instruction_len: usize,
     ) -> Answer;
     pub fn vtil_undo(book: Lengths, image: *mut u8, image_len: usize, journal: *mut u8, journal_len: usize) -> Answer;
+    pub fn vtil_run(
+        file: *const u8,
+        file_len: usize,
+        image: *mut u8,
+        image_len: usize,
+        journal: *mut u8,
+        journal_len: usize,
+        words: *const u64,
+        words_len: usize,
+        texts: *const u8,
+        texts_len: usize,
+    ) -> Answer;
 }

@@ -34,6 +34,7 @@
 
 mod book;
 mod c;
+mod list;
 mod look;
 mod refusal;
 mod routine;
@@ -41,6 +42,7 @@ mod value;
 
 pub use book::Book;
 pub use c::Lengths;
+pub use list::Call;
 pub use look::{Block, Convention, Links, Overview, Registers};
 pub use refusal::Refusal;
 pub use routine::Routine;

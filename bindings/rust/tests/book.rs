@@ -1,6 +1,6 @@
 //! Books over lent memory: what each call leaves in it, and every refusal at exact lengths.
 
-use vtil::{check, check_raw, operation, Book, Instruction, Lengths, Refusal, Routine, Vip};
+use vtil::{check, check_raw, operation, Book, Call, Instruction, Lengths, Refusal, Routine, Vip};
 
 const MOST_LENT: usize = 16_777_216;
 const MINIMAL: usize = 114;
@@ -173,6 +173,33 @@ fn a_spoiled_book_is_refused() {
     assert_eq!(book.block(0), Err(Refusal::SpoiledBook));
     let long = Book::resume(lengths(MINIMAL, 0), image, vec![0; MOST_LENT + 1]);
     assert_eq!(long.block(0), Err(Refusal::LendingTooLarge));
+}
+
+/// A list leaves what its calls leave one by one, and answers what the last one answers.
+#[test]
+fn a_list_is_run() {
+    let (file, nop) = (sample("minimal"), nop().to_bytes().unwrap());
+    let calls = [
+        Call::Create(Vip(1)),
+        Call::Append(Vip(1), &nop),
+        Call::Append(Vip(1), &nop[..31]),
+        Call::Create(Vip(2)),
+        Call::Undo,
+        Call::Remove(Vip(3)),
+    ];
+    let mut one_by_one = Book::open(&file, image_before(300), journal_before(100)).unwrap();
+    one_by_one.create_block(Vip(1)).unwrap();
+    one_by_one.append(Vip(1), &nop).unwrap();
+    let mut book = Book::resume(Lengths::default(), image_before(300), journal_before(100));
+    assert_eq!(book.run(&file, &calls), Err(Refusal::NoSuchBlock));
+    assert_eq!(book.lengths(), one_by_one.lengths());
+    assert_eq!((book.image(), book.journal()), (one_by_one.image(), one_by_one.journal()));
+
+    assert_eq!(book.run(&file, &calls[..5]), Ok(()));
+    assert_eq!(book.run(&file, &calls[..3]), Err(Refusal::ShortFile));
+    assert_eq!((book.run(&file, &[]), book.lengths()), (Ok(()), lengths(MINIMAL, 0)));
+    assert_eq!(book.run(&[], &calls), Err(Refusal::ShortFile));
+    assert_eq!((book.lengths(), book.image()[..MINIMAL].to_vec()), (lengths(0, 0), file));
 }
 
 #[test]

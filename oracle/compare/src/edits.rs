@@ -1,5 +1,6 @@
 //! Lists of calls: after every call the answer, the image and the journal beside the routine machine of document 01,
-//! and the written bytes beside the Rust, which has create_block and remove_block of its own.
+//! and the written bytes beside the Rust, which has create_block and remove_block of its own. Then the whole list again,
+//! in one call.
 
 use crate::report::{hex, number, shrink, Report};
 use oracle::lists::{self, List};
@@ -81,15 +82,23 @@ struct Run<'a> {
     machine: Machine,
     history: Vec<Call>,
     book: Book<Vec<u8>>,
+    /// What the last call answered, or the opening.
+    last: Answer,
+}
+
+/// An image and a journal of exactly the list's lengths, in which nothing is open.
+fn memory_for(list: &List) -> Book<Vec<u8>> {
+    Book::resume(Lengths::default(), vec![0xa5; list.image_length], vec![0x5a; list.journal_length])
 }
 
 impl Run<'_> {
     fn start(list: &List) -> Run<'_> {
         let (routine, _) = read_file(&list.file).answer.expect("lists start from accepted files");
-        let (image, journal) = (vec![0xa5; list.image_length], vec![0x5a; list.journal_length]);
-        let book = Book::open(&list.file, image, journal).expect("lists have room for their files");
+        let mut book = memory_for(list);
+        book.reopen(&list.file).expect("lists have room for their files");
         let machine = Machine::new(routine, list.image_length, list.journal_length);
-        Run { list, machine, history: vec![], book }
+        let last = (0, book.lengths());
+        Run { list, machine, history: vec![], book, last }
     }
 
     fn difference_after(&mut self, call: &Call) -> Option<String> {
@@ -107,6 +116,7 @@ impl Run<'_> {
         if got != due {
             return Some(format!("library {got:?}, document 01 {due:?}"));
         }
+        self.last = got;
         self.memory_difference()
     }
 
@@ -125,9 +135,33 @@ impl Run<'_> {
     }
 }
 
+fn as_library_call(call: &Call) -> vtil::Call<'_> {
+    match call {
+        Call::Create(vip) => vtil::Call::Create(vtil::Vip(*vip)),
+        Call::Remove(vip) => vtil::Call::Remove(vtil::Vip(*vip)),
+        Call::Append(vip, bytes) => vtil::Call::Append(vtil::Vip(*vip), bytes),
+        Call::TakeBack => vtil::Call::Undo,
+    }
+}
+
+/// The list in one call has to leave what its calls left one by one.
+fn difference_at_once(run: &Run) -> Option<String> {
+    let mut book = memory_for(run.list);
+    let calls: Vec<vtil::Call> = run.list.calls.iter().map(as_library_call).collect();
+    let got = (number(book.run(&run.list.file, &calls)), book.lengths());
+    if got != run.last {
+        return Some(format!("at once {got:?}, one by one {:?}", run.last));
+    }
+    if (book.image(), book.journal()) != (run.book.image(), run.book.journal()) {
+        return Some("at once another image or journal than one by one".to_string());
+    }
+    None
+}
+
 fn difference(list: &List) -> Option<String> {
     let mut run = Run::start(list);
-    list.calls.iter().find_map(|call| run.difference_after(call))
+    let one_by_one = list.calls.iter().find_map(|call| run.difference_after(call));
+    one_by_one.or_else(|| difference_at_once(&run))
 }
 
 fn with_calls(list: &List, calls: &[Call]) -> List {
