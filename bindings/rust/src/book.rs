@@ -14,7 +14,7 @@ use crate::value::{Instruction, Register, Vip};
 /// the journal do not fit each other, which happens only to a book from [`Book::resume`] and after a refused
 /// [`Book::reopen`].
 ///
-/// A refused call leaves the book as it was. Every call reads the whole image: its time grows with the image.
+/// A refused edit leaves the book as it was. Every call reads the whole image: its time grows with the image.
 #[derive(Clone, Debug)]
 pub struct Book<M> {
     lengths: Lengths,
