@@ -1,7 +1,7 @@
 #!/usr/bin/env bash
 # The tests: those of the C side, then every crate proved from nothing, every edit that the prover must refuse, and every program run. The last line
 # is the verdict.
-set -eu
+set -euo pipefail
 cd "$(dirname "$0")"
 host/tests/tests.sh
 exec rt ci

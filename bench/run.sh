@@ -1,14 +1,12 @@
-#!/bin/sh
+#!/usr/bin/env bash
 # Measures the library and the Rust side by side: bench/run.sh [--most-blocks N]
 # VTIL_LIB names the archive; without it, target/staticlib/libvtil.a of the repository (rt staticlib vtil).
-# What is measured follows from the calls that the archive has. Exit status: 0 measured, 2 bad words, 3 something is
-# missing.
-set -eu
+# Exit status: 0 measured, 2 bad words, 3 something is missing.
+set -euo pipefail
 
-here=$(cd "$(dirname "$0")" && pwd)
-. "$here/../oracle/archive.sh"
+. "$(dirname "$0")/../oracle/archive.sh"
 
-build bench "$(features_of open look edit)"
-echo "machine: $(uname -sm), $(nproc) x $(sed -n 's/^model name[^:]*: //p' /proc/cpuinfo | head -1)"
+build bench
+echo "machine: $(uname -sm), $(nproc) x $(sed -n '/^model name/ { s/^[^:]*: //p; q }' /proc/cpuinfo)"
 echo "compiler of the Rust: $(rustc --version), release"
 exec "$oracle/target/release/bench" "$@"

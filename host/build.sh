@@ -42,33 +42,7 @@ need_archive() {
     [ -r "$LIB" ] || stop "rt staticlib vtil wrote no $LIB"
 }
 
-# has_functions NAME..: whether the archive has them all.
-has_functions() {
-    local name
-    for name; do
-        nm -g --defined-only "$LIB" 2>/dev/null | grep -q " T vtil_$name\$" || return 1
-    done
-}
-
-# Opening, writing an instruction, looking.
-has_books() {
-    has_functions open write_instruction routine block instruction block_vip convention convention_register
-}
-
-has_edits() {
-    has_books && has_functions create_block remove_block append undo run
-}
-
-# The subcommands whose functions the archive does not have are left out.
 build_routine() {
-    local sources=(host/{check,file,routine,words}.c) without=()
-    if has_books; then
-        sources+=(host/{book,json,normalize,operations,output,pages,parts,same,show,text}.c)
-    else
-        without+=(-DROUTINE_WITHOUT_BOOKS)
-    fi
-    if has_edits; then sources+=(host/{edit,script}.c); else without+=(-DROUTINE_WITHOUT_EDITS); fi
     mkdir -p target/host
-    "$CC" "${HOST_FLAGS[@]}" "${without[@]}" "${sources[@]}" "$LIB" -o target/host/routine ||
-        stop "target/host/routine was not built"
+    "$CC" "${HOST_FLAGS[@]}" host/*.c "$LIB" -o target/host/routine || stop "target/host/routine was not built"
 }

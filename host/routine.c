@@ -26,11 +26,9 @@ struct command {
     enum status (*run)(const struct request *request);
 };
 
-/* host/build.sh leaves out the subcommands whose library calls the archive does not have. */
 static const struct command commands[] = {
     {"check", "FILE..", "say of each file whether it is a well-formed routine",
      "Exit status: 0 every file was accepted; 1 some file was refused.\n", "", "", 1, INT_MAX, check_command},
-#ifndef ROUTINE_WITHOUT_BOOKS
     {"show", "[--json] FILE", "print what the routine holds: conventions, blocks, instructions",
      "Registers are shown by their numbers. The last line is `end`; a text without it is not whole.\n"
      "  --json  print it as JSON, for programs. Numbers of 64 bits are strings there.\n"
@@ -42,8 +40,6 @@ static const struct command commands[] = {
      "o", "o", 1, 1, normalize_command},
     {"same", "A B", "say whether two files hold one routine, and where their written forms first differ",
      "Exit status: 0 one routine; 1 two routines; 2 a file was refused or could not be read.\n", "", "", 2, 2, same_command},
-#endif
-#ifndef ROUTINE_WITHOUT_EDITS
     {"edit", "FILE -s SCRIPT [-o OUT]", "run the lines of a script on the routine, and say what each gives",
      "A line of SCRIPT is one of:\n"
      "  create VIP      an empty block after the last one\n"
@@ -57,7 +53,6 @@ static const struct command commands[] = {
      "             replaced whole, or left as it was. Without -o nothing is written.\n"
      "Exit status: 0 every line was accepted; 1 the file or some line was refused.\n",
      "os", "s", 1, 1, edit_command},
-#endif
 };
 
 #define COMMANDS (sizeof commands / sizeof commands[0])
@@ -115,7 +110,7 @@ static void print_help(FILE *to)
             "\n"
             "%s"
             "Exit status: 0 all was accepted; 1 something was refused, or two routines differ;\n"
-            "2 something could not be read or written, or the usage is wrong.\n",
+            "2 something could not be read or written, the usage is wrong, or a file of same was refused.\n",
             conventions);
 }
 

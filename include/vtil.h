@@ -21,7 +21,8 @@ extern "C" {
 
 /*
  * The refusals. The numbers are fixed. Reading a file can give 1 to 9; the
- * first field that fails, in the order of the file, decides which.
+ * first field that fails, in the order of the file, decides which. 9 comes only
+ * where no field fails.
  */
 enum vtil_refusal {
     VTIL_SHORT_FILE = 1,            /* short file: a field or name passes the end */
@@ -58,7 +59,7 @@ enum vtil_refusal {
  *   exactly when the answer is less than file_len;
  *   minus a refusal number from 1 to 9, such as -VTIL_WRONG_MARK, when it is
  *   refused;
- *   -VTIL_LENDING_TOO_LARGE when file_len is over 2^63 - 1. No byte is then read.
+ *   -VTIL_LENDING_TOO_LARGE, before all else, when file_len is over 2^63 - 1.
  * 0 is never answered. No byte outside the file is read and no byte is written.
  */
 int64_t vtil_check(const uint8_t *file, size_t file_len);
@@ -79,18 +80,23 @@ int64_t vtil_check(const uint8_t *file, size_t file_len);
  *
  * Keep the three together: hand to each call the book that the call before it
  * answered, with the same image and journal at the same lengths, unchanged in
- * between. A book that does not fit its image or journal is refused 13, not
- * trusted: no call touches a byte outside what it was lent, whatever the numbers
- * in the book and the bytes in image and journal are.
+ * between. A book is not trusted: no call touches a byte outside what it was lent,
+ * whatever the numbers in the book and the bytes in image and journal are.
+ *
+ * A book is spoiled, and every call on it is refused 13, when `written` is over
+ * the image's length, `used` is over the journal's length, the first `written`
+ * bytes of the image are not exactly one routine in written form, or a byte after
+ * them is not 0. What the journal holds is tested by vtil_undo alone.
  *
  * Of every call here:
  *   Each pointer has as many bytes behind it as the length after it says, and may
  *   be NULL when that length is 0. Image, journal and whatever else is lent to one
  *   call do not overlap. Nothing is kept after the call.
+ * Of every call here but vtil_run, which runs several of the others:
  *   Image and journal have at most 16,777,216 bytes each; a longer one is refused
- *   10 before anything else, and no byte of it is touched.
- *   A refused call changes no byte of image and journal, and answers the book as
- *   it was handed in (vtil_open: a book of zeros).
+ *   10 before anything else.
+ *   A refused call changes no byte of image and journal. Where it answers a book,
+ *   it is the one that was handed in (vtil_open: a book of zeros).
  *   Every call on a book reads the whole image first, to see that it is not
  *   spoiled: a call's time grows with the image's length.
  */
@@ -151,7 +157,7 @@ vtil_answer vtil_open(const uint8_t *file, size_t file_len, uint8_t *image, size
 
 typedef struct {
     uint64_t refusal; /* 0: written */
-    uint64_t size;    /* the number of bytes written */
+    uint64_t size;    /* the number of bytes written; 0 when refused */
 } vtil_written;
 
 /*
@@ -168,8 +174,8 @@ vtil_written vtil_write_instruction(vtil_instruction_desc value, uint8_t *image,
 
 /*
  * Looking. Each call answers a part of the routine, named by places that count
- * from 0. Image and journal are only read. The other fields of a refused answer
- * say nothing.
+ * from 0. Image and journal are only read. In a refused answer every other field
+ * is 0, of a struct each of its fields.
  *
  * Refusals, in this order: 10; 13 when the book is spoiled; 15 when there is no
  * such block, convention, list or place.
@@ -239,7 +245,7 @@ vtil_register_look vtil_convention_register(vtil_book book, const uint8_t *image
 
 /*
  * Each accepted edit changes the routine in the image, writes an entry into the
- * journal and answers the new book. The links between blocks (prev and next vips)
+ * journal after the part that is used, and answers the new book. The links between blocks (prev and next vips)
  * are never adjusted. Every edit is refused 10 and then 13 as any call on a book;
  * its own refusals come next; last come 11, when the new written form is longer
  * than the image, and then 12, when the entry does not fit what is left of the
@@ -282,29 +288,30 @@ vtil_answer vtil_append(vtil_book book, uint8_t *image, size_t image_len, uint8_
  * and book are then as they were before it, and its entry in the journal is 0.
  * Every edit since vtil_open can be taken back, one call for each.
  *
- * Refusals, in this order: 10, 13; 16 when there is nothing to take back; 13 when
- * the journal's last entry does not fit the image, which never happens to a book
- * from vtil_open whose image and journal nobody else wrote.
+ * Refusals, in this order: 10, 13; 16 when nothing of the journal is used; 13 when
+ * its used part does not end in an entry that fits the image, which never happens
+ * to a book from vtil_open whose image and journal nobody else wrote.
  */
 vtil_answer vtil_undo(vtil_book book, uint8_t *image, size_t image_len, uint8_t *journal, size_t journal_len);
 
 /*
- * vtil_run opens a file and runs a list of calls on the book, each as the calls
- * above would, a refused one changing nothing and the next one following all the
- * same.
+ * vtil_run opens a file as vtil_open does and runs a list of calls on the book,
+ * each as the calls above would, a refused one changing nothing and the next one
+ * following all the same. After a refused opening no call is run.
  *
  *   words      four for each call: its kind (0 create, 1 remove, 2 append, 3
  *              undo), its vip, and where its bytes begin and end in `texts`. A
- *              kind that has no use for the vip or the bytes ignores them; 0 and 0
- *              do for the bytes.
+ *              kind that has no use for the vip or the bytes ignores them, but
+ *              they have to lie within `texts`; 0 and 0 do.
  *   words_len  the number of words, not of bytes: four times the number of calls.
  *   texts      the bytes of the instructions to append.
  *
  * Answers what the last call answers; where the list is empty or the opening is
- * refused, what the opening answers. Words that are no list of calls (not four for
- * each, a kind over 3, or bytes that do not begin at or before their end within
- * the texts) are refused 15 before all else: nothing is opened or changed, and the
- * book answered is one of zeros.
+ * refused, what the opening answers. So a refusal is of the last call alone: those
+ * before it have changed image and journal where they were accepted. Words that
+ * are no list of calls (not four for each, a kind over 3, or bytes that do not
+ * begin at or before their end within the texts) are refused 15 before all else:
+ * nothing is opened or changed, and the book answered is one of zeros.
  */
 vtil_answer vtil_run(const uint8_t *file, size_t file_len, uint8_t *image, size_t image_len, uint8_t *journal,
                      size_t journal_len, const uint64_t *words, size_t words_len, const uint8_t *texts,

@@ -1,4 +1,4 @@
-#!/bin/sh
+#!/usr/bin/env bash
 # Makes this machine ready to build the Rust beside the library.
 #
 # It installs these Debian packages, which are sources of Rust crates and nothing that runs:
@@ -9,7 +9,7 @@
 #
 # It then compares original/src/{lib,pod,serialize}.rs with the published files, where those are there:
 # in ../shared/docs/src/src beside the repository, or in the folder that VTIL_RUST_SRC names.
-set -eu
+set -euo pipefail
 
 packages="librust-scroll-dev librust-indexmap-dev librust-bitflags-dev librust-memmap-dev"
 here=$(cd "$(dirname "$0")" && pwd)
@@ -21,7 +21,7 @@ fail() {
 
 missing_packages() {
     for package in $packages; do
-        dpkg-query -W -f '${Status}\n' "$package" 2>/dev/null | grep -q '^install ok installed$' || echo "$package"
+        [ "$(dpkg-query -W -f '${Status}' "$package" 2>/dev/null)" = "install ok installed" ] || echo "$package"
     done
 }
 

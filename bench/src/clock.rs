@@ -56,7 +56,6 @@ pub fn print(name: &str, bytes: usize, (left, right): (Duration, Duration)) {
 }
 
 /// A line on what only one side has.
-#[cfg(feature = "edit")]
 pub fn print_one_side(name: &str, left: Option<Duration>, right: Option<Duration>) {
     let show = |side: Option<Duration>| side.map_or("-".to_string(), shown);
     println!("{name:<44}{:>11}{:>12}{:>11}", show(left), "", show(right));

@@ -5,7 +5,7 @@ use crate::inputs::{vip_of, with_size};
 use oracle::draft::Draft;
 use oracle::rng::Rng;
 use std::time::Duration;
-use vtil::{Answer, Book, Lent};
+use vtil::{Book, Refusal};
 use vtil_parser::{Routine, Vip};
 
 /// A vip that no block has.
@@ -13,20 +13,23 @@ const NEW: u64 = 1;
 const IMAGE_ROOM: usize = 1_000;
 const JOURNAL: usize = 65_536;
 
+/// A routine, and a book of it in memory that is lent once for all runs.
 struct Bench<'a> {
     file: &'a [u8],
-    book: Book,
-    lent: Lent<'a>,
+    book: Book<&'a mut [u8]>,
 }
 
+/// An edit by the library.
+type Edited = Result<(), Refusal>;
+
 /// Does an edit and takes it back; answers how long each took.
-fn there_and_back(bench: &mut Bench, edit: impl Fn(Book, &mut Lent) -> Answer) -> (Duration, Duration) {
-    let mut edited = Answer::default();
-    let there = time(|| edited = edit(bench.book, &mut bench.lent));
-    assert_eq!(edited.refusal, 0, "the measured edits are accepted");
-    let mut undone = Answer::default();
-    let back = time(|| undone = vtil::undo(edited.book, &mut bench.lent));
-    assert_eq!(undone, Answer { refusal: 0, book: bench.book }, "every edit can be taken back");
+fn there_and_back(bench: &mut Bench, edit: impl Fn(&mut Book<&mut [u8]>) -> Edited) -> (Duration, Duration) {
+    let before = bench.book.lengths();
+    let (mut edited, mut undone) = (Ok(()), Ok(()));
+    let there = time(|| edited = edit(&mut bench.book));
+    assert_eq!(edited, Ok(()), "the measured edits are accepted");
+    let back = time(|| undone = bench.book.undo());
+    assert_eq!((undone, bench.book.lengths()), (Ok(()), before), "every edit can be taken back");
     (there, back)
 }
 
@@ -44,7 +47,12 @@ fn rust_edits_in_memory(file: &[u8], edit: impl Fn(&mut Routine)) -> Duration {
     time(|| edit(&mut routine))
 }
 
-fn measure(bench: &mut Bench, name: &str, rust: impl Fn(&mut Routine), library: impl Fn(Book, &mut Lent) -> Answer) {
+fn measure(
+    bench: &mut Bench,
+    name: &str,
+    rust: impl Fn(&mut Routine),
+    library: impl Fn(&mut Book<&mut [u8]>) -> Edited,
+) {
     let file = bench.file;
     let (mut best_back, mut best_in_memory) = (Duration::MAX, Duration::MAX);
     let edit = || {
@@ -72,19 +80,18 @@ fn edits_at(name: &str, size: usize) {
     let blocks = u32::from_le_bytes(file[110..114].try_into().expect("four bytes")) as usize;
     let middle = vip_of(blocks / 2);
     let (mut image, mut journal) = (vec![1; file.len() + IMAGE_ROOM], vec![1; JOURNAL]);
-    let mut lent = Lent { image: &mut image, journal: &mut journal };
-    let book = vtil::open(&file, &mut lent).book;
-    let mut bench = Bench { file: &file, book, lent };
+    let book = Book::open(&file, &mut image[..], &mut journal[..]).expect("the measured files can be opened");
+    let mut bench = Bench { file: &file, book };
 
     let create_rust = |routine: &mut Routine| {
         routine.create_block(Vip(NEW));
     };
-    measure(&mut bench, &format!("{name}, create"), create_rust, |book, lent| vtil::create_block(book, lent, NEW));
+    measure(&mut bench, &format!("{name}, create"), create_rust, |book| book.create_block(vtil::Vip(NEW)));
 
     let remove_rust = |routine: &mut Routine| {
         routine.remove_block(Vip(middle));
     };
-    measure(&mut bench, &format!("{name}, remove"), remove_rust, |book, lent| vtil::remove_block(book, lent, middle));
+    measure(&mut bench, &format!("{name}, remove"), remove_rust, |book| book.remove_block(vtil::Vip(middle)));
 
     let bytes = instruction();
     let append_rust = |routine: &mut Routine| {
@@ -92,7 +99,7 @@ fn edits_at(name: &str, size: usize) {
         let instruction = scroll::Pread::pread_with(&bytes[..], 0, scroll::LE).expect("an instruction");
         block.instructions.push(instruction);
     };
-    measure(&mut bench, &format!("{name}, append"), append_rust, |book, lent| vtil::append(book, lent, middle, &bytes));
+    measure(&mut bench, &format!("{name}, append"), append_rust, |book| book.append(vtil::Vip(middle), &bytes));
 }
 
 pub fn edits() {

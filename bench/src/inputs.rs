@@ -20,7 +20,6 @@ fn put_block(file: &mut Vec<u8>, vip: u64, instructions: usize, rng: &mut Rng) {
 }
 
 /// Blocks of 25 instructions over all operations, their vips rising, as many as stay below `size` bytes.
-#[cfg(feature = "edit")]
 pub fn with_size(size: usize) -> Vec<u8> {
     let mut rng = Rng::new(SEED);
     let mut file = minimal_routine();

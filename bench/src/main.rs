@@ -1,7 +1,6 @@
 //! Measures the library and the Rust side by side, on the same bytes.
 
 mod clock;
-#[cfg(feature = "edit")]
 mod editing;
 mod inputs;
 mod reading;
@@ -33,12 +32,9 @@ fn main() -> ExitCode {
     println!("file, image and journal are in memory and were touched before; the Rust gets its memory from malloc in");
     println!("each run, and what it made is dropped after the clock has stopped");
     reading::checks(most_blocks);
-    #[cfg(feature = "open")]
-    reading::open::opens(most_blocks);
-    #[cfg(feature = "look")]
-    reading::open::looks(most_blocks);
+    reading::opens(most_blocks);
+    reading::looks(most_blocks);
     reading::repeated_vips(most_blocks);
-    #[cfg(feature = "edit")]
     editing::edits();
     ExitCode::SUCCESS
 }

@@ -4,6 +4,7 @@ use crate::clock::{best_of_both, heading, print, time};
 use crate::inputs::{in_order, instructions};
 use oracle::blocks::{Order, ORDERS};
 use std::time::Duration;
+use vtil::{Book, Lengths};
 use vtil_parser::Routine;
 
 fn rust_reads(file: &[u8]) -> Duration {
@@ -11,9 +12,9 @@ fn rust_reads(file: &[u8]) -> Duration {
 }
 
 fn library_checks(file: &[u8]) -> Duration {
-    let mut answer = 0;
+    let mut answer = Ok(0);
     let took = time(|| answer = vtil::check(file));
-    assert_eq!(answer, file.len() as i64, "the measured files are accepted whole");
+    assert_eq!(answer, Ok(file.len()), "the measured files are accepted whole");
     took
 }
 
@@ -52,49 +53,43 @@ pub fn repeated_vips(most_blocks: usize) {
     }
 }
 
-#[cfg(feature = "open")]
-pub mod open {
-    use super::*;
-    use vtil::{Answer, Lent};
+fn rust_reads_and_writes(file: &[u8]) -> Duration {
+    time(|| Routine::from_vec(file).expect("the measured files are accepted").into_bytes())
+}
 
-    fn rust_reads_and_writes(file: &[u8]) -> Duration {
-        time(|| Routine::from_vec(file).expect("the measured files are accepted").into_bytes())
+/// The image and the journal are lent, so nothing is allocated inside the clock.
+fn library_opens(file: &[u8], book: &mut Book<&mut [u8]>) -> Duration {
+    let mut answer = Ok(());
+    let took = time(|| answer = book.reopen(file));
+    assert_eq!(answer, Ok(()), "the measured files can be opened");
+    took
+}
+
+pub fn opens(most_blocks: usize) {
+    heading("open", "from_vec, into_bytes", "library open");
+    for Input { name, file, .. } in inputs(most_blocks) {
+        let (mut image, mut journal) = (vec![1; file.len()], vec![1; 4096]);
+        let mut book = Book::resume(Lengths::default(), &mut image[..], &mut journal[..]);
+        let times = best_of_both(|| rust_reads_and_writes(&file), || library_opens(&file, &mut book));
+        print(name, file.len(), times);
     }
+}
 
-    fn library_opens(file: &[u8], lent: &mut Lent) -> Duration {
-        let mut answer = Answer::default();
-        let took = time(|| answer = vtil::open(file, lent));
-        assert_eq!(answer.refusal, 0, "the measured files can be opened");
-        took
-    }
+fn library_looks(book: &Book<&mut [u8]>) -> Duration {
+    let mut is_accepted = false;
+    let took = time(|| is_accepted = book.overview().is_ok());
+    assert!(is_accepted, "an opened book can be looked at");
+    took
+}
 
-    pub fn opens(most_blocks: usize) {
-        heading("open", "from_vec, into_bytes", "library open");
-        for Input { name, file, .. } in inputs(most_blocks) {
-            let (mut image, mut journal) = (vec![1; file.len()], vec![1; 4096]);
-            let lent = &mut Lent { image: &mut image, journal: &mut journal };
-            let times = best_of_both(|| rust_reads_and_writes(&file), || library_opens(&file, lent));
-            print(name, file.len(), times);
-        }
-    }
-
-    /// What every call on a book waits for: the whole image is validated.
-    #[cfg(feature = "look")]
-    pub fn looks(most_blocks: usize) {
-        heading("validating an image", "library look", "memcpy of it");
-        for Input { name, file, .. } in inputs(most_blocks) {
-            let (mut image, mut journal) = (vec![1; file.len()], vec![1; 4096]);
-            let lent = &mut Lent { image: &mut image, journal: &mut journal };
-            let book = vtil::open(&file, lent).book;
-            let mut copy = vec![1; file.len()];
-            let look = || {
-                let mut refusal = 0;
-                let took = time(|| refusal = vtil::look(book, lent));
-                assert_eq!(refusal, 0, "an opened book can be looked at");
-                took
-            };
-            let memcpy = || time(|| std::hint::black_box(&mut copy).copy_from_slice(&file));
-            print(name, file.len(), best_of_both(look, memcpy));
-        }
+/// What every call on a book waits for: the whole image is validated.
+pub fn looks(most_blocks: usize) {
+    heading("validating an image", "library look", "memcpy of it");
+    for Input { name, file, .. } in inputs(most_blocks) {
+        let (mut image, mut journal) = (vec![1; file.len()], vec![1; 4096]);
+        let book = Book::open(&file, &mut image[..], &mut journal[..]).expect("the measured files can be opened");
+        let mut copy = vec![1; file.len()];
+        let memcpy = || time(|| std::hint::black_box(&mut copy).copy_from_slice(&file));
+        print(name, file.len(), best_of_both(|| library_looks(&book), memcpy));
     }
 }

@@ -25,8 +25,6 @@ void end(void);
 /* As end, where every answer of the list (which -1 ends) has to be due at least `least` times. */
 void end_of_random(uint64_t least, const int *answers);
 
-void skip(const char *name, const char *why);
-
 /* One more case. */
 void next_case(void);
 

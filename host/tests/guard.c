@@ -21,6 +21,7 @@
 
 #define MUTATIONS 200000
 #define MADE 60000
+#define MANY_BLOCKS 20000 /* more than the search for repeated vips holds at a time */
 
 /* What random files have to reach: accepted, and refusals 1 to 9. */
 static const int answers_of_reading[] = {0, 1, 2, 3, 4, 5, 6, 7, 8, 9, -1};
@@ -329,9 +330,9 @@ static void number_blocks(uint8_t *file, size_t count, bool rising)
         set_vip(file, i, rising ? i : (uint64_t)i * 0x9e3779b97f4a7c15);
 }
 
-static void many_blocks(size_t count)
+static void many_blocks(void)
 {
-    size_t len = 114 + 36 * count;
+    const size_t count = MANY_BLOCKS, len = 114 + 36 * count;
     uint8_t *file = calloc(len, 1);
     if (file == NULL)
         stop("many blocks");
@@ -392,18 +393,13 @@ static void huge_lengths(void)
 
 int main(int argc, char **argv)
 {
-    const char *word = getenv("VTIL_STANDIN");
-    bool stand_in = word != NULL && strcmp(word, "1") == 0;
-    /* Every pair of blocks is compared by the stand-in, which takes too long for many. */
-    size_t blocks = stand_in ? 500 : 20000;
-
     if (argc < 2) {
         fprintf(stderr, "usage: guard FILE..\n");
         return 2;
     }
     set_up_groups("guard");
     sample_count = load_samples(argv + 1, &samples);
-    memory = make_room(114 + 36 * blocks > BYTES_MAX ? 114 + 36 * blocks : BYTES_MAX);
+    memory = make_room(114 + 36 * MANY_BLOCKS > BYTES_MAX ? 114 + 36 * MANY_BLOCKS : BYTES_MAX);
 
     instances();
     whole_samples();
@@ -413,11 +409,8 @@ int main(int argc, char **argv)
     texts();
     mutations();
     made_routines();
-    many_blocks(blocks);
+    many_blocks();
     empty_files();
-    if (stand_in)
-        skip("lengths over 2^63 - 1", "VTIL_STANDIN=1, and the stand-in has no such limit");
-    else
-        huge_lengths();
+    huge_lengths();
     return finish();
 }

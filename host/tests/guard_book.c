@@ -345,8 +345,7 @@ static void write_values(void)
         vtil_written got = vtil_write_instruction(value, image.writable, image.len);
         group.answers[want.refusal]++;
         hold("refusal", image.len, (int64_t)got.refusal, (int64_t)want.refusal);
-        if (want.refusal == 0)
-            hold("size", image.len, (int64_t)got.size, (int64_t)want.size);
+        hold("size", image.len, (int64_t)got.size, (int64_t)want.size);
         hold_bytes();
     }
     end_of_random(100, answers);

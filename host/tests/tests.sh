@@ -3,7 +3,6 @@
 # a plain machine, the command, and the Rust crate. The last line is the verdict.
 #
 #   VTIL_LIB=/path/to/libvtil.a   use that archive and prove nothing
-#   VTIL_STANDIN=1                it is a stand-in without the limit of 2^63 - 1: skip the tests of it
 set -euo pipefail
 cd "$(dirname "$0")/../.."
 export LC_ALL=C
@@ -46,33 +45,19 @@ build_guard() {
         -o "$scratch/$name"
 }
 
-# left_out WHAT: tests of functions that the archive does not have yet.
-left_out() {
-    echo "host tests: $1: SKIPPED: the archive does not have the functions"
-    skipped=$((skipped + 1))
-}
-
 run bash host/tests/samples.sh
 run bash host/tests/format.sh
 run bash host/tests/header.sh "$LIB" "$scratch/header"
 build_guard guard
 run "$scratch/guard" samples/*.vtil
 run bash host/tests/command.sh target/host/routine "$scratch/command"
-if has_books; then
-    build_guard guard_book shelf reference_book
-    run "$scratch/guard_book" samples/*.vtil
-    run bash host/tests/command_books.sh target/host/routine "$scratch/command_books"
-else
-    left_out "opening, writing an instruction, looking; routine show, normalize, same"
-fi
-if has_edits; then
-    build_guard guard_edits shelf reference_book
-    run "$scratch/guard_edits" samples/*.vtil
-    run bash host/tests/command_edits.sh target/host/routine "$scratch/command_edits"
-else
-    left_out "create, remove, append, undo, run; routine edit"
-fi
-if has_edits; then run bash host/tests/rust.sh "$LIB"; else left_out "the Rust crate"; fi
+build_guard guard_book shelf reference_book
+run "$scratch/guard_book" samples/*.vtil
+run bash host/tests/command_books.sh target/host/routine "$scratch/command_books"
+build_guard guard_edits shelf reference_book
+run "$scratch/guard_edits" samples/*.vtil
+run bash host/tests/command_edits.sh target/host/routine "$scratch/command_edits"
+run bash host/tests/rust.sh "$LIB"
 
 echo "host tests: $passed passed, $failed failed, $skipped skipped"
 [ "$failed" = 0 ]

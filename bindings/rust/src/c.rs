@@ -2,17 +2,20 @@
 
 use std::mem::size_of;
 
+/// What a book says of its image and journal: how many bytes of them count. The rest of the image is 0.
 #[repr(C)]
-#[derive(Clone, Copy, Debug, Default)]
-pub struct Book {
+#[derive(Clone, Copy, Debug, Default, PartialEq, Eq)]
+pub struct Lengths {
+    /// Bytes of the image that are the routine's written form.
     pub written: u64,
+    /// Bytes of the journal that are used.
     pub used: u64,
 }
 
 #[repr(C)]
 pub struct Answer {
     pub refusal: u64,
-    pub book: Book,
+    pub book: Lengths,
 }
 
 #[repr(C)]
@@ -109,7 +112,7 @@ pub struct Written {
 
 // The sizes that host/tests/header.sh holds the header to.
 const _: () = {
-    assert!(size_of::<Book>() == 16);
+    assert!(size_of::<Lengths>() == 16);
     assert!(size_of::<Answer>() == 24);
     assert!(size_of::<InstructionDesc>() == 176);
     assert!(size_of::<RoutineLook>() == 40);
@@ -133,14 +136,14 @@ extern "C" {
     ) -> Answer;
     pub fn vtil_write_instruction(value: InstructionDesc, image: *mut u8, image_len: usize) -> Written;
     pub fn vtil_routine(
-        book: Book,
+        book: Lengths,
         image: *const u8,
         image_len: usize,
         journal: *const u8,
         journal_len: usize,
     ) -> RoutineLook;
     pub fn vtil_block(
-        book: Book,
+        book: Lengths,
         image: *const u8,
         image_len: usize,
         journal: *const u8,
@@ -148,7 +151,7 @@ extern "C" {
         place: u64,
     ) -> BlockLook;
     pub fn vtil_instruction(
-        book: Book,
+        book: Lengths,
         image: *const u8,
         image_len: usize,
         journal: *const u8,
@@ -157,7 +160,7 @@ extern "C" {
         place: u64,
     ) -> InstructionLook;
     pub fn vtil_block_vip(
-        book: Book,
+        book: Lengths,
         image: *const u8,
         image_len: usize,
         journal: *const u8,
@@ -167,7 +170,7 @@ extern "C" {
         place: u64,
     ) -> VipLook;
     pub fn vtil_convention(
-        book: Book,
+        book: Lengths,
         image: *const u8,
         image_len: usize,
         journal: *const u8,
@@ -175,7 +178,7 @@ extern "C" {
         place: u64,
     ) -> ConventionLook;
     pub fn vtil_convention_register(
-        book: Book,
+        book: Lengths,
         image: *const u8,
         image_len: usize,
         journal: *const u8,
@@ -185,7 +188,7 @@ extern "C" {
         place: u64,
     ) -> RegisterLook;
     pub fn vtil_create_block(
-        book: Book,
+        book: Lengths,
         image: *mut u8,
         image_len: usize,
         journal: *mut u8,
@@ -193,7 +196,7 @@ extern "C" {
         vip: u64,
     ) -> Answer;
     pub fn vtil_remove_block(
-        book: Book,
+        book: Lengths,
         image: *mut u8,
         image_len: usize,
         journal: *mut u8,
@@ -201,7 +204,7 @@ extern "C" {
         vip: u64,
     ) -> Answer;
     pub fn vtil_append(
-        book: Book,
+        book: Lengths,
         image: *mut u8,
         image_len: usize,
         journal: *mut u8,
@@ -210,5 +213,17 @@ extern "C" {
         instruction: *const u8,
         instruction_len: usize,
     ) -> Answer;
-    pub fn vtil_undo(book: Book, image: *mut u8, image_len: usize, journal: *mut u8, journal_len: usize) -> Answer;
+    pub fn vtil_undo(book: Lengths, image: *mut u8, image_len: usize, journal: *mut u8, journal_len: usize) -> Answer;
+    pub fn vtil_run(
+        file: *const u8,
+        file_len: usize,
+        image: *mut u8,
+        image_len: usize,
+        journal: *mut u8,
+        journal_len: usize,
+        words: *const u64,
+        words_len: usize,
+        texts: *const u8,
+        texts_len: usize,
+    ) -> Answer;
 }

@@ -1,5 +1,7 @@
 //! VTIL routine files: reading, checking, editing and writing them. A safe face of libvtil.a.
 //!
+//! A [`Routine`] owns its memory:
+//!
 //! ```
 //! use vtil::{Routine, Vip};
 //!
@@ -13,24 +15,58 @@
 //! # Ok(())
 //! # }
 //! ```
+//!
+//! A [`Book`] is the same in memory of fixed lengths that the caller lends, and allocates nothing:
+//!
+//! ```
+//! use vtil::{Book, Refusal, Vip};
+//!
+//! # fn main() -> Result<(), Box<dyn std::error::Error>> {
+//! # let folder = concat!(env!("CARGO_MANIFEST_DIR"), "/../../samples");
+//! let file = std::fs::read(format!("{folder}/minimal.vtil"))?;
+//! let (mut image, mut journal) = ([0; 114 + 36], [0; 20]);
+//! let mut book = Book::open(&file, &mut image[..], &mut journal[..])?;
+//! book.create_block(Vip(1))?;
+//! assert_eq!(book.create_block(Vip(2)), Err(Refusal::ImageFull));
+//! # Ok(())
+//! # }
+//! ```
 
+mod book;
 mod c;
+mod list;
+mod look;
 mod refusal;
 mod routine;
 mod value;
 
+pub use book::Book;
+pub use c::Lengths;
+pub use list::Call;
+pub use look::{Block, Convention, Links, Overview, Registers};
 pub use refusal::Refusal;
-pub use routine::{Block, Convention, Links, Overview, Registers, Routine};
+pub use routine::Routine;
 pub use value::{operation, Immediate, Instruction, Operand, Register, Vip, OPERATIONS};
 
-/// How many bytes the routine at the start of `file` has; bytes after it are ignored.
+/// How many bytes the routine at the start of `file` has; bytes after it are ignored. The file is read where it lies.
 ///
 /// Refusals: 1 to 9, whichever field fails first.
 pub fn check(file: &[u8]) -> Result<usize, Refusal> {
     // SAFETY: the pointer and the length are a slice's.
-    let answer = unsafe { c::vtil_check(file.as_ptr(), file.len()) };
+    let answer = unsafe { check_raw(file.as_ptr(), file.len()) };
     match usize::try_from(answer) {
         Ok(consumed) => Ok(consumed),
         Err(_) => Err(Refusal::from_number(answer.unsigned_abs()).expect("a refusal is a number from 1 to 17")),
     }
+}
+
+/// As [`check`], of a pointer and a length as C hands them over, with the answer as C gets it: how many bytes the
+/// routine has, or minus the number of the refusal. It is there for a length that no slice has: one over 2^63 - 1 is
+/// answered minus 10 before a byte is read.
+///
+/// # Safety
+///
+/// There are `length` bytes at `file` that nobody writes during the call, or `length` is over 2^63 - 1.
+pub unsafe fn check_raw(file: *const u8, length: usize) -> i64 {
+    c::vtil_check(file, length)
 }

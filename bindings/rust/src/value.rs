@@ -150,11 +150,21 @@ impl Instruction {
     /// register.
     pub fn to_bytes(&self) -> Result<Vec<u8>, Refusal> {
         let mut bytes = vec![0; LONGEST];
-        // SAFETY: the pointer and the length are a vector's.
-        let written = unsafe { c::vtil_write_instruction(self.to_c(), bytes.as_mut_ptr(), bytes.len()) };
-        accepted(written.refusal)?;
-        bytes.truncate(written.size as usize);
+        let size = self.write_to(&mut bytes)?;
+        bytes.truncate(size);
         Ok(bytes)
+    }
+
+    /// Writes the instruction, as a file holds it, at the start of the lent bytes, and answers its size. The bytes
+    /// after it are not touched.
+    ///
+    /// Refusals, in this order: 10, over 16,777,216 bytes are lent; those of [`Instruction::to_bytes`]; 11, the
+    /// instruction is longer than the lent bytes. No byte is then touched.
+    pub fn write_to(&self, lent: &mut [u8]) -> Result<usize, Refusal> {
+        // SAFETY: the pointer and the length are a slice's.
+        let written = unsafe { c::vtil_write_instruction(self.to_c(), lent.as_mut_ptr(), lent.len()) };
+        accepted(written.refusal)?;
+        Ok(written.size as usize)
     }
 
     pub(crate) fn from_c(desc: &c::InstructionDesc) -> Instruction {

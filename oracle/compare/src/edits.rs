@@ -1,13 +1,14 @@
 //! Lists of calls: after every call the answer, the image and the journal beside the routine machine of document 01,
-//! and the written bytes beside the Rust, which has create_block and remove_block of its own.
+//! and the written bytes beside the Rust, which has create_block and remove_block of its own. Then the whole list again,
+//! in one call.
 
-use crate::report::{hex, shrink, Report};
+use crate::report::{hex, number, shrink, Report};
 use oracle::lists::{self, List};
 use oracle::machine::{Call, Machine, BLOCK_PRESENT, NOT_THERE};
 use oracle::reader::{read_file, Read};
 use oracle::rng::Rng;
 use scroll::Pread;
-use vtil::{Answer, Book, Lent};
+use vtil::{Book, Lengths};
 use vtil_parser::{Instruction, Routine, Vip};
 
 /// Does an edit to the Rust's routine. False: it has no such block, or has it already.
@@ -39,19 +40,24 @@ fn replayed(file: &[u8], history: &[Call]) -> Routine {
     routine
 }
 
-fn library_call(book: Book, lent: &mut Lent, call: &Call) -> Answer {
-    match call {
-        Call::Create(vip) => vtil::create_block(book, lent, *vip),
-        Call::Remove(vip) => vtil::remove_block(book, lent, *vip),
-        Call::Append(vip, bytes) => vtil::append(book, lent, *vip, bytes),
-        Call::TakeBack => vtil::undo(book, lent),
-    }
+/// What a call answers: the refusal (0: accepted), and what the book says after it.
+type Answer = (u64, Lengths);
+
+fn library_call(book: &mut Book<Vec<u8>>, call: &Call) -> Answer {
+    let answer = match call {
+        Call::Create(vip) => book.create_block(vtil::Vip(*vip)),
+        Call::Remove(vip) => book.remove_block(vtil::Vip(*vip)),
+        Call::Append(vip, bytes) => book.append(vtil::Vip(*vip), bytes),
+        Call::TakeBack => book.undo(),
+    };
+    (number(answer), book.lengths())
 }
 
-fn due_answer(step: Read<oracle::machine::Lengths>, before: Book) -> Answer {
+/// A refused call answers the book as it was handed in.
+fn due_answer(step: Read<oracle::machine::Lengths>, before: Lengths) -> Answer {
     match step {
-        Err(refusal) => Answer { refusal, book: before },
-        Ok(lengths) => Answer { refusal: 0, book: Book { written: lengths.written as u64, used: lengths.used as u64 } },
+        Err(refusal) => (refusal, before),
+        Ok(lengths) => (0, Lengths { written: lengths.written as u64, used: lengths.used as u64 }),
     }
 }
 
@@ -70,24 +76,29 @@ fn rust_refuses(file: &[u8], history: &[Call], call: &Call) -> bool {
     !edit(&mut replayed(file, history), call)
 }
 
-/// One list on lent memory, as far as the first difference.
+/// One list, in an image and a journal of exactly its lengths, as far as the first difference.
 struct Run<'a> {
     list: &'a List,
     machine: Machine,
     history: Vec<Call>,
-    book: Book,
-    image: Vec<u8>,
-    journal: Vec<u8>,
+    book: Book<Vec<u8>>,
+    /// What the last call answered, or the opening.
+    last: Answer,
+}
+
+/// An image and a journal of exactly the list's lengths, in which nothing is open.
+fn memory_for(list: &List) -> Book<Vec<u8>> {
+    Book::resume(Lengths::default(), vec![0xa5; list.image_length], vec![0x5a; list.journal_length])
 }
 
 impl Run<'_> {
     fn start(list: &List) -> Run<'_> {
         let (routine, _) = read_file(&list.file).answer.expect("lists start from accepted files");
-        let mut image = vec![0xa5; list.image_length];
-        let mut journal = vec![0x5a; list.journal_length];
-        let answer = vtil::open(&list.file, &mut Lent { image: &mut image, journal: &mut journal });
+        let mut book = memory_for(list);
+        book.reopen(&list.file).expect("lists have room for their files");
         let machine = Machine::new(routine, list.image_length, list.journal_length);
-        Run { list, machine, history: vec![], book: answer.book, image, journal }
+        let last = (0, book.lengths());
+        Run { list, machine, history: vec![], book, last }
     }
 
     fn difference_after(&mut self, call: &Call) -> Option<String> {
@@ -100,34 +111,57 @@ impl Run<'_> {
         if step.is_ok() {
             note(&mut self.history, call);
         }
-        let due = due_answer(step, self.book);
-        let lent = &mut Lent { image: &mut self.image, journal: &mut self.journal };
-        let got = library_call(self.book, lent, call);
+        let due = due_answer(step, self.book.lengths());
+        let got = library_call(&mut self.book, call);
         if got != due {
             return Some(format!("library {got:?}, document 01 {due:?}"));
         }
-        self.book = got.book;
+        self.last = got;
         self.memory_difference()
     }
 
     fn memory_difference(&self) -> Option<String> {
-        if self.image != self.machine.image() {
+        if self.book.image() != self.machine.image() {
             return Some("another image than document 01's".to_string());
         }
-        if self.journal != self.machine.journal() {
+        if self.book.journal() != self.machine.journal() {
             return Some("another journal than document 01's".to_string());
         }
         let rust = replayed(&self.list.file, &self.history).into_bytes().expect("the sink has the routine's size");
-        if self.image[..self.book.written as usize] != rust {
+        if self.book.written() != rust {
             return Some("other written bytes than the Rust's".to_string());
         }
         None
     }
 }
 
+fn as_library_call(call: &Call) -> vtil::Call<'_> {
+    match call {
+        Call::Create(vip) => vtil::Call::Create(vtil::Vip(*vip)),
+        Call::Remove(vip) => vtil::Call::Remove(vtil::Vip(*vip)),
+        Call::Append(vip, bytes) => vtil::Call::Append(vtil::Vip(*vip), bytes),
+        Call::TakeBack => vtil::Call::Undo,
+    }
+}
+
+/// The list in one call has to leave what its calls left one by one.
+fn difference_at_once(run: &Run) -> Option<String> {
+    let mut book = memory_for(run.list);
+    let calls: Vec<vtil::Call> = run.list.calls.iter().map(as_library_call).collect();
+    let got = (number(book.run(&run.list.file, &calls)), book.lengths());
+    if got != run.last {
+        return Some(format!("at once {got:?}, one by one {:?}", run.last));
+    }
+    if (book.image(), book.journal()) != (run.book.image(), run.book.journal()) {
+        return Some("at once another image or journal than one by one".to_string());
+    }
+    None
+}
+
 fn difference(list: &List) -> Option<String> {
     let mut run = Run::start(list);
-    list.calls.iter().find_map(|call| run.difference_after(call))
+    let one_by_one = list.calls.iter().find_map(|call| run.difference_after(call));
+    one_by_one.or_else(|| difference_at_once(&run))
 }
 
 fn with_calls(list: &List, calls: &[Call]) -> List {

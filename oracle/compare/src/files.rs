@@ -1,7 +1,6 @@
 //! Files: the library's check, document 01 and the Rust, each asked about the same bytes.
 
 use crate::aborts::Aborts;
-#[cfg(feature = "open")]
 use crate::opens;
 use crate::report::{hex, shrink, Report};
 use oracle::generate::{Class, Generator, CLASSES};
@@ -35,12 +34,19 @@ fn beside_the_rust(file: &[u8], document: &Document) -> Verdict {
     Verdict::Different(format!("document 01 {}, Rust {answer:?}", document.number()))
 }
 
+/// The consumed length, or minus the refusal.
+fn library_checks(file: &[u8]) -> i64 {
+    match vtil::check(file) {
+        Ok(consumed) => consumed as i64,
+        Err(refusal) => -(refusal.number() as i64),
+    }
+}
+
 pub fn judge(file: &[u8], document: &Document) -> Verdict {
-    let library = vtil::check(file);
+    let library = library_checks(file);
     if library != document.number() {
         return Verdict::Different(format!("library {library}, document 01 {}", document.number()));
     }
-    #[cfg(feature = "open")]
     if let Some(text) = opens::difference(file, document) {
         return Verdict::Different(text);
     }
@@ -160,10 +166,13 @@ pub fn run(files: usize, seed: u64, report: &mut Report) {
     );
 }
 
-/// A length over 2^63 - 1, which no Rust slice has, gets minus 10.
+/// A length over 2^63 - 1, which no Rust slice has, gets minus 10. The file's first four bytes are there, and are no
+/// mark, should they be read all the same.
 pub fn overlong(report: &mut Report) {
+    let file = [0; 8];
     for length in [1 << 63, usize::MAX] {
-        let answer = vtil::check_overlong(length);
+        // SAFETY: the length is over 2^63 - 1.
+        let answer = unsafe { vtil::check_raw(file.as_ptr(), length) };
         if answer != -10 {
             report.difference(|| format!("length {length}: library {answer}, document 01 -10"));
         }

@@ -2,11 +2,9 @@
 //! The exit status is 0 where nothing differs, 1 where something does, 2 on a bad command line.
 
 mod aborts;
-#[cfg(feature = "edit")]
 mod edits;
 mod files;
 mod large;
-#[cfg(feature = "open")]
 mod opens;
 mod options;
 mod report;
@@ -21,9 +19,7 @@ fn compare(options: &Options) -> Report {
     files::overlong(&mut report);
     files::run(options.files, options.seed, &mut report);
     large::run(options.large, options.seed, &mut report);
-    #[cfg(feature = "open")]
     opens::limits(&mut report);
-    #[cfg(feature = "edit")]
     edits::run(options.lists, options.seed, &mut report);
     println!("differences {}", report.differences);
     report

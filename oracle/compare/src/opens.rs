@@ -1,10 +1,10 @@
 //! Opening: the book, the image and the journal beside document 01, whose written form is held to the Rust's elsewhere.
 
-use crate::report::Report;
+use crate::report::{number, Report};
 use oracle::draft::minimal_routine;
 use oracle::machine::IMAGE_FULL;
 use oracle::reader::{read_file, Document, Refusal};
-use vtil::{Answer, Book, Lent};
+use vtil::{Book, Lengths};
 
 const LENDING_TOO_LARGE: Refusal = 10;
 const LARGEST_LENDING: usize = 16_777_216;
@@ -13,17 +13,22 @@ const LARGEST_LENDING: usize = 16_777_216;
 const IMAGE_BEFORE: u8 = 0xa5;
 const JOURNAL_BEFORE: u8 = 0x5a;
 
-/// The book, the image and the journal after the opening.
+/// What the book says before the opening, to see that a refused one answers zeros.
+const LENGTHS_BEFORE: Lengths = Lengths { written: 1, used: 1 };
+
+/// The answer (0: accepted), the book, the image and the journal after the opening.
 #[derive(PartialEq)]
 struct Opened {
-    answer: Answer,
+    refusal: Refusal,
+    lengths: Lengths,
     image: Vec<u8>,
     journal: Vec<u8>,
 }
 
 fn refused(refusal: Refusal, image_length: usize, journal_length: usize) -> Opened {
     Opened {
-        answer: Answer { refusal, book: Book::default() },
+        refusal,
+        lengths: Lengths::default(),
         image: vec![IMAGE_BEFORE; image_length],
         journal: vec![JOURNAL_BEFORE; journal_length],
     }
@@ -45,7 +50,8 @@ fn expected(document: &Document, image_length: usize, journal_length: usize) -> 
     }
     image.resize(image_length, 0);
     Opened {
-        answer: Answer { refusal: 0, book: Book { written: written as u64, used: 0 } },
+        refusal: 0,
+        lengths: Lengths { written: written as u64, used: 0 },
         image,
         journal: vec![0; journal_length],
     }
@@ -54,8 +60,9 @@ fn expected(document: &Document, image_length: usize, journal_length: usize) -> 
 fn opened(file: &[u8], image_length: usize, journal_length: usize) -> Opened {
     let mut image = vec![IMAGE_BEFORE; image_length];
     let mut journal = vec![JOURNAL_BEFORE; journal_length];
-    let answer = vtil::open(file, &mut Lent { image: &mut image, journal: &mut journal });
-    Opened { answer, image, journal }
+    let mut book = Book::resume(LENGTHS_BEFORE, &mut image[..], &mut journal[..]);
+    let refusal = number(book.reopen(file));
+    Opened { refusal, lengths: book.lengths(), image, journal }
 }
 
 fn difference_at(file: &[u8], document: &Document, image_length: usize, journal_length: usize) -> Option<String> {
@@ -64,8 +71,8 @@ fn difference_at(file: &[u8], document: &Document, image_length: usize, journal_
     if got == due {
         return None;
     }
-    let what = if got.answer != due.answer {
-        format!("{:?}, due {:?}", got.answer, due.answer)
+    let what = if (got.refusal, got.lengths) != (due.refusal, due.lengths) {
+        format!("{} {:?}, due {} {:?}", got.refusal, got.lengths, due.refusal, due.lengths)
     } else if got.image != due.image {
         "another image".to_string()
     } else {

@@ -10,9 +10,6 @@ pub struct Options {
     pub seed: u64,
 }
 
-/// Lists of calls are run where the archive has the calls.
-const DEFAULT_LISTS: usize = if cfg!(feature = "edit") { 5_000 } else { 0 };
-
 fn number<T: std::str::FromStr>(name: &str, word: Option<String>) -> Result<T, String> {
     let word = word.ok_or_else(|| format!("{name} wants a number"))?;
     word.parse().map_err(|_| format!("{name} wants a number, not '{word}'"))
@@ -20,7 +17,7 @@ fn number<T: std::str::FromStr>(name: &str, word: Option<String>) -> Result<T, S
 
 impl Options {
     pub fn parse(words: impl Iterator<Item = String>) -> Result<Options, String> {
-        let mut options = Options { files: 200_000, large: 60, lists: DEFAULT_LISTS, seed: 1 };
+        let mut options = Options { files: 200_000, large: 60, lists: 5_000, seed: 1 };
         let mut words = words;
         while let Some(word) = words.next() {
             match word.as_str() {
@@ -30,9 +27,6 @@ impl Options {
                 "--seed" => options.seed = number("--seed", words.next())?,
                 _ => return Err(format!("unknown word '{word}'")),
             }
-        }
-        if options.lists > 0 && !cfg!(feature = "edit") {
-            return Err("--lists: the archive has no calls that edit a book".to_string());
         }
         Ok(options)
     }

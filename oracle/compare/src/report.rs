@@ -7,6 +7,11 @@ pub struct Report {
     pub differences: usize,
 }
 
+/// A call's answer as document 01 numbers it: 0 where it is accepted.
+pub fn number(answer: Result<(), vtil::Refusal>) -> u64 {
+    answer.err().map_or(0, vtil::Refusal::number)
+}
+
 pub fn hex(bytes: &[u8]) -> String {
     bytes.iter().map(|byte| format!("{byte:02x}")).collect()
 }

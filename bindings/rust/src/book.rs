@@ -1,0 +1,282 @@
+use crate::c::{self, Lengths};
+use crate::list::{Call, Encoded};
+use crate::look::{Block, Convention, Links, Overview, Registers};
+use crate::refusal::{accepted, Refusal};
+use crate::value::{Instruction, Register, Vip};
+
+/// An open routine in an image and a journal whose lengths stay as they are: memory that the caller lends
+/// (`Book<&mut [u8]>`) or hands over (`Book<Vec<u8>>`). The image holds the routine's written form and then zeros,
+/// the journal what [`Book::undo`] needs. Image and journal have at most 16,777,216 bytes each.
+///
+/// Every call is the library's call of that name, on the memory as it is lent: nothing is copied or allocated, but
+/// for the operands of an [`Instruction`] that is looked at and the list that [`Book::run`] encodes. Refusals come in the order in which they are listed. Before those
+/// of the call itself there are two more: 10, the image or the journal is too long; 13, the lengths, the image and
+/// the journal do not fit each other, which happens only to a book from [`Book::resume`] and after a refused
+/// [`Book::reopen`].
+///
+/// A refused edit leaves the book as it was. Every call reads the whole image: its time grows with the image.
+#[derive(Clone, Debug)]
+pub struct Book<M> {
+    lengths: Lengths,
+    pub(crate) image: M,
+    pub(crate) journal: M,
+}
+
+impl<M> Book<M> {
+    /// Goes on with a book that was kept: its lengths, and its image and journal at the same lengths as before.
+    /// Nothing is tested here; each call tests it, and refuses 13 where the three do not fit.
+    pub fn resume(lengths: Lengths, image: M, journal: M) -> Book<M> {
+        Book { lengths, image, journal }
+    }
+
+    /// How many bytes of the image and of the journal count.
+    pub fn lengths(&self) -> Lengths {
+        self.lengths
+    }
+}
+
+/// Looking.
+impl<M: AsRef<[u8]>> Book<M> {
+    /// The whole image: the written form, then zeros.
+    pub fn image(&self) -> &[u8] {
+        self.image.as_ref()
+    }
+
+    /// The whole journal: the part that is used, then bytes that no call reads.
+    pub fn journal(&self) -> &[u8] {
+        self.journal.as_ref()
+    }
+
+    /// The routine's written form: what a file of it holds. (Where a resumed book says that it is longer than the
+    /// image, the image.)
+    pub fn written(&self) -> &[u8] {
+        let image = self.image();
+        image.get(..self.lengths.written as usize).unwrap_or(image)
+    }
+
+    /// The routine as a whole.
+    pub fn overview(&self) -> Result<Overview, Refusal> {
+        let (image, journal) = (self.image(), self.journal());
+        // SAFETY: each pointer and length is a slice's.
+        let look =
+            unsafe { c::vtil_routine(self.lengths, image.as_ptr(), image.len(), journal.as_ptr(), journal.len()) };
+        accepted(look.refusal)?;
+        Ok(Overview {
+            machine: look.arch_id,
+            entry_vip: Vip(look.vip),
+            special_conventions: look.spec_conventions,
+            blocks: look.blocks,
+        })
+    }
+
+    /// The block at a place, counted from 0. Refusals: 15, there is none.
+    pub fn block(&self, place: u64) -> Result<Block, Refusal> {
+        let (image, journal) = (self.image(), self.journal());
+        // SAFETY: each pointer and length is a slice's.
+        let look =
+            unsafe { c::vtil_block(self.lengths, image.as_ptr(), image.len(), journal.as_ptr(), journal.len(), place) };
+        accepted(look.refusal)?;
+        Ok(Block {
+            vip: Vip(look.vip),
+            sp_offset: look.sp_offset,
+            sp_index: look.sp_index,
+            last_temporary_index: look.last_temporary_index,
+            instructions: look.instructions,
+            prev_vips: look.prev_vips,
+            next_vips: look.next_vips,
+        })
+    }
+
+    /// The instruction at a place of the block at a place. Refusals: 15, there is none.
+    pub fn instruction(&self, block: u64, place: u64) -> Result<Instruction, Refusal> {
+        let (image, journal) = (self.image(), self.journal());
+        // SAFETY: each pointer and length is a slice's.
+        let look = unsafe {
+            c::vtil_instruction(
+                self.lengths,
+                image.as_ptr(),
+                image.len(),
+                journal.as_ptr(),
+                journal.len(),
+                block,
+                place,
+            )
+        };
+        accepted(look.refusal)?;
+        Ok(Instruction::from_c(&look.instruction))
+    }
+
+    /// The vip at a place of a list of the block at a place. Refusals: 15, there is none.
+    pub fn block_vip(&self, block: u64, list: Links, place: u64) -> Result<Vip, Refusal> {
+        let (image, journal) = (self.image(), self.journal());
+        // SAFETY: each pointer and length is a slice's.
+        let look = unsafe {
+            c::vtil_block_vip(
+                self.lengths,
+                image.as_ptr(),
+                image.len(),
+                journal.as_ptr(),
+                journal.len(),
+                block,
+                list as u64,
+                place,
+            )
+        };
+        accepted(look.refusal)?;
+        Ok(Vip(look.vip))
+    }
+
+    /// The convention at a place: 0 the routine's, 1 the subroutine's, then the special ones. Refusals: 15, there is
+    /// none.
+    pub fn convention(&self, place: u64) -> Result<Convention, Refusal> {
+        let (image, journal) = (self.image(), self.journal());
+        // SAFETY: each pointer and length is a slice's.
+        let look = unsafe {
+            c::vtil_convention(self.lengths, image.as_ptr(), image.len(), journal.as_ptr(), journal.len(), place)
+        };
+        accepted(look.refusal)?;
+        Ok(Convention {
+            frame_register: Register::from_c(&look.frame_register),
+            shadow_space: look.shadow_space,
+            purge_stack: look.purge_stack != 0,
+            volatile_registers: look.volatile_registers,
+            param_registers: look.param_registers,
+            retval_registers: look.retval_registers,
+        })
+    }
+
+    /// The register at a place of a list of the convention at a place. Refusals: 15, there is none.
+    pub fn convention_register(&self, convention: u64, list: Registers, place: u64) -> Result<Register, Refusal> {
+        let (image, journal) = (self.image(), self.journal());
+        // SAFETY: each pointer and length is a slice's.
+        let look = unsafe {
+            c::vtil_convention_register(
+                self.lengths,
+                image.as_ptr(),
+                image.len(),
+                journal.as_ptr(),
+                journal.len(),
+                convention,
+                list as u64,
+                place,
+            )
+        };
+        accepted(look.refusal)?;
+        Ok(Register::from_c(&look.register_desc))
+    }
+}
+
+/// Opening and editing.
+impl<M: AsMut<[u8]>> Book<M> {
+    /// Opens the routine at the start of `file`; bytes after it are ignored. The journal may have any length: an edit
+    /// that it has no room for is refused.
+    ///
+    /// Refusals: 1 to 9, whichever field fails first; 11, the routine is longer than the image. Image and journal are
+    /// then as they were.
+    pub fn open(file: &[u8], image: M, journal: M) -> Result<Book<M>, Refusal> {
+        let mut book = Book::resume(Lengths::default(), image, journal);
+        book.reopen(file)?;
+        Ok(book)
+    }
+
+    /// Opens another routine in the same image and journal.
+    ///
+    /// Refusals: as [`Book::open`]. Image and journal are then as they were, but the lengths are 0: no routine is
+    /// open, and every other call is refused 13.
+    pub fn reopen(&mut self, file: &[u8]) -> Result<(), Refusal> {
+        // SAFETY: each pointer and length is a slice's, and slices that can be written overlap no other.
+        self.call(|_, image, journal| unsafe {
+            c::vtil_open(
+                file.as_ptr(),
+                file.len(),
+                image.as_mut_ptr(),
+                image.len(),
+                journal.as_mut_ptr(),
+                journal.len(),
+            )
+        })
+    }
+
+    /// Adds an empty block after the last one. The image needs 36 bytes more and the journal 20.
+    ///
+    /// Refusals: 14, a block has this vip; 11, the image is full; 12, the journal is full.
+    pub fn create_block(&mut self, vip: Vip) -> Result<(), Refusal> {
+        // SAFETY: as in `reopen`.
+        self.call(|book, image, journal| unsafe {
+            c::vtil_create_block(book, image.as_mut_ptr(), image.len(), journal.as_mut_ptr(), journal.len(), vip.0)
+        })
+    }
+
+    /// Removes a block; the last one takes its place. The journal needs the block's size and 20 bytes more.
+    ///
+    /// Refusals: 15, no block has this vip; 12, the journal is full.
+    pub fn remove_block(&mut self, vip: Vip) -> Result<(), Refusal> {
+        // SAFETY: as in `reopen`.
+        self.call(|book, image, journal| unsafe {
+            c::vtil_remove_block(book, image.as_mut_ptr(), image.len(), journal.as_mut_ptr(), journal.len(), vip.0)
+        })
+    }
+
+    /// Adds an instruction, as a file holds it, after the last one of the block. The image needs its size more and
+    /// the journal 20 bytes.
+    ///
+    /// Refusals: 1, 2, 5 to 8, whichever field fails first; 17, bytes are left after it; 15, no block has this vip;
+    /// 11, the image is full; 12, the journal is full.
+    pub fn append(&mut self, vip: Vip, instruction: &[u8]) -> Result<(), Refusal> {
+        // SAFETY: as in `reopen`.
+        self.call(|book, image, journal| unsafe {
+            c::vtil_append(
+                book,
+                image.as_mut_ptr(),
+                image.len(),
+                journal.as_mut_ptr(),
+                journal.len(),
+                vip.0,
+                instruction.as_ptr(),
+                instruction.len(),
+            )
+        })
+    }
+
+    /// Takes back the last edit that was not taken back yet.
+    ///
+    /// Refusals: 16, there is none; 13, the journal of a resumed book does not end in an edit of this image.
+    pub fn undo(&mut self) -> Result<(), Refusal> {
+        // SAFETY: as in `reopen`.
+        self.call(|book, image, journal| unsafe {
+            c::vtil_undo(book, image.as_mut_ptr(), image.len(), journal.as_mut_ptr(), journal.len())
+        })
+    }
+
+    /// Opens another routine in the same image and journal, and runs a list of calls on it, in which a refused call
+    /// changes nothing and the next one follows all the same. The list is encoded for the library first, which
+    /// allocates.
+    ///
+    /// Answers what the last call of the list answers; where the list is empty or the opening is refused, what the
+    /// opening answers. No call is run after a refused opening.
+    pub fn run(&mut self, file: &[u8], calls: &[Call]) -> Result<(), Refusal> {
+        let Encoded { words, texts } = Encoded::of(calls);
+        // SAFETY: as in `reopen`.
+        self.call(|_, image, journal| unsafe {
+            c::vtil_run(
+                file.as_ptr(),
+                file.len(),
+                image.as_mut_ptr(),
+                image.len(),
+                journal.as_mut_ptr(),
+                journal.len(),
+                words.as_ptr(),
+                words.len(),
+                texts.as_ptr(),
+                texts.len(),
+            )
+        })
+    }
+
+    /// The lengths are those that the library answers, of a refused call too.
+    fn call(&mut self, call: impl FnOnce(Lengths, &mut [u8], &mut [u8]) -> c::Answer) -> Result<(), Refusal> {
+        let answer = call(self.lengths, self.image.as_mut(), self.journal.as_mut());
+        self.lengths = answer.book;
+        accepted(answer.refusal)
+    }
+}

@@ -1,0 +1,231 @@
+//! Books over lent memory: what each call leaves in it, and every refusal at exact lengths.
+
+use vtil::{check, check_raw, operation, Book, Call, Instruction, Lengths, Refusal, Routine, Vip};
+
+const MOST_LENT: usize = 16_777_216;
+const MINIMAL: usize = 114;
+
+fn sample(name: &str) -> Vec<u8> {
+    let path = format!("{}/../../samples/{name}.vtil", env!("CARGO_MANIFEST_DIR"));
+    std::fs::read(&path).unwrap_or_else(|error| panic!("{path}: {error}"))
+}
+
+fn nop() -> Instruction {
+    Instruction { op: operation("nop").unwrap(), ..Default::default() }
+}
+
+fn lengths(written: usize, used: usize) -> Lengths {
+    Lengths { written: written as u64, used: used as u64 }
+}
+
+/// Bytes that no call leaves by accident.
+fn image_before(length: usize) -> Vec<u8> {
+    vec![0xa5; length]
+}
+
+fn journal_before(length: usize) -> Vec<u8> {
+    vec![0x5a; length]
+}
+
+#[test]
+fn opening_fills_what_is_lent() {
+    let file = sample("odd-flags");
+    let (mut image, mut journal) = (image_before(file.len() + 50), journal_before(30));
+    let book = Book::open(&file, &mut image[..], &mut journal[..]).unwrap();
+    assert_eq!(book.lengths(), lengths(file.len(), 0));
+    assert_eq!(book.written(), Routine::open(&file).unwrap().written());
+    assert_eq!(book.image()[..file.len()], *book.written());
+    assert_eq!(book.image()[file.len()..], [0; 50]);
+    assert_eq!(book.journal(), [0; 30]);
+}
+
+/// What a refused opening answers, which has to leave the memory alone.
+fn refused_opening(file: &[u8], image_length: usize, journal_length: usize) -> Refusal {
+    let (mut image, mut journal) = (image_before(image_length), journal_before(journal_length));
+    let refusal = Book::open(file, &mut image[..], &mut journal[..]).expect_err("it has to be refused");
+    assert!(image == image_before(image_length) && journal == journal_before(journal_length));
+    refusal
+}
+
+#[test]
+fn opening_is_refused_at_exact_lengths() {
+    let file = sample("minimal");
+    for (image, journal, due) in [
+        (MINIMAL - 1, 20, Refusal::ImageFull),
+        (0, 0, Refusal::ImageFull),
+        (MOST_LENT + 1, 20, Refusal::LendingTooLarge),
+        (200, MOST_LENT + 1, Refusal::LendingTooLarge),
+    ] {
+        assert_eq!(refused_opening(&file, image, journal), due, "image {image}, journal {journal}");
+    }
+    assert_eq!(refused_opening(&[], 0, 0), Refusal::ShortFile);
+    assert_eq!(refused_opening(&[], MOST_LENT + 1, 0), Refusal::LendingTooLarge);
+    for (image, journal) in [(MINIMAL, 0), (MOST_LENT, MOST_LENT)] {
+        assert!(Book::open(&file, image_before(image), journal_before(journal)).is_ok());
+    }
+}
+
+/// Nothing is open after a refused opening, whatever was before it.
+#[test]
+fn a_book_is_opened_again() {
+    let mut book = Book::open(&sample("minimal"), image_before(1500), journal_before(20)).unwrap();
+    book.create_block(Vip(1)).unwrap();
+    book.reopen(&sample("blocks")).unwrap();
+    assert_eq!((book.lengths(), book.overview().unwrap().blocks), (lengths(1134, 0), 3));
+    assert_eq!(book.written(), sample("blocks"));
+
+    assert_eq!(book.reopen(&sample("wrong-mark")), Err(Refusal::WrongMark));
+    assert_eq!((book.lengths(), book.written()), (lengths(0, 0), &[][..]));
+    assert_eq!(book.image()[..1134], sample("blocks"));
+    assert_eq!(book.overview(), Err(Refusal::SpoiledBook));
+    assert_eq!(book.undo(), Err(Refusal::SpoiledBook));
+}
+
+/// 11 comes before 12, and both at one byte too few.
+#[test]
+fn edits_are_refused_at_exact_lengths() {
+    let create = |image, journal| {
+        let mut book = Book::open(&sample("minimal"), image_before(image), journal_before(journal)).unwrap();
+        book.create_block(Vip(1))
+    };
+    assert_eq!(create(MINIMAL + 36, 20), Ok(()));
+    assert_eq!(create(MINIMAL + 35, 20), Err(Refusal::ImageFull));
+    assert_eq!(create(MINIMAL + 35, 19), Err(Refusal::ImageFull));
+    assert_eq!(create(MINIMAL + 36, 19), Err(Refusal::JournalFull));
+
+    let append = |image, journal| {
+        let mut book = Book::open(&sample("minimal"), image_before(image), journal_before(journal)).unwrap();
+        book.create_block(Vip(1)).unwrap();
+        book.append(Vip(1), &nop().to_bytes().unwrap())
+    };
+    assert_eq!(append(MINIMAL + 36 + 32, 40), Ok(()));
+    assert_eq!(append(MINIMAL + 36 + 31, 40), Err(Refusal::ImageFull));
+    assert_eq!(append(MINIMAL + 36 + 32, 39), Err(Refusal::JournalFull));
+
+    let remove = |journal| {
+        let mut book = Book::open(&sample("minimal"), image_before(MINIMAL + 36), journal_before(journal)).unwrap();
+        book.create_block(Vip(1)).unwrap();
+        book.remove_block(Vip(1))
+    };
+    assert_eq!(remove(20 + 20 + 36), Ok(()));
+    assert_eq!(remove(20 + 20 + 35), Err(Refusal::JournalFull));
+}
+
+#[test]
+fn a_refused_edit_leaves_the_book_as_it_was() {
+    let mut book = Book::open(&sample("minimal"), image_before(MINIMAL + 36), journal_before(40)).unwrap();
+    book.create_block(Vip(1)).unwrap();
+    let before = book.clone();
+    assert_eq!(book.create_block(Vip(1)), Err(Refusal::BlockPresent));
+    assert_eq!(book.create_block(Vip(2)), Err(Refusal::ImageFull));
+    assert_eq!(book.remove_block(Vip(2)), Err(Refusal::NoSuchBlock));
+    assert_eq!(book.append(Vip(1), &[]), Err(Refusal::ShortFile));
+    assert_eq!(book.lengths(), before.lengths());
+    assert_eq!((book.image(), book.journal()), (before.image(), before.journal()));
+}
+
+#[test]
+fn an_edit_and_its_entry_are_taken_back() {
+    let (mut image, mut journal) = (image_before(MINIMAL + 36), journal_before(20));
+    let mut book = Book::open(&sample("minimal"), &mut image[..], &mut journal[..]).unwrap();
+    book.create_block(Vip(7)).unwrap();
+    assert_eq!(book.lengths(), lengths(MINIMAL + 36, 20));
+    assert_eq!(book.journal(), [7, 0, 0, 0, 0, 0, 0, 0, 0, 0, 0, 0, 0, 0, 0, 0, 1, 0, 0, 0]);
+    book.undo().unwrap();
+    assert_eq!(book.lengths(), lengths(MINIMAL, 0));
+    assert_eq!((book.written(), book.journal()), (&sample("minimal")[..], &[0; 20][..]));
+    assert_eq!(book.undo(), Err(Refusal::NothingToTakeBack));
+}
+
+/// A book that was kept goes on, and memory that can only be read can be looked at.
+#[test]
+fn a_kept_book_goes_on() {
+    let (mut image, mut journal) = (image_before(MINIMAL + 36), journal_before(20));
+    let mut book = Book::open(&sample("minimal"), &mut image[..], &mut journal[..]).unwrap();
+    book.create_block(Vip(7)).unwrap();
+    let kept = book.lengths();
+
+    let read_only = Book::resume(kept, &image[..], &journal[..]);
+    assert_eq!(read_only.block(0).unwrap().vip, Vip(7));
+    let mut book = Book::resume(kept, &mut image[..], &mut journal[..]);
+    book.undo().unwrap();
+    assert_eq!(book.written(), sample("minimal"));
+}
+
+/// A book that does not fit its memory is refused, not trusted.
+#[test]
+fn a_spoiled_book_is_refused() {
+    let file = sample("minimal");
+    let image = [&file[..], &[0; 36]].concat();
+    let at = |kept| Book::resume(kept, image.clone(), journal_before(20));
+    assert_eq!(at(lengths(MINIMAL, 0)).overview().unwrap().blocks, 0);
+    for kept in [lengths(MINIMAL - 1, 0), lengths(MINIMAL + 1, 0), lengths(MINIMAL, 21), lengths(usize::MAX, 0)] {
+        assert_eq!(at(kept).overview(), Err(Refusal::SpoiledBook), "{kept:?}");
+        assert_eq!(at(kept).create_block(Vip(1)), Err(Refusal::SpoiledBook), "{kept:?}");
+    }
+    // These 20 bytes of journal are no edit of this image.
+    assert_eq!(at(lengths(MINIMAL, 20)).undo(), Err(Refusal::SpoiledBook));
+    assert_eq!(at(lengths(usize::MAX, 0)).written(), image);
+
+    let mut odd = image.clone();
+    odd[MINIMAL] = 1;
+    let book = Book::resume(lengths(MINIMAL, 0), odd, vec![]);
+    assert_eq!(book.block(0), Err(Refusal::SpoiledBook));
+    let long = Book::resume(lengths(MINIMAL, 0), image, vec![0; MOST_LENT + 1]);
+    assert_eq!(long.block(0), Err(Refusal::LendingTooLarge));
+}
+
+/// A list leaves what its calls leave one by one, and answers what the last one answers.
+#[test]
+fn a_list_is_run() {
+    let (file, nop) = (sample("minimal"), nop().to_bytes().unwrap());
+    let calls = [
+        Call::Create(Vip(1)),
+        Call::Append(Vip(1), &nop),
+        Call::Append(Vip(1), &nop[..31]),
+        Call::Create(Vip(2)),
+        Call::Undo,
+        Call::Remove(Vip(3)),
+    ];
+    let mut one_by_one = Book::open(&file, image_before(300), journal_before(100)).unwrap();
+    one_by_one.create_block(Vip(1)).unwrap();
+    one_by_one.append(Vip(1), &nop).unwrap();
+    let mut book = Book::resume(Lengths::default(), image_before(300), journal_before(100));
+    assert_eq!(book.run(&file, &calls), Err(Refusal::NoSuchBlock));
+    assert_eq!(book.lengths(), one_by_one.lengths());
+    assert_eq!((book.image(), book.journal()), (one_by_one.image(), one_by_one.journal()));
+
+    assert_eq!(book.run(&file, &calls[..5]), Ok(()));
+    assert_eq!(book.run(&file, &calls[..3]), Err(Refusal::ShortFile));
+    assert_eq!((book.run(&file, &[]), book.lengths()), (Ok(()), lengths(MINIMAL, 0)));
+    assert_eq!(book.run(&[], &calls), Err(Refusal::ShortFile));
+    assert_eq!((book.lengths(), book.image()[..MINIMAL].to_vec()), (lengths(0, 0), file));
+}
+
+#[test]
+fn an_instruction_in_lent_bytes() {
+    let mut bytes = [0xff; 40];
+    assert_eq!(nop().write_to(&mut bytes), Ok(32));
+    assert_eq!((bytes[..32].to_vec(), &bytes[32..]), (nop().to_bytes().unwrap(), &[0xff; 8][..]));
+    let mut bytes = [0xff; 31];
+    assert_eq!(nop().write_to(&mut bytes), Err(Refusal::ImageFull));
+    assert_eq!(nop().write_to(&mut vec![0; MOST_LENT + 1]), Err(Refusal::LendingTooLarge));
+    assert_eq!(Instruction { op: 49, ..nop() }.write_to(&mut bytes), Err(Refusal::UnknownOperation));
+    assert_eq!(bytes, [0xff; 31]);
+}
+
+#[test]
+fn the_check_as_c_gets_it() {
+    for name in ["minimal", "trailing", "wrong-mark", "repeated-block"] {
+        let file = sample(name);
+        // SAFETY: the pointer and the length are a vector's.
+        let number = unsafe { check_raw(file.as_ptr(), file.len()) };
+        let due = check(&file).map_or_else(|refusal| -(refusal.number() as i64), |consumed| consumed as i64);
+        assert_eq!(number, due, "{name}");
+    }
+    let minimal = sample("minimal");
+    for length in [1 << 63, usize::MAX] {
+        // SAFETY: the length is over 2^63 - 1.
+        assert_eq!(unsafe { check_raw(minimal.as_ptr(), length) }, -10);
+    }
+}
