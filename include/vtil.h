@@ -8,6 +8,12 @@
  * returns, or has state between calls. So every function may be called from
  * several threads at once, as long as nobody writes the memory that is lent to
  * it while it runs.
+ *
+ * A call takes up to 66,000 bytes of stack, for the search for repeated blocks,
+ * and time that grows with the file or the image. Where the vips of the blocks do
+ * not rise, the blocks are passed over once more for each 8,000 of them: the
+ * 466,000 that a file of 16 MB can hold take half a second in the worst order
+ * known.
  */
 #ifndef VTIL_H
 #define VTIL_H

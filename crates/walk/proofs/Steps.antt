@@ -85,13 +85,32 @@ module _ (s : List ℕ) (o : ℕ) where
   pub reg-made : {a w r : ℕ} → a ≡ jump s o 4 → w ≡ word 4 s o → (w ≡ 0 → ⊥) → r ≡ jump s a 24 → r ≡ operandEnd s o
   reg-made p q z e = rw (e, p) (sym (reg-end s o (λ y. z (q ∙ y))))
 
--- a block whose three lists are empty
-pub empty-block : (s : List ℕ) (o : ℕ) → o + 36 ≤ length s → le 4 s (o + 24) ≡ 0 → le 4 s (o + 28) ≡ 0 → le 4 s (o + 32) ≡ 0 → blockEnd s o ≡ o + 36
-unfolding times
-empty-block s o h p q r =
-    let jumps : (a k b : ℕ) → a + k ≡ b → b ≤ length s → b ≡ jump s a k = λ a k b e l. sym (jump-in s a k (omega arith) ∙ e) in
-    let none : (a : ℕ) → a + 4 ≤ length s → le 4 s a ≡ 0 → 0 ≡ word 4 s a = λ a l e. sym (word-in 4 s a l ∙ e) in
-    sym (block-made s o {i = o + 24} {c = 0} {a = o + 28} {e = o + 28} {p = o + 32} {r = o + 36}
-    (jumps o 24 _ refl (omega arith)) (none (o + 24) (omega arith) p) (jumps (o + 24) 4 _ (omega arith) (omega arith)) refl
-    (vips-made s (o + 28) {a = o + 32} {n = 0} {r = o + 32} (jumps (o + 28) 4 _ (omega arith) (omega arith)) (none (o + 28) (omega arith) q) (jumps (o + 32) 0 _ (omega arith) (omega arith)))
-    (vips-made s (o + 32) {a = o + 36} {n = 0} {r = o + 36} (jumps (o + 32) 4 _ (omega arith) (omega arith)) (none (o + 32) (omega arith) r) (jumps (o + 36) 0 _ (omega arith) (omega arith))))
+-- what the quick ways found, within the bytes
+module _ (s : List ℕ) where
+  lands : (a k b : ℕ) → a + k ≡ b → b ≤ length s → b ≡ jump s a k
+  lands a k b e l = sym (jump-in s a k (omega arith) ∙ e)
+
+  finds : (a : ℕ) {v : ℕ} → a + 4 ≤ length s → v ≡ le 4 s a → v ≡ word 4 s a
+  finds a l e = e ∙ sym (word-in 4 s a l)
+
+  pub imm-within : (o : ℕ) → o + 28 ≤ length s → le 4 s o ≡ 0 → o + 16 ≡ operandEnd s o
+  imm-within o h z = imm-made s o (lands o 4 _ refl (omega arith)) (finds o (omega arith) (sym z)) refl (lands (o + 4) 12 _ (omega arith) (omega arith))
+
+  pub reg-within : (o : ℕ) → o + 28 ≤ length s → (le 4 s o ≡ 0 → ⊥) → o + 28 ≡ operandEnd s o
+  reg-within o h z = reg-made s o (lands o 4 _ refl (omega arith)) (finds o (omega arith) refl) z (lands (o + 4) 24 _ (omega arith) (omega arith))
+
+  pub instruction-within : (o : ℕ) {z n c e : ℕ} → z ≡ le 4 s o → n ≡ o + 4 + z → c ≡ le 4 s n → n + 4 ≤ length s → e ≡ times (operandEnd s) c (n + 4) → e + 21 ≤ length s
+      → e + 21 ≡ instructionEnd s o
+  instruction-within o {z} {n} {c} {e} p q r a t l =
+      instruction-made s o (lands o 4 _ refl (omega arith)) (finds o (omega arith) p) (lands (o + 4) z n (sym q) (omega arith)) (finds n (omega arith) r)
+      (lands n 4 _ refl (omega arith)) t (lands e 21 _ refl l)
+
+  -- a block whose three lists are empty
+  pub empty-block : (o : ℕ) → o + 36 ≤ length s → le 4 s (o + 24) ≡ 0 → le 4 s (o + 28) ≡ 0 → le 4 s (o + 32) ≡ 0 → o + 36 ≡ blockEnd s o
+  unfolding times
+  empty-block o h p q r =
+      block-made s o {i = o + 24} {c = 0} {a = o + 28} {e = o + 28} {p = o + 32} {r = o + 36} (lands o 24 _ refl (omega arith)) (finds (o + 24) (omega arith) (sym p))
+      (lands (o + 24) 4 _ (omega arith) (omega arith)) refl (no-vips (o + 28) _ (omega arith) (omega arith) q) (no-vips (o + 32) _ (omega arith) (omega arith) r)
+    where
+      no-vips : (a b : ℕ) → a + 4 ≡ b → b ≤ length s → le 4 s a ≡ 0 → b ≡ vipsEnd s a
+      no-vips a b e l z = vips-made s a {a = b} {n = 0} (lands a 4 b e l) (finds a (omega arith) (sym z)) (lands b 0 b (omega arith) l)

@@ -1,7 +1,8 @@
 // The walk over blocks and conventions that were accepted before. It looks at counts, kinds and the size of a name alone, and reads no name, text or register
 // again: where a block is passed many times, that is most of the time.
 ghost use mathlib.Core.Path.{_≡_};
-ghost use Prim.Native.Nat.{_<_};
+ghost use Prim.Native.Nat.{_+_, _≤_, _<_};
+ghost use lib.ListN.{length};
 ghost use Rattle.walk.specs.Ends.{word, operandEnd, times, instructionEnd, vipsEnd, blockEnd, registersEnd, conventionEnd};
 use fields::U32Read;
 use fields::U64Read;
@@ -71,10 +72,55 @@ fn operands_end(s: &[u8], at: usize, count: u32) -> usize
     o
 }
 
+// The end of the operand at `at`, where the longer of the two kinds is within.
+fn quick_operand_end(s: &[u8], at: usize) -> usize
+    requires { ⌜ at + 28 ≤ length (now s) ⌝ }
+    ensures { λ r. ⌜ (r ≡ operandEnd (now (s .entry)) at) × (r ≤ at + 28) ⌝ }
+{
+    if fields::four(s, at) == 0 {
+        at + 16
+    } else {
+        at + 28
+    }
+}
+
+// The end of the instruction at `at`, with one length test for all its fields; or 0 where that does not tell: near the end of the bytes, and where its
+// name or its list of operands is longer than any operation has.
+fn quick_instruction_end(s: &[u8], at: usize) -> usize
+    ensures { λ r. ⌜ (0 < r → r ≡ instructionEnd (now (s .entry)) at) ⌝ }
+{
+    if s.len() < at {
+        return 0;
+    }
+    if s.len() - at < 128 {
+        return 0;
+    }
+    let size = fields::four(s, at) as usize;
+    if 6 < size {
+        return 0;
+    }
+    let n = at + 4 + size;
+    let count = fields::four(s, n);
+    if 3 < count {
+        return 0;
+    }
+    let mut left = count;
+    let mut o = n + 4;
+    while 0 < left {
+        o = quick_operand_end(s, o);
+        left -= 1;
+    }
+    o + 21
+}
+
 // The end of the instruction at `at`. The 21 bytes past the operands: vip 8, sp offset 8, sp index 4, sp reset 1.
 pub fn instruction_end(s: &[u8], at: usize) -> usize
     ensures { λ r. ⌜ r ≡ instructionEnd (now (s .entry)) at ⌝ }
 {
+    let end = quick_instruction_end(s, at);
+    if 0 < end {
+        return end;
+    }
     let a = jump(s, at, 4);
     let size = word32(s, at);
     let n = jump(s, a, size as usize);
@@ -106,7 +152,7 @@ pub fn vips_end(s: &[u8], at: usize) -> usize
 }
 
 // The end of the block at `at` where it has no instruction and no vips, as one length test and three loads tell; or 0.
-fn quick(s: &[u8], at: usize) -> usize
+fn quick_block_end(s: &[u8], at: usize) -> usize
     ensures { λ r. ⌜ (0 < r → r ≡ blockEnd (now (s .entry)) at) ⌝ }
 {
     if s.len() < at {
@@ -131,7 +177,7 @@ fn quick(s: &[u8], at: usize) -> usize
 pub fn block_end(s: &[u8], at: usize) -> usize
     ensures { λ r. ⌜ r ≡ blockEnd (now (s .entry)) at ⌝ }
 {
-    let end = quick(s, at);
+    let end = quick_block_end(s, at);
     if 0 < end {
         return end;
     }

@@ -4,11 +4,11 @@ use borrow.Author.Needs.{needs}
 use Rattle.walk.proofs.block_end.Statement.{statement}
 use Rattle.walk.proofs.block_end.Tie as tie
 
-quick-requires : tie.Need-quick-requires
-quick-requires c κs = search needs
+quick-block-end-requires : tie.Need-quick-block-end-requires
+quick-block-end-requires c κs = search needs
 
 returns : tie.Need-returns
-returns c = c .before .quick .ensures (c .if1 .taken)
+returns c = c .before .quick-block-end .ensures (c .if1 .taken)
 
 jump-requires : tie.Need-jump-requires
 jump-requires c κs = search needs
@@ -40,7 +40,7 @@ pub block-end-spec : {M : Type 1} → statement M
 block-end-spec =
     tie.close
     (tie.spec
-    quick-requires
+    quick-block-end-requires
     returns
     jump-requires
     word32-requires

@@ -1,8 +1,14 @@
--- Straight code: the calls put together are `instructionEnd`.
+-- Where the quick way tells, it is `instructionEnd`; else straight code, whose calls put together are `instructionEnd`.
 use Rattle.walk.proofs.Steps.{instruction-made}
 use borrow.Author.Needs.{needs}
 use Rattle.walk.proofs.instruction_end.Statement.{statement}
 use Rattle.walk.proofs.instruction_end.Tie as tie
+
+quick-instruction-end-requires : tie.Need-quick-instruction-end-requires
+quick-instruction-end-requires c κs = search needs
+
+returns : tie.Need-returns
+returns c = c .before .quick-instruction-end .ensures (c .if1 .taken)
 
 jump-requires : tie.Need-jump-requires
 jump-requires c κs = search needs
@@ -28,8 +34,8 @@ operands-end-requires c κs = search needs
 jump-requires-4 : tie.Need-jump-requires-4
 jump-requires-4 c κs = search needs
 
-returns : tie.Need-returns
-returns c =
+returns-2 : tie.Need-returns-2
+returns-2 c =
     let e = c .before in
     let b = e .before in
     let k = b .before in
@@ -41,6 +47,8 @@ pub instruction-end-spec : {M : Type 1} → statement M
 instruction-end-spec =
     tie.close
     (tie.spec
+    quick-instruction-end-requires
+    returns
     jump-requires
     word32-requires
     cast-jump
@@ -49,4 +57,4 @@ instruction-end-spec =
     jump-requires-3
     operands-end-requires
     jump-requires-4
-    returns)
+    returns-2)

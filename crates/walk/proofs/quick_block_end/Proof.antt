@@ -3,8 +3,8 @@ use native.Mathlib.Omega.{arith}
 use mathlib.Core.Path.{sym, _∙_}
 use Rattle.walk.proofs.Steps.{empty-block}
 use borrow.Author.Needs.{needs}
-use Rattle.walk.proofs.quick.Statement.{statement}
-use Rattle.walk.proofs.quick.Tie as tie
+use Rattle.walk.proofs.quick_block_end.Statement.{statement}
+use Rattle.walk.proofs.quick_block_end.Tie as tie
 
 returns : tie.Need-returns
 returns c = λ h. absurd (omega arith)
@@ -50,13 +50,13 @@ returns-6 c =
     let vips₂ = c .before in
     let vips₁ = vips₂ .before .before in
     let count = vips₁ .before .before in
-    λ _. sym (empty-block _ _ (omega arith)
+    λ _. empty-block _ _ (omega arith)
     (sym (count .four .ensures) ∙ vips₁ .before .if3 .left)
     (sym (vips₁ .four2 .ensures) ∙ vips₂ .before .if4 .left)
-    (sym (vips₂ .four3 .ensures) ∙ c .if5 .left))
+    (sym (vips₂ .four3 .ensures) ∙ c .if5 .left)
 
-pub quick-spec : {M : Type 1} → statement M
-quick-spec =
+pub quick-block-end-spec : {M : Type 1} → statement M
+quick-block-end-spec =
     tie.close
     (tie.spec
     returns
