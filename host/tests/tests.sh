@@ -47,6 +47,7 @@ build_guard() {
 
 run bash host/tests/samples.sh
 run bash host/tests/format.sh
+run bash host/tests/contracts.sh
 run bash host/tests/header.sh "$LIB" "$scratch/header"
 build_guard guard
 run "$scratch/guard" samples/*.vtil

@@ -1,17 +1,18 @@
--- The machine's pile over a list of calls: what stood on it before stays below as many items as edits stand. By following the calls with the items
--- on top.
+-- The machine's pile over a list of calls: what stood on it before stays below as many items as edits stand; and an edit of the list stands, or the list
+-- took back all its own. By following the calls with the items on top.
 -- Assumes nothing.
 use mathlib.Core.Path.{_≡_, refl, ap, _∙_}
 use mathlib.Core.Bool.{Bool, true, false}
 use mathlib.Core.List.{List, [], _∷_, _++_}
 use Prim.Native.Nat.{ℕ, zero, suc, _+_}
 use native.Mathlib.Omega.{arith}
-use lib.ListN.{length}
+use mathlib.Core.Logic.{_⊎_, inl, inr}
+use lib.ListN.{length, drop}
 use lib.Dec.{leb}
 use Rattle.fields.specs.Outcome.{Outcome, refused, accepted, after}
 use Rattle.pod.specs.Values.{Routine}
 use Rattle.machine.specs.Edits.{Edit, edited, cost}
-use Rattle.machine.specs.Machine.{Call, edit, undo, Pile, used-by, Machine, size, admitted, after-edit, after-undo, machine-step, machine-run}
+use Rattle.machine.specs.Machine.{Call, edit, undo, Pile, used-by, Machine, start, size, admitted, after-edit, after-undo, machine-step, machine-run}
 use Rattle.machine.specs.Demand.{is-accepted, settle, standing}
 
 -- a list in two parts
@@ -101,3 +102,62 @@ module _ (N J : ℕ) where
   run-above base (c ∷ cs) m n k a s =
       let i = after-inv (settle (is-accepted (machine-step N J c m .0)) c n) _ s in
       run-above base cs (machine-step N J c m .1) (i .0) k (step-above base c m n (i .0) a (i .1)) (i .2)
+
+  -- the last edit of the list that is not taken back
+  pub record Stands (m : Machine) (cs : List Call) : Type 0 where
+    pub earlier : List Call
+    pub last : Edit
+    pub later : List Call
+    pub is : cs ≡ earlier ++ (edit last ∷ later)
+    pub accepts : is-accepted (machine-step N J (edit last) (machine-run N J earlier m .1) .0) ≡ true
+    pub stands : standing later (machine-run N J later (machine-step N J (edit last) (machine-run N J earlier m .1) .1) .0) 0 ≡ accepted 0
+
+  -- the list took back all its own edits, and k that stood before it
+  pub record Cleared (m : Machine) (cs : List Call) : Type 0 where
+    pub k : ℕ
+    pub took : standing cs (machine-run N J cs m .0) k ≡ accepted 0
+    pub pile : machine-run N J cs m .1 .pile ≡ drop k (m .pile)
+
+  -- one call before a list that took back all its own edits
+  top-off : (k : ℕ) (m : Machine) → is-accepted (machine-step N J undo m .0) ≡ true → drop k (machine-step N J undo m .1 .pile) ≡ drop (suc k) (m .pile)
+  unfolding machine-step after-undo
+  top-off k m = off (m .pile)
+    where
+      off : (ps : Pile) → is-accepted (after-undo m ps .0) ≡ true → drop k (after-undo m ps .1 .pile) ≡ drop (suc k) ps
+      off [] a = let z : _≡_ {A = ℕ} 0 1 = cc in absurd (omega arith)
+      off (p ∷ ps) a = refl
+
+  first-call : (c : Call) (cs : List Call) (m : Machine) → Cleared (machine-step N J c m .1) cs → Stands m (c ∷ cs) ⊎ Cleared m (c ∷ cs)
+  unfolding machine-run standing after
+  first-call c cs m q = go c (is-accepted (machine-step N J c m .0)) refl (q .k) (q .took) (q .pile)
+    where
+      go : (c : Call) (t : Bool) → is-accepted (machine-step N J c m .0) ≡ t → (k : ℕ)
+          → standing cs (machine-run N J cs (machine-step N J c m .1) .0) k ≡ accepted 0
+          → machine-run N J cs (machine-step N J c m .1) .1 .pile ≡ drop k (machine-step N J c m .1 .pile) → Stands m (c ∷ cs) ⊎ Cleared m (c ∷ cs)
+      go c false a k s p = inr (record { k = k; took = rw a s; pile = p ∙ ap (λ x. drop k (x .pile)) (refused-same c m a) })
+      go (edit e) true a zero s p = inl (record { earlier = []; last = e; later = cs; is = refl; accepts = a; stands = s })
+      go (edit e) true a (suc k) s p = inr (record { k = k; took = rw a s; pile = p ∙ ap (drop (suc k)) (edit-pile e m a) })
+      go undo true a k s p = inr (record { k = suc k; took = rw a s; pile = p ∙ top-off k m a })
+
+  pub left : (cs : List Call) (m : Machine) → Stands m cs ⊎ Cleared m cs
+  unfolding machine-run standing
+  left [] m = inr (record { k = 0; took = refl; pile = refl })
+  left (c ∷ cs) m = go (left cs (machine-step N J c m .1))
+    where
+      go : Stands (machine-step N J c m .1) cs ⊎ Cleared (machine-step N J c m .1) cs → Stands m (c ∷ cs) ⊎ Cleared m (c ∷ cs)
+      go (inl s) =
+          inl (record { earlier = c ∷ s .earlier; last = s .last; later = s .later; is = ap (λ l. c ∷ l) (s .is); accepts = s .accepts; stands = s .stands })
+      go (inr q) = first-call c cs m q
+
+  drop-none : (k : ℕ) → _≡_ {A = Pile} (drop k []) []
+  drop-none zero = refl
+  drop-none (suc k) = refl
+
+  -- from an empty pile: where a take back is accepted, an edit stands
+  pub edit-stands : (r : Routine) (cs : List Call) → is-accepted (machine-step N J undo (machine-run N J cs (start r) .1) .0) ≡ true → Stands (start r) cs
+  unfolding machine-step after-undo
+  edit-stands r cs = go (left cs (start r))
+    where
+      go : Stands (start r) cs ⊎ Cleared (start r) cs → is-accepted (machine-step N J undo (machine-run N J cs (start r) .1) .0) ≡ true → Stands (start r) cs
+      go (inl s) a = s
+      go (inr q) a = let b = rw (q .pile ∙ drop-none (q .k)) at a in let z : _≡_ {A = ℕ} 0 1 = cc in absurd (omega arith)

@@ -11,13 +11,13 @@ use Rattle.pod.specs.Written.{routine-bytes}
 use Rattle.laws.proofs.Layouts.{routine-layout, injective}
 use Rattle.machine.specs.Edits.{Edit, cost}
 use Rattle.machine.specs.Machine.{Call, edit, undo, Machine, start, size, used-by, machine-step, machine-run}
-use Rattle.machine.specs.Book.{in-image, run}
-use Rattle.machine.specs.Demand.{Sendable, Every, Opening, fresh, after-calls, machine-after, written-bytes, is-accepted, standing, Unspoiled, Follows, Told-apart, Taken-back, Demand-3}
+use Rattle.machine.specs.Book.{in-image, held, run}
+use Rattle.machine.specs.Demand.{Sendable, Every, Opening, fresh, after-calls, machine-after, next, written-bytes, is-accepted, standing, Unspoiled, Follows, Told-apart, Standing-edit, Taken-back, Demand-3}
 use Rattle.machine.proofs.Held.{take-image}
-use Rattle.machine.proofs.Simulation.{Sim, linked-used, run-sim}
+use Rattle.machine.proofs.Simulation.{Sim, linked-used, holds-it, run-sim}
 use Rattle.demand.proofs.Openings.{small, journal-small, fresh-sim}
 use Rattle.demand.proofs.Refusals.{run-sound}
-use Rattle.demand.proofs.Piles.{run-append, edit-pile, undo-pile, bare, run-above}
+use Rattle.demand.proofs.Piles.{run-append, edit-pile, undo-pile, bare, run-above, edit-stands}
 
 module _ (o : Opening) (cs : List Call) (f : Every Sendable cs) where
   abbrev N : ℕ
@@ -37,6 +37,7 @@ module _ (o : Opening) (cs : List Call) (f : Every Sendable cs) where
         image = ap (λ x. x .image) (s .is);
         written = ap (λ x. x .book .written) (s .is);
         used = ap (λ x. x .book .used) (s .is) ∙ sym (linked-used N (machine-after o cs .now) (machine-after o cs .pile) (s .j) (s .link));
+        holds = ap held (s .is) ∙ holds-it N J (small o) (journal-small o) (machine-after o cs .now) (s .j) (s .holds) (s .room) (s .journal-room);
       }
 
   -- the written bytes are the written form of the machine's routine
@@ -59,10 +60,6 @@ module _ {A : Type 0} (P : A → Type 0) where
   every-left : (xs ys : List A) → Every P (xs ++ ys) → Every P xs
   every-left [] ys e = tt
   every-left (x ∷ xs) ys e = (e .0, every-left xs ys (e .1))
-
-  every-right : (xs ys : List A) → Every P (xs ++ ys) → Every P ys
-  every-right [] ys e = e
-  every-right (x ∷ xs) ys e = every-right xs ys (e .1)
 
   every-append : (xs ys : List A) → Every P xs → Every P ys → Every P (xs ++ ys)
   every-append [] ys e g = g
@@ -93,36 +90,31 @@ module _ (o : Opening) (cs ds : List Call) (f : Every Sendable cs) (g : Every Se
   same-book : after-calls o cs .book ≡ after-calls o ds .book
   same-book i = record { written = same-written i; used = same-used i }
 
-module _ (o : Opening) (cs : List Call) (e : Edit) (ds : List Call) where
-  abbrev long : List Call
-  long = cs ++ (edit e ∷ (ds ++ (undo ∷ [])))
+module _ (o : Opening) (cs : List Call) (f : Every Sendable cs) where
+  pub undoes : is-accepted (next o undo (machine-after o cs) .0) ≡ true → Standing-edit o cs
+  undoes a =
+      let s = edit-stands (length (o .image)) (length (o .journal)) (o .routine) cs a in
+      record { earlier = s .earlier; last = s .last; later = s .later; is = s .is; accepts = s .accepts; stands = s .stands }
 
-  long-sent : Every Sendable (cs ++ (edit e ∷ ds)) → Every Sendable long
-  long-sent f =
-      let g = every-right Sendable cs (edit e ∷ ds) f in
-      every-append Sendable cs (edit e ∷ (ds ++ (undo ∷ []))) (every-left Sendable cs (edit e ∷ ds) f) (g .0, every-append Sendable ds (undo ∷ []) (g .1) (tt, tt))
-
-  pub taken-back : Every Sendable (cs ++ (edit e ∷ ds))
-      → is-accepted (machine-step (length (o .image)) (length (o .journal)) (edit e) (machine-after o cs) .0) ≡ true
-      → standing ds (machine-run (length (o .image)) (length (o .journal)) ds (machine-after o (cs ++ (edit e ∷ []))) .0) 0 ≡ accepted 0
-      → Taken-back o cs (edit e) ds
+  pub taken-back : (s : Standing-edit o cs) → Taken-back o cs (s .earlier)
   unfolding machine-run
-  taken-back f a s =
+  taken-back s =
       let N = length (o .image) in
       let J = length (o .journal) in
-      let m = machine-after o cs in
-      let first : machine-after o (cs ++ (edit e ∷ [])) ≡ machine-step N J (edit e) m .1 = run-append N J cs (edit e ∷ []) (start (o .routine)) in
-      let before : machine-after o (cs ++ (edit e ∷ ds)) ≡ machine-run N J ds (machine-step N J (edit e) m .1) .1
-      = run-append N J cs (edit e ∷ ds) (start (o .routine)) in
-      let r = returns N J m e ds a (rw first at s) in
-      let same : machine-after o long ≡ m
-      = run-append N J cs (edit e ∷ (ds ++ (undo ∷ []))) (start (o .routine)) ∙ run-append N J ds (undo ∷ []) (machine-step N J (edit e) m .1) ∙ r .1 in
+      let es = s .earlier in
+      let before : machine-after o cs ≡ machine-run N J (s .later) (next o (edit (s .last)) (machine-after o es) .1) .1
+      = ap (machine-after o) (s .is) ∙ run-append N J es (edit (s .last) ∷ s .later) (start (o .routine)) in
+      let r = returns N J (machine-after o es) (s .last) (s .later) (s .accepts) (s .stands) in
+      let same : machine-after o (cs ++ (undo ∷ [])) ≡ machine-after o es
+      = run-append N J cs (undo ∷ []) (start (o .routine)) ∙ ap (λ x. machine-step N J undo x .1) before ∙ r .1 in
+      let sent = every-append Sendable cs (undo ∷ []) f (tt, tt) in
+      let sent-earlier = every-left Sendable es (edit (s .last) ∷ s .later) (rw (s .is) at f) in
       record {
         accepts = ap (λ x. is-accepted (machine-step N J undo x .0)) before ∙ r .0;
         routine = ap (λ x. x .now) same;
-        image = same-image o long cs (long-sent f) (every-left Sendable cs (edit e ∷ ds) f) same;
-        book = same-book o long cs (long-sent f) (every-left Sendable cs (edit e ∷ ds) f) same;
+        image = same-image o (cs ++ (undo ∷ [])) es sent sent-earlier same;
+        book = same-book o (cs ++ (undo ∷ [])) es sent sent-earlier same;
       }
 
 pub demand-3 : Demand-3
-demand-3 = record { follows = follows; never-spoiled = never-spoiled; told-apart = told-apart; taken-back = taken-back }
+demand-3 = record { follows = follows; never-spoiled = never-spoiled; told-apart = told-apart; undoes = undoes; taken-back = taken-back }

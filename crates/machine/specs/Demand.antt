@@ -11,7 +11,7 @@ use Rattle.pod.specs.Values.{Routine}
 use Rattle.pod.specs.Layout.{read-file}
 use Rattle.machine.specs.Edits.{Edit, create, remove, append}
 use Rattle.machine.specs.Machine.{Call, edit, undo, Answer, Book, Machine, start, size, used-by, machine-run, machine-step}
-use Rattle.machine.specs.Book.{State, in-image, open-book, run}
+use Rattle.machine.specs.Book.{State, in-image, held, open-book, run}
 
 -- a list of bytes
 abbrev pub Bytes : List ℕ → Type 0
@@ -52,6 +52,10 @@ after-calls o cs = run cs (fresh o) .1
 abbrev pub machine-after : Opening → List Call → Machine
 machine-after o cs = machine-run (length (o .image)) (length (o .journal)) cs (start (o .routine)) .1
 
+-- the machine's answer to one call, and the machine after it
+abbrev pub next : Opening → Call → Machine → Answer × Machine
+next o c m = machine-step (length (o .image)) (length (o .journal)) c m
+
 -- a book's written bytes: its image up to the written length last answered
 abbrev pub written-bytes : State → List ℕ
 written-bytes s = take (s .book .written) (s .image)
@@ -79,36 +83,42 @@ abbrev pub Unspoiled : {A : Type 0} → Outcome A → Type 0
 Unspoiled (accepted a) = Unit
 Unspoiled (refused e) = (e ≡ lending-too-large → ⊥) × (e ≡ spoiled-book → ⊥)
 
--- every answer equals the machine's; the image holds the written form of the machine's routine, then zeros; the book its length and used
+-- every answer equals the machine's; the image holds the written form of the machine's routine, then zeros; the book its length and used; and a look at
+-- the book is a look at the machine's routine
 pub record Follows (o : Opening) (cs : List Call) : Type 0 where
   pub answers : run cs (fresh o) .0 ≡ machine-run (length (o .image)) (length (o .journal)) cs (start (o .routine)) .0
   pub image : after-calls o cs .image ≡ in-image (length (o .image)) (machine-after o cs .now)
   pub written : after-calls o cs .book .written ≡ size (machine-after o cs .now)
   pub used : after-calls o cs .book .used ≡ used-by (machine-after o cs .pile)
+  pub holds : held (after-calls o cs) ≡ accepted (machine-after o cs .now)
 
 -- two books hold equal written bytes exactly when the machine ends in equal routines
 pub record Told-apart (o p : Opening) (cs ds : List Call) : Type 0 where
   pub equal : written-bytes (after-calls o cs) ≡ written-bytes (after-calls p ds) → machine-after o cs .now ≡ machine-after p ds .now
   pub unequal : machine-after o cs .now ≡ machine-after p ds .now → written-bytes (after-calls o cs) ≡ written-bytes (after-calls p ds)
 
--- an accepted take back returns to what was before the last accepted edit not yet taken back: where an edit was accepted after the calls cs,
--- and of the calls ds after it all accepted edits were taken back, one more take back is accepted and the book is as it was after cs
-pub record Taken-back (o : Opening) (cs : List Call) (c : Call) (ds : List Call) : Type 0 where
-  pub accepts : is-accepted (machine-step (length (o .image)) (length (o .journal)) undo (machine-after o (cs ++ (c ∷ ds))) .0) ≡ true
-  pub routine : machine-after o (cs ++ (c ∷ (ds ++ (undo ∷ [])))) .now ≡ machine-after o cs .now
-  pub image : after-calls o (cs ++ (c ∷ (ds ++ (undo ∷ [])))) .image ≡ after-calls o cs .image
-  pub book : after-calls o (cs ++ (c ∷ (ds ++ (undo ∷ [])))) .book ≡ after-calls o cs .book
+-- the last accepted edit of a list that is not taken back: it was accepted after the calls before it, and of the calls after it all accepted edits
+-- were taken back
+pub record Standing-edit (o : Opening) (cs : List Call) : Type 0 where
+  pub earlier : List Call
+  pub last : Edit
+  pub later : List Call
+  pub is : cs ≡ earlier ++ (edit last ∷ later)
+  pub accepts : is-accepted (next o (edit last) (machine-after o earlier) .0) ≡ true
+  pub stands : standing later (machine-run (length (o .image)) (length (o .journal)) later (next o (edit last) (machine-after o earlier) .1) .0) 0 ≡ accepted 0
+
+-- a take back after cs is accepted, and returns to what was after the calls `earlier`
+pub record Taken-back (o : Opening) (cs earlier : List Call) : Type 0 where
+  pub accepts : is-accepted (next o undo (machine-after o cs) .0) ≡ true
+  pub routine : machine-after o (cs ++ (undo ∷ [])) .now ≡ machine-after o earlier .now
+  pub image : after-calls o (cs ++ (undo ∷ [])) .image ≡ after-calls o earlier .image
+  pub book : after-calls o (cs ++ (undo ∷ [])) .book ≡ after-calls o earlier .book
 
 pub record Demand-3 : Type 0 where
   pub follows : (o : Opening) (cs : List Call) → Every Sendable cs → Follows o cs
   -- the machine gives neither 10 nor 13, so in these lists no call does
   pub never-spoiled : (o : Opening) (cs : List Call) → Every Sendable cs → Every Unspoiled (run cs (fresh o) .0)
   pub told-apart : (o p : Opening) (cs ds : List Call) → Every Sendable cs → Every Sendable ds → Told-apart o p cs ds
-  pub taken-back :
-      (o : Opening) (cs : List Call) (e : Edit) (ds : List Call) → Every Sendable (cs ++ (edit e ∷ ds))
-      → is-accepted (machine-step (length (o .image)) (length (o .journal)) (edit e) (machine-after o cs) .0) ≡ true
-      → standing ds
-      (machine-run (length (o .image)) (length (o .journal)) ds (machine-after o (cs ++ (edit e ∷ []))) .0)
-      0
-      ≡ accepted 0
-      → Taken-back o cs (edit e) ds
+  -- where a take back is accepted, an edit stands; and where one stands, a take back is accepted and returns to what was before the last that does
+  pub undoes : (o : Opening) (cs : List Call) → Every Sendable cs → is-accepted (next o undo (machine-after o cs) .0) ≡ true → Standing-edit o cs
+  pub taken-back : (o : Opening) (cs : List Call) → Every Sendable cs → (s : Standing-edit o cs) → Taken-back o cs (s .earlier)

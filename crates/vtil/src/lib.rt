@@ -186,7 +186,8 @@ pub extern "C" fn vtil_undo(book: Book, image: &mut [u8], journal: &mut [u8]) ->
     calls::undo(book, image, journal)
 }
 
-// Opens a file and runs a list of calls on it: demand 3 is its contract.
+// Opens a file and runs a list of calls on it. By its contract what it leaves is what the routine machine says, of which demand 3 says the rest: which
+// books hold equal bytes, and what a take back returns to.
 #[no_mangle]
 pub extern "C" fn vtil_run(
     file: &[u8],
