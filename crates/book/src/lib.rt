@@ -15,22 +15,19 @@ pub struct Answer {
     pub book: Book,
 }
 
-// The refusals of document 01's table that calls on a book give beside those of reading.
-pub const LENDING_TOO_LARGE: u64 = 10;
+// The refusals that calls on a book give beside those of reading, as the numbers that an answer holds.
+pub const LENDING_TOO_LARGE: u64 = fields::LENDING_TOO_LARGE as u64;
 
-pub const IMAGE_FULL: u64 = 11;
+pub const IMAGE_FULL: u64 = fields::IMAGE_FULL as u64;
 
-pub const JOURNAL_FULL: u64 = 12;
+pub const JOURNAL_FULL: u64 = fields::JOURNAL_FULL as u64;
 
-pub const SPOILED_BOOK: u64 = 13;
+pub const SPOILED_BOOK: u64 = fields::SPOILED_BOOK as u64;
 
-pub const BLOCK_PRESENT: u64 = 14;
+pub const BLOCK_PRESENT: u64 = fields::BLOCK_PRESENT as u64;
 
-pub const NO_SUCH_BLOCK: u64 = 15;
+pub const NO_SUCH_BLOCK: u64 = fields::NO_SUCH_BLOCK as u64;
 
-pub const NOTHING_TO_TAKE_BACK: u64 = 16;
+pub const NOTHING_TO_TAKE_BACK: u64 = fields::NOTHING_TO_TAKE_BACK as u64;
 
-pub const LEFTOVER: u64 = 17;
-
-// An image or a journal is at most this long.
-pub const MOST_LENT: usize = 16_777_216;
+pub const LEFTOVER: u64 = fields::LEFTOVER as u64;

@@ -1,6 +1,6 @@
--- A number's bytes, over their count: how many they are, and that the first j and the k after them are the bytes of two smaller numbers.
+-- A number's bytes, over their count: the first j and the k after them are the bytes of two smaller numbers.
 -- Assumes nothing.
-use mathlib.Core.Path.{_≡_, refl, sym, ap, _∙_}
+use mathlib.Core.Path.{_≡_, sym, ap, _∙_}
 use mathlib.Core.List.{List, [], _∷_, _++_, append-assoc}
 use Prim.Native.Nat.{ℕ, zero, suc, _+_, _*_, _/_, _%_, _^_, _≤_, _<_}
 use native.Mathlib.Omega.{arith}
@@ -11,13 +11,9 @@ use lib.Pow.{pow-add, mod-pow-add}
 use lib.Seq.{sets-eq}
 use Rattle.fields.specs.Bytes.{put}
 use Rattle.pod.specs.Written.{bytes}
+use Rattle.pod.proofs.Sizes.{length-bytes}
 use Rattle.buffer.proofs.Put.{put-put}
 use Rattle.buffer.proofs.Moves.{put-one}
-
-pub length-bytes : (k v : ℕ) → length (bytes k v) ≡ k
-unfolding bytes
-length-bytes zero v = refl
-length-bytes (suc k) v = ap suc (length-bytes k (v / 256))
 
 -- the lowest j bytes of v, and the k above them
 pub bytes-split : (j k v : ℕ) → bytes (j + k) v ≡ bytes j (v % 2 ^ (8 * j)) ++ bytes k (v / 2 ^ (8 * j))

@@ -26,11 +26,12 @@ use Rattle.machine.specs.Edits.{append, edited, appended, place, change-at, app
 use Rattle.machine.specs.Machine.{Answer, edit, size}
 use Rattle.machine.specs.Journal.{trailer-bytes, entry, read-size}
 use Rattle.machine.specs.Book.{State, in-image, step}
+use Rattle.machine.proofs.Parts.{change-parts}
 use Rattle.machine.proofs.Undo.{trailer-size}
 use Rattle.book.specs.Holding.{block-start, Sound}
 use Rattle.trailer.specs.Says.{named}
 use Rattle.edits.specs.Held.{Whole}
-use Rattle.edits.proofs.Cuts.{zeros-split, before, behind, the-block, with-code, code-of, before-size, change-split, cut, cut-size}
+use Rattle.edits.proofs.Cuts.{zeros-split, before, behind, the-block, with-code, code-of, before-size, cut, cut-size}
 use Rattle.edits.proofs.Stands.{unused, image-cut, ends-within}
 use Rattle.edits.proofs.Flags.{flagged, written-flagged}
 use Rattle.edits.proofs.Steps.{present-before, absent-after, refused-step, image-full-step, journal-full-step, accepted-step}
@@ -149,7 +150,7 @@ module _ (s : State) (r : Routine) (o : Sound s r) (v : ℕ) (t : List ℕ) wher
       appends =
           let l : length t ≤ length t = omega arith in
           let c : change-at (place v blocks) (append-to x) blocks ≡ take (place v blocks) blocks ++ (append-to x (the-block r (place v blocks)) ∷ drop (suc (place v blocks)) blocks)
-          = change-split (place v blocks) (append-to x) blocks h in
+          = change-parts (place v blocks) (append-to x) blocks h in
           rw (y .read, le-ltb (length t) (length t) l, present-before v blocks h, c)
 
       grows : size (with-one s r o (place v blocks) h x) ≡ s .book .written + length t

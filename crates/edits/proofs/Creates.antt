@@ -7,7 +7,7 @@ use native.Mathlib.Omega.{arith}
 use lib.ListN.{length, length-append}
 use Rattle.fields.specs.Bytes.{zeros, put}
 use Rattle.pod.specs.Values.{BasicBlock, Routine}
-use Rattle.pod.specs.Written.{bytes, many-bytes, counted-bytes, block-head-bytes, block-bytes, routine-head-bytes, routine-bytes}
+use Rattle.pod.specs.Written.{bytes, many-bytes, block-bytes, routine-head-bytes, routine-bytes}
 use Rattle.buffer.proofs.Put.{put-parts}
 use Rattle.laws.proofs.Back.{length-bytes}
 use Rattle.laws.proofs.Place.{many-append}
@@ -18,16 +18,12 @@ use Rattle.machine.specs.Machine.{Answer, edit, size}
 use Rattle.machine.specs.Journal.{trailer-bytes, entry}
 use Rattle.machine.specs.Book.{State, in-image, step}
 use Rattle.machine.proofs.Keeps.{created-size}
+use Rattle.machine.proofs.Parts.{routine-parts, empty-bytes}
 use Rattle.machine.proofs.Undo.{trailer-size}
 use Rattle.book.specs.Holding.{blocks-start, Sound}
 use Rattle.trailer.specs.Says.{named}
-use Rattle.edits.proofs.Cuts.{zeros-split, written-blocks}
+use Rattle.edits.proofs.Cuts.{zeros-split}
 use Rattle.edits.proofs.Steps.{present-before, absent-after, refused-step, image-full-step, journal-full-step, accepted-step}
-
--- a new block's bytes
-pub empty-bytes : (v : ℕ) → block-bytes (empty-block v) ≡ bytes 8 v ++ zeros 28
-unfolding block-bytes block-head-bytes counted-bytes many-bytes bytes
-empty-bytes v = refl
 
 -- the routine with one block more
 abbrev pub with-new : ℕ → Routine → Routine
@@ -49,12 +45,12 @@ module _ (N : ℕ) (image : List ℕ) (w start : ℕ) (r : Routine) (v : ℕ) (i
       let b : put w (bytes 8 v) image ≡ routine-bytes r ++ (bytes 8 v ++ (zeros 28 ++ Z))
       = ap (put w (bytes 8 v)) a ∙ put-parts (routine-bytes r) (bytes 8 v) (zeros 8) (zeros 28 ++ Z) w (sym ew) (length-bytes 8 v) in
       let R = M ++ (bytes 8 v ++ (zeros 28 ++ Z)) in
-      let c : routine-bytes r ++ (bytes 8 v ++ (zeros 28 ++ Z)) ≡ H ++ (bytes 4 n ++ R) = rw (written-blocks r bs) (simp append-assoc) in
+      let c : routine-bytes r ++ (bytes 8 v ++ (zeros 28 ++ Z)) ≡ H ++ (bytes 4 n ++ R) = rw (routine-parts r bs) (simp append-assoc) in
       let l : length H ≡ start - 4 = omega arith in
       let d : put (start - 4) (bytes 4 (n + 1)) (H ++ (bytes 4 n ++ R)) ≡ H ++ (bytes 4 (n + 1) ++ R)
       = put-parts H (bytes 4 (n + 1)) (bytes 4 n) R (start - 4) l (length-bytes 4 _ ∙ sym (length-bytes 4 n)) in
       let e : H ++ (bytes 4 (n + 1) ++ R) ≡ routine-bytes (with-new v r) ++ Z
-      = rw (written-blocks r (bs ++ (empty-block v ∷ [])), length-append bs (empty-block v ∷ []), many-append block-bytes bs (empty-block v ∷ []), empty-bytes v) (simp (append-assoc, append-nil)) in
+      = rw (routine-parts r (bs ++ (empty-block v ∷ [])), length-append bs (empty-block v ∷ []), many-append block-bytes bs (empty-block v ∷ []), empty-bytes v) (simp (append-assoc, append-nil)) in
       ap (put (start - 4) (bytes 4 (n + 1))) (b ∙ c) ∙ d ∙ e
 
 -- What creating a block is on a sound state

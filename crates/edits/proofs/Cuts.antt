@@ -1,10 +1,9 @@
 -- The written form of a routine cut at the block with a place, and there at the end of its instructions: what the edits that change a block leave
 -- before and after it. The cut is one law for every list of instructions that the block may have.
 -- Assumes nothing.
-use mathlib.Core.Path.{_≡_, refl, sym, ap, _∙_}
-use mathlib.Core.List.{List, [], _∷_, _++_, append-assoc}
-use Prim.Native.Nat.{ℕ, zero, suc, _+_, _≤_, _<_}
-use native.Mathlib.Nat.{not-suc-le-zero, le-of-suc-le-suc}
+use mathlib.Core.Path.{_≡_, sym, ap, _∙_}
+use mathlib.Core.List.{List, _∷_, _++_, append-assoc}
+use Prim.Native.Nat.{ℕ, suc, _+_, _≤_, _<_}
 use native.Mathlib.Omega.{arith}
 use lib.ListN.{length, take, drop, length-append, replicate-append-replicate}
 use lib.Seq.{split-at}
@@ -14,23 +13,13 @@ use Rattle.pod.specs.Written.{bytes, many-bytes, counted-bytes, instruction-byt
 use Rattle.laws.proofs.Back.{length-bytes}
 use Rattle.laws.proofs.Place.{many-append}
 use Rattle.laws.proofs.Sizes.{block-head-size, vips-size}
-use Rattle.machine.specs.Edits.{block-at, change-at, with-instructions, with-blocks}
+use Rattle.machine.specs.Edits.{block-at, with-instructions, with-blocks}
 use Rattle.machine.specs.Machine.{size}
+use Rattle.machine.proofs.Parts.{routine-parts}
 use Rattle.book.specs.Holding.{block-start}
 
 pub zeros-split : (n k m : ℕ) → n ≡ k + m → zeros n ≡ zeros k ++ zeros m
 zeros-split n k m h = ap zeros h ∙ sym (replicate-append-replicate k m 0)
-
--- the head does not depend on the blocks
-pub written-blocks : (r : Routine) (bs : List BasicBlock) → routine-bytes (with-blocks bs r) ≡ routine-head-bytes r ++ (bytes 4 (length bs) ++ many-bytes block-bytes bs)
-unfolding routine-bytes routine-head-bytes counted-bytes
-written-blocks r bs = refl
-
-pub change-split : (i : ℕ) (g : BasicBlock → BasicBlock) (bs : List BasicBlock) → i < length bs → change-at i g bs ≡ take i bs ++ (g (block-at i bs) ∷ drop (suc i) bs)
-unfolding change-at
-change-split i g [] h = absurd (not-suc-le-zero h)
-change-split zero g (b ∷ bs) h = refl
-change-split (suc i) g (b ∷ bs) h = ap (λ l. b ∷ l) (change-split i g bs (le-of-suc-le-suc h))
 
 -- what follows a block's instructions in it
 abbrev pub links : BasicBlock → List ℕ
@@ -82,7 +71,7 @@ module _ (r : Routine) (i : ℕ) where
         let T = drop (suc i) bs in
         let n : length (P ++ (with-instructions is the-block ∷ T)) ≡ length bs
         = length-append P (with-instructions is the-block ∷ T) ∙ sym (length-append P (the-block ∷ T)) ∙ ap length (sym (split-at bs i _ h)) in
-        written-blocks r (P ++ (with-instructions is the-block ∷ T))
+        routine-parts r (P ++ (with-instructions is the-block ∷ T))
         ∙ rw (n, many-append block-bytes P (with-instructions is the-block ∷ T), written-instructions the-block is) (simp append-assoc)
 
     pub cut-here : routine-bytes r ≡ before ++ (bytes 4 (length (the-block .instructions)) ++ (code-of (the-block .instructions) ++ behind))

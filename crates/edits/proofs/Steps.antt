@@ -1,14 +1,13 @@
 -- An edit's step on a sound state, by the tests that the code makes: its own refusal, 11, 12, or the new routine's image and the entry after the used
--- part. The same for every edit, since a sound state holds its routine.
+-- part. By machine's laws of a step on a book that holds a routine, since a sound state does.
 -- Assumes nothing.
-use mathlib.Core.Path.{_≡_, refl, sym, ap, _∙_}
+use mathlib.Core.Path.{_≡_, refl, sym, ap}
 use mathlib.Core.Bool.{Bool, true, false}
 use mathlib.Core.List.{List, [], _∷_}
 use Prim.Native.Nat.{ℕ, suc, _+_, _≤_, _<_}
 use native.Mathlib.Omega.{arith}
 use lib.ListN.{length}
-use lib.Dec.{leb, eqb}
-use borrow.Author.Tests.{le-leb, lt-leb}
+use lib.Dec.{eqb}
 use Rattle.fields.specs.Bytes.{put}
 use Rattle.fields.specs.Parse.{choose}
 use Rattle.fields.specs.Outcome.{refused, accepted}
@@ -17,33 +16,22 @@ use Rattle.pod.specs.Values.{BasicBlock, Routine}
 use Rattle.machine.specs.Edits.{Edit, edited, present, place}
 use Rattle.machine.specs.Machine.{Answer, edit, size}
 use Rattle.machine.specs.Journal.{entry}
-use Rattle.machine.specs.Book.{State, in-image, stored, edit-step, acted, step}
+use Rattle.machine.specs.Book.{State, in-image, step}
+use Rattle.machine.proofs.Calls.{edit-refused, edit-full, edit-journal-full, edit-done}
 use Rattle.machine.proofs.Lists.{found}
 use Rattle.book.specs.Holding.{Sound}
 use Rattle.image.proofs.Inspects.{sound-held}
 
 module _ (s : State) (r : Routine) (o : Sound s r) (e : Edit) where
-  by-edit : step (edit e) s ≡ edit-step e r s (edited e r)
-  unfolding step acted
-  by-edit = rw (sound-held o)
-
   pub refused-step : (k : ℕ) → edited e r ≡ refused k → step (edit e) s ≡ (refused k, s)
-  unfolding edit-step
-  refused-step k q = by-edit ∙ ap (edit-step e r s) q
+  refused-step k q = edit-refused s r (sound-held o) e q
 
   module _ (r′ : Routine) (q : edited e r ≡ accepted r′) where
-    by-size : (a b : Bool) → leb (size r′) (length (s .image)) ≡ a → leb (s .book .used + length (entry e r)) (length (s .journal)) ≡ b
-        → step (edit e) s ≡ stored a b e r r′ s
-    unfolding edit-step
-    by-size a b p t = by-edit ∙ ap (edit-step e r s) q ∙ rw (p, t)
-
     pub image-full-step : length (s .image) < size r′ → step (edit e) s ≡ (refused 11, s)
-    unfolding stored
-    image-full-step h = by-size false _ (lt-leb _ _ h) refl
+    image-full-step = edit-full s r (sound-held o) e q
 
     pub journal-full-step : size r′ ≤ length (s .image) → length (s .journal) < s .book .used + length (entry e r) → step (edit e) s ≡ (refused 12, s)
-    unfolding stored
-    journal-full-step h k = by-size true false (le-leb _ _ h) (lt-leb _ _ k)
+    journal-full-step = edit-journal-full s r (sound-held o) e q
 
     -- the state that is left, by its parts
     pub accepted-step : size r′ ≤ length (s .image) → s .book .used + length (entry e r) ≤ length (s .journal)
@@ -52,8 +40,7 @@ module _ (s : State) (r : Routine) (o : Sound s r) (e : Edit) where
         → _≡_ {A = Answer × State}
         (accepted (record { written = w; used = u }), record { image = image; journal = journal; book = record { written = w; used = u } })
         (step (edit e) s)
-    unfolding stored
-    accepted-step h k w u image journal ew eu ei ej = rw (ew, eu, ei, ej) (sym (by-size true true (le-leb _ _ h) (le-leb _ _ k)))
+    accepted-step h k w u image journal ew eu ei ej = rw (ew, eu, ei, ej) (sym (edit-done s r (sound-held o) e q h k))
 
 -- a vip is present where its place is one of the blocks, and absent where it is the number of blocks
 place-absent : (v : ℕ) (bs : List BasicBlock) → present v bs ≡ false → place v bs ≡ length bs

@@ -1,5 +1,6 @@
 pub mod Bound
 pub mod Chain
+pub mod Invert
 pub mod Le
 pub mod Many
 pub mod Signed

@@ -8,7 +8,7 @@ ghost use Rattle.fields.specs.Parse.{le, int, uint, bind, span, taken, p
 ghost use Rattle.fields.specs.Bounded.{bounded};
 ghost use Rattle.fields.specs.Answers.{of-skip, of-u8, of-u16, of-u32, of-u64, of-i32, of-i64};
 
-// The refusals of document 01's table that reading gives.
+// The refusals of document 01's table.
 pub const SHORT_FILE: u8 = 1;
 
 pub const NAME_NOT_TEXT: u8 = 2;
@@ -29,7 +29,22 @@ pub const REPEATED_BLOCK: u8 = 9;
 
 pub const LENDING_TOO_LARGE: u8 = 10;
 
+pub const IMAGE_FULL: u8 = 11;
+
+pub const JOURNAL_FULL: u8 = 12;
+
 pub const SPOILED_BOOK: u8 = 13;
+
+pub const BLOCK_PRESENT: u8 = 14;
+
+pub const NO_SUCH_BLOCK: u8 = 15;
+
+pub const NOTHING_TO_TAKE_BACK: u8 = 16;
+
+pub const LEFTOVER: u8 = 17;
+
+// An image or a journal is at most this long.
+pub const MOST_LENT: usize = 16_777_216;
 
 pub enum U8Read {
     Value(u8, usize),

@@ -1,28 +1,28 @@
 -- The test for 10 and 13 is what the definition says: a part that is read exactly to its end is one routine's written form, and it is read so as it
 -- comes too; and a part that is the written form of what is read from it as it comes is read exactly.
 -- Assumes nothing.
-use mathlib.Core.Path.{_≡_, refl, sym, ap, ap₂, _∙_}
+use mathlib.Core.Path.{_≡_, refl, sym, ap, _∙_}
 use mathlib.Core.Bool.{Bool, true, false, _&&_}
-use mathlib.Core.List.{List, [], _∷_, _++_, append-nil}
-use Prim.Native.Nat.{ℕ, zero, suc, _-_, _≤_, _<_}
+use mathlib.Core.List.{List, [], append-nil}
+use Prim.Native.Nat.{ℕ, _-_, _≤_, _<_}
 use native.Mathlib.Omega.{arith}
 use lib.Dec.{leb}
-use lib.ListN.{length, take, drop, length-take, take-append-drop}
-use lib.Seq.{take-at, drop-at}
-use borrow.Author.Tests.{le-leb, lt-leb, leb-true, eq-eqb, eqb-true}
+use lib.ListN.{length, take, drop}
+use borrow.Author.Tests.{le-leb, lt-leb, eq-eqb, eqb-true}
 use Rattle.fields.specs.Bytes.{zeros}
 use Rattle.fields.specs.Parse.{Res, ok, no, choose, span}
 use Rattle.fields.specs.Outcome.{Outcome, refused, accepted}
-use Rattle.fields.proofs.Le.{Bytes}
+use Rattle.fields.proofs.Le.{Bytes, bytes-take}
 use Rattle.op.specs.Ops.{same}
-use Rattle.op.proofs.Same.{same-yes, same-eq, same-no}
+use Rattle.op.proofs.Same.{same-yes, same-no}
 use Rattle.pod.specs.Values.{Routine}
 use Rattle.pod.specs.Layout.{routine, read-file, as-written}
 use Rattle.pod.specs.Written.{routine-bytes}
 use Rattle.laws.proofs.At.{At}
-use Rattle.laws.proofs.Layouts.{routine-layout, read-holds, read-to, read-all, exact-whole, exact-lenient, lenient-exact}
+use Rattle.laws.proofs.Layouts.{routine-layout, read-to, exact-whole, exact-lenient, lenient-exact}
 use Rattle.machine.specs.Machine.{size}
 use Rattle.machine.specs.Book.{State, in-image, lent, whole, held}
+pub use Rattle.machine.proofs.Held.{held-sound, sound-held}
 use Rattle.book.specs.Says.{refusal-of}
 use Rattle.book.specs.Holding.{Holding, Sound}
 use Rattle.image.specs.Places.{ends-at, is-routine}
@@ -42,12 +42,6 @@ is-none s e x q =
     let z : true ≡ false = sym (eq-eqb (length s) (length s) refl) ∙ sym (ap (λ r. ends-at (length s) (span r)) q) ∙ e in
     let y : _≡_ {A = ℕ} 0 1 = cc in
     absurd (omega arith)
-
-taken-bytes : (n : ℕ) (s : List ℕ) → Bytes s → Bytes (take n s)
-taken-bytes zero s b i = record { fits = omega arith }
-taken-bytes (suc n) [] b i = b i
-taken-bytes (suc n) (x ∷ xs) b zero = b zero
-taken-bytes (suc n) (x ∷ xs) b (suc i) = taken-bytes n xs (λ j. b (suc j)) i
 
 -- the lengths are in order: 10, and 13's first part
 pub record Within (s : State) : Type 0 where
@@ -101,17 +95,17 @@ module _ (s : State) where
         part = take (s .book .written) (s .image)
 
         bytes : Bytes part
-        bytes = taken-bytes (s .book .written) (s .image) b
+        bytes = bytes-take (s .book .written) (s .image) b
 
-        never : (x : Routine) (m : ℕ) → read-file part ≡ ok x m → part ≡ routine-bytes x → ⊥
-        never x m q e =
+        unread : (x : Routine) (m : ℕ) → read-file part ≡ ok x m → part ≡ routine-bytes x → ⊥
+        unread x m q e =
             let t : At part 0 (routine-bytes x) = record { rest = []; is = e ∙ sym (append-nil (routine-bytes x)); within = omega arith } in
             let n : m ≡ length part = omega (arith, read-to routine-layout false bytes q, ap length e) in
             is-none part h x (lenient-exact routine-layout bytes q t ∙ ap (ok x) n)
 
         go : (r : Res Routine) → read-file part ≡ r → whole s r ≡ refused 13
         go (no e) q = refl
-        go (ok x m) q = rw (same-no part (routine-bytes x) (never x m q))
+        go (ok x m) q = rw (same-no part (routine-bytes x) (unread x m q))
 
     -- it is one, and the bytes after it decide
     clean : is-routine (take (s .book .written) (s .image)) ≡ true
@@ -119,7 +113,7 @@ module _ (s : State) where
     unfolding whole choose
     clean h =
         let part = take (s .book .written) (s .image) in
-        let bytes = taken-bytes (s .book .written) (s .image) b in
+        let bytes = bytes-take (s .book .written) (s .image) b in
         let i = is-one part h in
         let e : part ≡ routine-bytes (i .0) = exact-whole routine-layout bytes (i .1) in
         (i .0, tested w ∙ ap (whole s) (exact-lenient routine-layout bytes (i .1)) ∙ rw (same-yes part (routine-bytes (i .0)) e))
@@ -132,53 +126,6 @@ module _ (s : State) where
       pub sound : same (drop (s .book .written) (s .image)) (zeros (length (s .image) - s .book .written)) ≡ true → 0 ≡ refusal-of (held s)
       unfolding choose refusal-of
       sound z = let k = clean h in rw (k .1, z)
-
--- The laws for callers
-chosen : {A : Type 0} (t : Bool) (x : Outcome A) (k : ℕ) (a : A) → choose t x (refused k) ≡ accepted a → (t ≡ true) × (x ≡ accepted a)
-unfolding choose
-chosen true x k a e = (refl, e)
-chosen false x k a e = let z : _≡_ {A = ℕ} 0 1 = cc in absurd (omega arith)
-
-both : (a b : Bool) → (a && b) ≡ true → (a ≡ true) × (b ≡ true)
-both true b e = (refl, e)
-both false b e = let z : _≡_ {A = ℕ} 0 1 = cc in absurd (omega arith)
-
--- what is held is sound
-pub held-sound : {s : State} {r : Routine} → Bytes (s .image) → held s ≡ accepted r → Sound s r
-unfolding held whole in-image
-held-sound {s} {r} b h =
-    let lendings = chosen _ _ _ _ h in
-    let lent = both _ _ (lendings .0) in
-    let lengths = chosen _ _ _ _ (lendings .1) in
-    let fit = both _ _ (lengths .0) in
-    let w : n ≤ N = leb-true n N (fit .0) in
-    go w (leb-true _ _ (fit .1)) (leb-true _ _ (lent .0)) (leb-true _ _ (lent .1)) (read-file (take n (s .image))) refl (lengths .1)
-  where
-    n : ℕ
-    n = s .book .written
-
-    N : ℕ
-    N = length (s .image)
-
-    go : n ≤ N → s .book .used ≤ length (s .journal) → N ≤ 16777216 → length (s .journal) ≤ 16777216
-        → (q : Res Routine) → read-file (take n (s .image)) ≡ q → whole s q ≡ accepted r → Sound s r
-    go w u g k (no e) q p = let z : _≡_ {A = ℕ} 0 1 = cc in absurd (omega arith)
-    go w u g k (ok x m) q p =
-        let c = chosen _ _ _ _ p in
-        let d = both _ _ (c .0) in
-        let v : x ≡ r = cc in
-        let first : take n (s .image) ≡ routine-bytes r = same-eq _ _ (d .0) ∙ ap routine-bytes v in
-        let rest : drop n (s .image) ≡ zeros (N - n) = same-eq _ _ (d .1) in
-        let z : n ≡ size r = omega (arith, sym (ap length first) ∙ length-take n (s .image)) in
-        record {
-          holds = rw v at (read-holds routine-layout false (taken-bytes n (s .image) b) q);
-          image = sym (take-append-drop n (s .image)) ∙ ap₂ (λ a b. a ++ b) first (rest ∙ ap (λ j. zeros (N - j)) z);
-          written = z;
-          room = omega arith;
-          used = u;
-          image-lent = g;
-          journal-lent = k;
-        }
 
 -- a routine is held, unless the refusal is above 0
 pub inspected : (s : State) → refusal-of (held s) ≡ 0 → (r : Routine) × (held s ≡ accepted r)
@@ -196,19 +143,16 @@ inspected s h = go (lent (s .image) (s .journal)) (leb (s .book .written) (lengt
     go true true (no k) e = absurd (omega arith)
     go true true (ok x m) e = last (same (take (s .book .written) (s .image)) (routine-bytes x) && same (drop (s .book .written) (s .image)) (zeros (length (s .image) - s .book .written))) x e
 
--- a sound state's routine is held
-pub sound-held : {s : State} {r : Routine} → Sound s r → held s ≡ accepted r
-unfolding whole in-image choose
-sound-held {s} {r} h =
-    let n = s .book .written in
-    let N = length (s .image) in
-    let first : take n (s .image) ≡ routine-bytes r = ap (take n) (h .image) ∙ take-at (routine-bytes r) (zeros (N - size r)) n (sym (h .written)) in
-    let rest : drop n (s .image) ≡ zeros (N - n) =
-    ap (drop n) (h .image) ∙ drop-at (routine-bytes r) (zeros (N - size r)) n (sym (h .written)) ∙ ap (λ j. zeros (N - j)) (sym (h .written)) in
-    let w : n ≤ N = omega (arith, h .written, h .room) in
-    tested s (record { image-lent = h .image-lent; journal-lent = h .journal-lent; written = w; used = h .used })
-    ∙ ap (whole s) (ap read-file first ∙ read-all routine-layout false r (h .holds))
-    ∙ rw (same-yes _ _ first, same-yes _ _ rest)
+-- an outcome is one thing, and not accepted and refused both
+pub never : {A : Type 0} {o : Outcome A} {x : A} {k : ℕ} → o ≡ accepted x → o ≡ refused k → ⊥
+never p q = let z : _≡_ {A = ℕ} 0 1 = cc in omega arith
+
+pub one : {A : Type 0} {o : Outcome A} {x y : A} → o ≡ accepted x → o ≡ accepted y → x ≡ y
+one p q = cc
+
+-- what is so by a sound state's routine is so by every routine that it holds: it holds only one
+pub of-held : {A : Type 0} {s : State} {r : Routine} (g : Routine → A) {x : A} → Sound s r → x ≡ g r → (r′ : Routine) → held s ≡ accepted r′ → x ≡ g r′
+of-held g o e r′ h = e ∙ ap g (one (sound-held o) h)
 
 pub sound-holding : {s : State} {r : Routine} → Sound s r → Holding (s .image) r
 unfolding in-image

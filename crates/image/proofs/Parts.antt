@@ -5,6 +5,9 @@ use mathlib.Core.List.{List, _++_}
 use Prim.Native.Nat.{ℕ, _+_, _*_, _≤_, _<_}
 use native.Mathlib.Omega.{arith}
 use lib.ListN.{length, take}
+use mir.Syntax.{w64}
+use mir.Val.{ofZ}
+use mir.ValLaws.{ofZ-fits}
 use Rattle.laws.specs.Holds.{Block-holds}
 use Rattle.laws.proofs.At.{At, fits, left, right}
 use Rattle.laws.proofs.Back.{length-bytes}
@@ -20,6 +23,14 @@ use Rattle.image.proofs.Stands.{named, word-at, jump-at, times-at, inst
 
 -- of a block anywhere
 module _ {s : List ℕ} {o : ℕ} (b : BasicBlock) (t : At s o (block-bytes b)) where
+  -- the numbers before the lists
+  after-vip : At s (o + 8) (bytes 8 (ofZ w64 (b .sp-offset)) ++ (bytes 4 (b .sp-index) ++ bytes 4 (b .last-temporary-index)))
+  unfolding block-bytes block-head-bytes
+  after-vip = named (ap (λ k. o + k) (length-bytes 8 (b .vip))) (right (bytes 8 (b .vip)) _ (left (block-head-bytes b) _ t))
+
+  after-offset : At s (o + 16) (bytes 4 (b .sp-index) ++ bytes 4 (b .last-temporary-index))
+  after-offset = named (omega (arith, length-bytes 8 (ofZ w64 (b .sp-offset)))) (right (bytes 8 (ofZ w64 (b .sp-offset))) _ after-vip)
+
   lists-at : At s (o + 24) (counted-bytes instruction-bytes (b .instructions) ++ (counted-bytes (bytes 8) (b .prev-vip) ++ counted-bytes (bytes 8) (b .next-vip)))
   unfolding block-bytes
   lists-at = named (ap (λ k. o + k) (block-head-size b)) (right (block-head-bytes b) _ t)
@@ -50,6 +61,15 @@ module _ {s : List ℕ} {o : ℕ} (b : BasicBlock) (t : At s o (block-bytes b)) 
   next-at = named (omega (arith, vips-size (b .prev-vip))) (right (counted-bytes (bytes 8) (b .prev-vip)) _ vips-at)
 
   module _ (h : Block-holds b) where
+    pub offset-read : word 8 s (o + 8) ≡ ofZ w64 (b .sp-offset)
+    offset-read = word-at 8 _ _ (ofZ-fits w64 (b .sp-offset) (h .sp-offset) .fits) (left (bytes 8 (ofZ w64 (b .sp-offset))) _ after-vip)
+
+    pub index-read : word 4 s (o + 16) ≡ b .sp-index
+    index-read = word-at 4 _ _ (h .sp-index) (left (bytes 4 (b .sp-index)) _ after-offset)
+
+    pub temporary-read : word 4 s (o + 20) ≡ b .last-temporary-index
+    temporary-read = word-at 4 _ _ (h .last-temporary) (named (omega (arith, length-bytes 4 (b .sp-index))) (right (bytes 4 (b .sp-index)) _ after-offset))
+
     pub instruction-count : word 4 s (o + 24) ≡ length (b .instructions)
     instruction-count = word-at 4 _ _ (h .instructions .count) instruction-count-at
 

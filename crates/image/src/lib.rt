@@ -28,10 +28,10 @@ fn is_routine(s: &[u8]) -> bool
 pub fn inspect(book: Book, image: &[u8], journal: &[u8]) -> u64
     ensures { λ r. ⌜ r ≡ refusal-of (held (state (now (image .entry)) (now (journal .entry)) book)) ⌝ }
 {
-    if book::MOST_LENT < image.len() {
+    if fields::MOST_LENT < image.len() {
         return book::LENDING_TOO_LARGE;
     }
-    if book::MOST_LENT < journal.len() {
+    if fields::MOST_LENT < journal.len() {
         return book::LENDING_TOO_LARGE;
     }
     let written = book.written;

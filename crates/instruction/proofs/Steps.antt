@@ -1,18 +1,16 @@
 -- The steps of `fields.proofs.Steps`, for the answers of this crate.
 -- Assumes nothing.
-use mathlib.Core.Path.{_≡_}
+use mathlib.Core.Path.{ap}
 use Prim.Native.Nat.{ℕ}
-use Rattle.fields.specs.Parse.{Res, ok, no, bind, span}
+use Rattle.fields.specs.Parse.{Res}
+use Rattle.fields.proofs.Steps.{SkipOn, SkipOff, span-on, span-off}
 use Rattle.instruction.specs.Answers.{of-op}
 use Rattle.instruction.specs.declared.OpRead.{OpRead}
 use Rattle.instruction.specs.declared.OpRead.the-variants as op
 
-module _ {B : Type 0} where
-  pub skip-on-op : {r : OpRead} {v : ℕ} {n : ℕ} {p : Res ℕ} (f : ℕ → ℕ → Res B) {x : Res Unit} → r ≡ op.Value v n → of-op r ≡ p
-      → x ≡ span (f v n) → x ≡ span (bind p f)
-  unfolding bind span
-  skip-on-op f g e h = rw (← e, g) h
+module _ {B : Type 0} {r : OpRead} {p : Res ℕ} (f : ℕ → ℕ → Res B) where
+  pub skip-on-op : {v n : ℕ} {x : Res Unit} → SkipOn of-op op.Value r v n p f x
+  skip-on-op g = span-on f (ap of-op g)
 
-  pub skip-off-op : {r : OpRead} {k : ℕ} {p : Res ℕ} (f : ℕ → ℕ → Res B) → r ≡ op.Refused k → of-op r ≡ p → no k ≡ span (bind p f)
-  unfolding bind span
-  skip-off-op f g e = rw (← e, g)
+  pub skip-off-op : {k : ℕ} → SkipOff of-op op.Refused r k p f
+  skip-off-op g = span-off f (ap of-op g)

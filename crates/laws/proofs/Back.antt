@@ -18,6 +18,7 @@ use mir.ValLaws.{toZ-ofZ, ofZ-fits}
 use Rattle.fields.specs.Parse.{ok, Reader, bind, _>>=_, _>>_, done, check, choose, le, uint, int, part, many, counted, taken, pad, flag}
 use Rattle.fields.proofs.Le.{uint-ok}
 use Rattle.pod.specs.Written.{bytes, bit, many-bytes, counted-bytes}
+pub use Rattle.pod.proofs.Sizes.{length-bytes}
 use Rattle.laws.specs.Holds.{Each, List-holds}
 use Rattle.laws.proofs.At.{At, fits, left, right, first, more}
 
@@ -47,11 +48,6 @@ pass e t q l h k s o r = rw h (k s o r)
 
 pub done-reads : {A : Type 0} (a : A) → Reads (done a) a []
 done-reads a s o t = ap (ok a) (sym (add-zero o))
-
-pub length-bytes : (k v : ℕ) → length (bytes k v) ≡ k
-unfolding bytes
-length-bytes zero v = refl
-length-bytes (suc k) v = ap suc (length-bytes k (v / 256))
 
 le-bytes : (k v : ℕ) (s : List ℕ) (o : ℕ) → v < 2 ^ (8 * k) → At s o (bytes k v) → le k s o ≡ v
 unfolding bytes le

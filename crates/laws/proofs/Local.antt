@@ -16,7 +16,7 @@ use Rattle.fields.specs.Parse.{Res, ok, no, Reader, bind, _>>=_, done, check, c
 use Rattle.fields.proofs.Le.{uint-ok, uint-no, uint-is}
 use Rattle.pod.specs.Layout.{header, register, immediate, operand, of-kind, named, opcode, after, instruction, convention, block, blocks, routine}
 use Rattle.laws.specs.Moved.{moved}
-use Rattle.laws.proofs.Post.{inv}
+use Rattle.fields.proofs.Invert.{inv}
 
 pub record Local {A : Type 0} (p : Reader A) : Type 0 where
   pub moves : (s : List ℕ) (o : ℕ) → o ≤ length s → p s o ≡ moved o (p (drop o s) 0)

@@ -12,7 +12,7 @@ use Rattle.fields.specs.Parse.{ok, Reader, bind, many, counted, u32, span}
 use Rattle.fields.proofs.Le.{Bytes}
 use Rattle.pod.specs.Written.{many-bytes}
 use Rattle.laws.specs.Normal.{Mark}
-use Rattle.laws.proofs.Post.{inv}
+use Rattle.fields.proofs.Invert.{inv}
 use Rattle.laws.proofs.Took.{many-took, took-to}
 use Rattle.laws.proofs.Layouts.{Layout, read-to}
 

@@ -5,16 +5,10 @@ use mathlib.Core.Bool.{Bool, true, false}
 use Prim.Native.Nat.{ℕ}
 use native.Mathlib.Omega.{arith}
 use Rattle.fields.specs.Parse.{Res, ok, no, bind, choose}
+use Rattle.fields.proofs.Invert.{inv}
 
 pub record Post {A : Type 0} (r : Res A) (Q : A → ℕ → Type 0) : Type 0 where
   pub when : (a : A) (n : ℕ) → r ≡ ok a n → Q a n
-
--- a value came of both parts
-pub inv : {A B : Type 0} (q : Res A) (f : A → ℕ → Res B) {b : B} {n : ℕ} → bind q f ≡ ok b n
-    → (a : A) × (m : ℕ) × (q ≡ ok a m) × (f a m ≡ ok b n)
-unfolding bind
-inv (ok a m) f e = (a, m, refl, e)
-inv (no k) f e = let z : _≡_ {A = ℕ} 0 1 = cc in absurd (omega arith)
 
 pub give : {A : Type 0} {Q : A → ℕ → Type 0} {a : A} {n : ℕ} → Q a n → Post (ok a n) Q
 give {A} {Q} {a} {n} h =

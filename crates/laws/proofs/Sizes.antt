@@ -11,7 +11,8 @@ use Rattle.pod.specs.Written.{bytes, many-bytes, counted-bytes, header-bytes, r
 use Rattle.pod.specs.declared.RegisterDesc.{RegisterDesc}
 use Rattle.pod.specs.declared.ImmediateDesc.{ImmediateDesc}
 use Rattle.pod.specs.declared.Operand.the-variants.{Imm, Reg}
-use Rattle.laws.proofs.Back.{length-bytes}
+use Rattle.pod.proofs.Sizes.{length-bytes}
+pub use Rattle.pod.proofs.Sizes.{register-size}
 
 module _ {A : Type 0} (f : A → List ℕ) where
   pub many-size : (k : ℕ) → ((x : A) → length (f x) ≡ k) → (xs : List A) → length (many-bytes f xs) ≡ k * length xs
@@ -26,14 +27,6 @@ module _ {A : Type 0} (f : A → List ℕ) where
 pub header-size : (m : ℕ) → length (header-bytes m) ≡ 8
 unfolding header-bytes bytes
 header-size m = refl
-
-pub register-size : (r : RegisterDesc) → length (register-bytes r) ≡ 24
-unfolding register-bytes bytes
-register-size r = refl
-
-pub immediate-size : (i : ImmediateDesc) → length (immediate-bytes i) ≡ 12
-unfolding immediate-bytes bytes
-immediate-size i = refl
 
 pub operand-imm-size : (i : ImmediateDesc) → length (operand-bytes (Imm i)) ≡ 16
 unfolding operand-bytes immediate-bytes bytes
@@ -52,7 +45,7 @@ unfolding instruction-bytes
 instruction-size i = simp (length-append, length-bytes, name-size, counted-size) (omega arith)
 
 -- a counted list of registers, or of vips
-registers-size : (xs : List RegisterDesc) → length (counted-bytes register-bytes xs) ≡ 4 + 24 * length xs
+pub registers-size : (xs : List RegisterDesc) → length (counted-bytes register-bytes xs) ≡ 4 + 24 * length xs
 registers-size xs = counted-size register-bytes xs ∙ ap (λ n. 4 + n) (many-size register-bytes 24 register-size xs)
 
 pub vips-size : (xs : List ℕ) → length (counted-bytes (bytes 8) xs) ≡ 4 + 8 * length xs

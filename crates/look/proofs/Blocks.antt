@@ -2,7 +2,7 @@
 -- Assumes nothing.
 use mathlib.Core.Path.{_≡_, refl, sym, ap, _∙_}
 use mathlib.Core.Bool.{false}
-use mathlib.Core.List.{List, [], _++_}
+use mathlib.Core.List.{List, []}
 use Prim.Native.Nat.{ℕ, zero, suc, _+_, _*_, _-_, _≤_, _<_}
 use native.Mathlib.Omega.{arith}
 use lib.IntN.{ℤ, pos}
@@ -10,15 +10,15 @@ use lib.ListN.{length, getD, take}
 use lib.Seq.{take-length}
 use mir.Syntax.{w64}
 use mir.Val.{toZ, ofZ}
-use mir.ValLaws.{toZ-ofZ, ofZ-fits}
+use mir.ValLaws.{toZ-ofZ}
 use borrow.Author.Tests.{ne-eqb}
-use Rattle.fields.specs.Outcome.{refused, accepted, after}
+use Rattle.fields.specs.Outcome.{refused, after}
 use Rattle.fields.specs.Parse.{choose, int, u64}
 use Rattle.pod.specs.Values.{Instruction, BasicBlock, Routine}
 use Rattle.pod.specs.Layout.{instruction, as-it-comes}
-use Rattle.pod.specs.Written.{bytes, block-bytes, block-head-bytes, instruction-bytes, many-bytes, counted-bytes}
-use Rattle.laws.specs.Holds.{List-holds, Vip-holds, Instruction-holds, Block-holds}
-use Rattle.laws.proofs.At.{At, fits, left, right}
+use Rattle.pod.specs.Written.{bytes, block-bytes, instruction-bytes, many-bytes}
+use Rattle.laws.specs.Holds.{Vip-holds, Instruction-holds, Block-holds}
+use Rattle.laws.proofs.At.{At, fits}
 use Rattle.laws.proofs.Back.{length-bytes, uint-reads, counted-reads}
 use Rattle.laws.proofs.Layouts.{instruction-layout}
 use Rattle.laws.proofs.Sizes.{vips-size}
@@ -35,38 +35,17 @@ use Rattle.walk.proofs.Same.{vips-ends}
 use Rattle.image.specs.Places.{instruction-start}
 use Rattle.image.proofs.Inspects.{refused-by}
 use Rattle.image.proofs.Stands.{named, word-at, block-word, element-at, block-stands, block-holds}
-use Rattle.image.proofs.Parts.{instruction-count, instructions-at, prev-at, next-at}
+use Rattle.image.proofs.Parts.{offset-read, index-read, temporary-read, instruction-count, instructions-at, prev-at, next-at}
 use Rattle.look.specs.Answers.{block-look, instruction-look, vip-look}
 use Rattle.look.specs.Reached.{vips-start}
-use Rattle.look.proofs.Elements.{element-is, element-no, listed-count, listed-at}
+use Rattle.look.proofs.Elements.{element-is, element-no, listed-count, Listed, listed-none, element-stands, element-holds, element-room, element-found}
 use Rattle.look.proofs.Reach.{There, block-of, here, sound-block}
 
--- the numbers before a block's lists
+-- the sp offset as a signed number, and the walk past the first list of vips
 module _ {s : List ℕ} {o : ℕ} (b : BasicBlock) (h : Block-holds b) (t : At s o (block-bytes b)) where
-  head-at : At s o (bytes 8 (b .vip) ++ (bytes 8 (ofZ w64 (b .sp-offset)) ++ (bytes 4 (b .sp-index) ++ bytes 4 (b .last-temporary-index))))
-  unfolding block-bytes block-head-bytes
-  head-at = left (block-head-bytes b) _ t
-
-  after-vip : At s (o + 8) (bytes 8 (ofZ w64 (b .sp-offset)) ++ (bytes 4 (b .sp-index) ++ bytes 4 (b .last-temporary-index)))
-  after-vip = named (ap (λ k. o + k) (length-bytes 8 (b .vip))) (right (bytes 8 (b .vip)) _ head-at)
-
-  after-offset : At s (o + 16) (bytes 4 (b .sp-index) ++ bytes 4 (b .last-temporary-index))
-  after-offset = named (omega (arith, length-bytes 8 (ofZ w64 (b .sp-offset)))) (right (bytes 8 (ofZ w64 (b .sp-offset))) _ after-vip)
-
-  after-index : At s (o + 20) (bytes 4 (b .last-temporary-index))
-  after-index = named (omega (arith, length-bytes 4 (b .sp-index))) (right (bytes 4 (b .sp-index)) _ after-offset)
-
   sp-offset-is : int w64 (word 8 s (o + 8)) ≡ b .sp-offset
   unfolding int
-  sp-offset-is =
-      ap (int w64) (word-at 8 _ _ (ofZ-fits w64 (b .sp-offset) (h .sp-offset) .fits) (left _ (bytes 4 (b .sp-index) ++ bytes 4 (b .last-temporary-index)) after-vip))
-      ∙ toZ-ofZ w64 (b .sp-offset) (h .sp-offset)
-
-  sp-index-is : word 4 s (o + 16) ≡ b .sp-index
-  sp-index-is = word-at 4 _ _ (h .sp-index) (left _ (bytes 4 (b .last-temporary-index)) after-offset)
-
-  temporary-is : word 4 s (o + 20) ≡ b .last-temporary-index
-  temporary-is = word-at 4 _ _ (h .last-temporary) after-index
+  sp-offset-is = ap (int w64) (offset-read b t h) ∙ toZ-ofZ w64 (b .sp-offset) (h .sp-offset)
 
   past-prev : {p : ℕ} → p ≡ o + 28 + length (many-bytes instruction-bytes (b .instructions)) → vipsEnd s p ≡ p + (4 + 8 * length (b .prev-vip))
   past-prev {p} e =
@@ -89,13 +68,6 @@ module _ (s : State) (i : ℕ) {k : ℕ} (e : k ≡ refusal-of (look-block i s))
 -- an instruction for the places past a list's end
 no-such : Instruction
 no-such = record { op = 0; operands = []; vip = 0; sp-offset = pos 0; sp-index = 0; sp-reset = false }
-
--- a list of vips: what is listed, where, and that each is a u64
-record Vips (s : List ℕ) (b : BasicBlock) (k o : ℕ) : Type 0 where
-  pub vips : List ℕ
-  pub is : vip-list k b ≡ accepted vips
-  pub at : At s o (counted-bytes (bytes 8) vips)
-  pub holds : List-holds Vip-holds vips
 
 module _ {s : State} {i o : ℕ} (t : There s i o) where
   -- enough bytes that no offset in the head wraps
@@ -131,8 +103,8 @@ module _ {s : State} {i o : ℕ} (t : There s i o) where
         e₁ ∙ block-word o b h (here t),
         e₃ ∙ ap (int w64) e₂ ∙ sp-offset-is b h (here t),
         toZ-ofZ w64 (b .sp-offset) (h .sp-offset),
-        e₄ ∙ sp-index-is b h (here t),
-        e₅ ∙ temporary-is b h (here t),
+        e₄ ∙ index-read b (here t) h,
+        e₅ ∙ temporary-read b (here t) h,
         e₆ ∙ instruction-count b (here t) h,
         e₈ ∙ ap (word 4 (s .image)) p-is ∙ listed-count (bytes 8) 8 (length-bytes 8) (b .prev-vip) (prev-at b (here t)) (h .prev .count),
         e₁₀ ∙ ap (word 4 (s .image)) q-is ∙ listed-count (bytes 8) 8 (length-bytes 8) (b .next-vip) (next-at b (here t)) (h .next .count),
@@ -172,13 +144,16 @@ module _ {s : State} {i o : ℕ} (t : There s i o) where
       let z : k ≡ 1 → ⊥ = λ e. omega arith in
       rw (t .looked, ne-eqb k 0 y, ne-eqb k 1 z)
 
-  listed : (k : ℕ) → k ≤ 1 → Vips (s .image) (block-of t) k (vips-start k (t .routine) i)
+  abbrev Vips : ℕ → ℕ → Type 0
+  Vips k a = Listed (bytes 8) Vip-holds (vip-list k (block-of t)) (s .image) a
+
+  listed : (k : ℕ) → k ≤ 1 → Vips k (vips-start k (t .routine) i)
   unfolding vips-start choose
   listed zero h =
-      record { vips = block-of t .prev-vip; is = refl; at = named (sym instructions-past) (prev-at (block-of t) (here t)); holds = sound-block t .prev }
+      record { elements = block-of t .prev-vip; is = refl; at = named (sym instructions-past) (prev-at (block-of t) (here t)); holds = sound-block t .prev }
   listed (suc zero) h =
       record {
-        vips = block-of t .next-vip;
+        elements = block-of t .next-vip;
         is = refl;
         at = named (ap (λ p. p + (4 + 8 * length (block-of t .prev-vip))) (sym instructions-past)) (next-at (block-of t) (here t));
         holds = sound-block t .next;
@@ -186,31 +161,24 @@ module _ {s : State} {i o : ℕ} (t : There s i o) where
   listed (suc (suc k)) h = absurd (omega arith)
 
   module _ (k j : ℕ) (l : k ≤ 1) {a n : ℕ} (e : a ≡ vips-start k (t .routine) i) (c : n ≡ word 4 (s .image) a) where
-    vips-here : Vips (s .image) (block-of t) k a
+    vips-here : Vips k a
     vips-here = rw e (listed k l)
-
-    vips-count : n ≡ length (vips-here .vips)
-    vips-count = c ∙ listed-count (bytes 8) 8 (length-bytes 8) (vips-here .vips) (vips-here .at) (vips-here .holds .count)
 
     pub vip-none : n ≤ j → vip-look (refused 15) ≡ vip-look (look-vip i k j s)
     unfolding after
-    vip-none h = rw (t .looked, vips-here .is, element-no j (vips-here .vips) (omega (arith, vips-count)))
-
-    vip-at : j < n → At (s .image) (a + 4 + 8 * j) (bytes 8 (getD (vips-here .vips) j 0))
-    vip-at h = listed-at (bytes 8) 8 (length-bytes 8) (vips-here .vips) (vips-here .at) 0 j (omega (arith, vips-count))
+    vip-none h = rw (t .looked, listed-none vips-here (length-bytes 8) c j h)
 
     pub vip-room : j < n → a + 4 + 8 * j + 8 ≤ length (s .image)
-    vip-room h = omega (arith, fits (vip-at h), length-bytes 8 (getD (vips-here .vips) j 0))
+    vip-room = element-room vips-here (length-bytes 8) c j 0
 
     pub vips-room : j < n → a + 4 + 8 * j ≤ length (s .image)
     vips-room h = omega (arith, vip-room h)
 
     pub vip-final : j < n → {v : ℕ} → v ≡ word 8 (s .image) (a + 4 + 8 * j) → record { refusal = 0; vip = record { 0 = v } } ≡ vip-look (look-vip i k j s)
     unfolding after vip-look
-    vip-final h {v} p =
-        let m : j < length (vips-here .vips) = omega (arith, vips-count) in
-        let q = p ∙ word-at 8 _ _ (each-at Vip-holds 0 j (vips-here .vips) (vips-here .holds .each) m) (vip-at h) in
-        rw (q, t .looked, vips-here .is, element-is 0 j (vips-here .vips) m)
+    vip-final h p =
+        let q = p ∙ word-at 8 _ _ (element-holds vips-here (length-bytes 8) c j 0 h) (element-stands vips-here (length-bytes 8) c j 0 h) in
+        rw (q, t .looked, element-found vips-here (length-bytes 8) c j 0 h)
 
 -- where a list of vips is, as the code finds it
 module _ {s : List ℕ} (x : Routine) (i : ℕ) (h : Holding s x) (l : i < length (x .explored-blocks)) {o : ℕ} (e : o ≡ block-start x i) {k p : ℕ}

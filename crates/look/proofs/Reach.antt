@@ -2,10 +2,11 @@
 -- Assumes nothing.
 use mathlib.Core.Path.{_≡_, refl, sym, ap, _∙_}
 use mathlib.Core.Bool.{Bool, true, false}
+use mathlib.Core.List.{List}
 use Prim.Native.Nat.{ℕ, _+_, _≤_, _<_}
 use native.Mathlib.Omega.{arith}
 use lib.Dec.{leb}
-use lib.ListN.{length}
+use lib.ListN.{length, getD}
 use mir.Syntax.{w64}
 use mir.Val.{Fits}
 use borrow.Author.Tests.{leb-true, leb-false}
@@ -17,22 +18,15 @@ use Rattle.laws.specs.Holds.{Block-holds}
 use Rattle.laws.proofs.At.{At}
 use Rattle.machine.specs.Edits.{block-at, empty-block}
 use Rattle.machine.specs.Book.{State, held}
-use Rattle.machine.specs.Look.{look-block}
+use Rattle.machine.specs.Look.{element, look-block}
 use Rattle.book.specs.Says.{refusal-of}
 use Rattle.book.specs.Holding.{Holding, blocks-start, block-start}
 use Rattle.walk.specs.Ends.{times, blockEnd}
-use Rattle.image.proofs.Inspects.{Ready, refused-by, inspected, held-sound, sound-holding}
+use Rattle.image.proofs.Inspects.{Ready, never, one, refused-by, inspected, held-sound, sound-holding}
 use Rattle.image.proofs.Stands.{named, block-found, block-stands, block-holds}
 use Rattle.look.specs.Reached.{Reached-block}
 use Rattle.look.specs.declared.Reached.{Reached}
 use Rattle.look.proofs.Elements.{element-is, element-no}
-
--- a routine is held, and no refusal
-pub never : {o : Outcome Routine} {x : Routine} {k : ℕ} → o ≡ accepted x → o ≡ refused k → ⊥
-never p q = let z : _≡_ {A = ℕ} 0 1 = cc in omega arith
-
-pub one : {o : Outcome Routine} {x y : Routine} → o ≡ accepted x → o ≡ accepted y → x ≡ y
-one p q = cc
 
 module _ (s : State) (i : ℕ) where
   pub reach-refused : {k : ℕ} → k ≡ refusal-of (held s) → (k ≡ 0 → ⊥) → Reached-block s i (record { refusal = k; at = 0 })
@@ -65,6 +59,36 @@ module _ (s : State) (i : ℕ) where
 pub unwrapped : (o k : ℕ) {n : ℕ} → o + k ≤ n → n ≤ 16777216 → Fits w64 o
 unwrapped o k h l = record { fits = omega arith }
 
+-- a look into one of the routine's lists that is not refused: the routine is held, and its list is long enough
+pub record Reaches {A : Type 0} (list : Routine → List A) (s : State) (i : ℕ) : Type 0 where
+  pub routine : Routine
+  pub is : held s ≡ accepted routine
+  pub within : i < length (list routine)
+  pub looked : (d : A) → after (held s) (λ x. element i (list x)) ≡ accepted (getD (list routine) i d)
+
+pub reaches : {A : Type 0} (list : Routine → List A) (s : State) (i : ℕ) → refusal-of (after (held s) (λ x. element i (list x))) ≡ 0 → Reaches list s i
+unfolding after refusal-of
+reaches {A} list s i none = go (held s) refl
+  where
+    looked : Outcome A
+    looked = after (held s) (λ x. element i (list x))
+
+    go₂ : (x : Routine) → held s ≡ accepted x → (t : Bool) → leb (length (list x)) i ≡ t → Reaches list s i
+    go₂ x e true q =
+        let m : length (list x) ≤ i = leb-true _ i q in
+        let f : looked ≡ refused 15 = rw (e, element-no i (list x) m) in
+        absurd (omega (arith, sym (ap refusal-of f) ∙ none))
+    go₂ x e false q =
+        let m : i < length (list x) = leb-false (length (list x)) i q in
+        record { routine = x; is = e; within = m; looked = λ d. rw (e, element-is d i (list x) m) }
+
+    go : (o : Outcome Routine) → held s ≡ o → Reaches list s i
+    go (accepted x) e = go₂ x e (leb (length (list x)) i) refl
+    go (refused k) e =
+        let f : looked ≡ refused k = rw e in
+        let y = inspected s (ap refusal-of e ∙ (sym (ap refusal-of f) ∙ none)) in
+        absurd (never (y .1) e)
+
 -- what a look at a block that is there goes on with
 pub record There (s : State) (i o : ℕ) : Type 0 where
   pub routine : Routine
@@ -76,33 +100,18 @@ pub record There (s : State) (i o : ℕ) : Type 0 where
 
 pub there : {s : State} {i : ℕ} {r : Reached} → Bytes (s .image) → Reached-block s i r → r .refusal ≡ 0 → There s i (r .at)
 unfolding after refusal-of
-there {s} {i} {r} b h z = go (held s) refl
-  where
-    none : refusal-of (look-block i s) ≡ 0
-    none = sym (h .refusal) ∙ z
-
-    go₂ : (x : Routine) → held s ≡ accepted x → (t : Bool) → leb (length (x .explored-blocks)) i ≡ t → There s i (r .at)
-    go₂ x e true q =
-        let m : length (x .explored-blocks) ≤ i = leb-true _ i q in
-        let f : look-block i s ≡ refused 15 = rw (e, element-no i (x .explored-blocks) m) in
-        absurd (omega (arith, sym (ap refusal-of f) ∙ none))
-    go₂ x e false q =
-        let m : i < length (x .explored-blocks) = leb-false (length (x .explored-blocks)) i q in
-        record {
-          routine = x;
-          holding = sound-holding (held-sound b e);
-          lent = held-sound b e .image-lent;
-          within = m;
-          looked = rw (e, element-is (empty-block 0) i (x .explored-blocks) m);
-          at = h .at x e m;
-        }
-
-    go : (o : Outcome Routine) → held s ≡ o → There s i (r .at)
-    go (accepted x) e = go₂ x e (leb (length (x .explored-blocks)) i) refl
-    go (refused k) e =
-        let f : look-block i s ≡ refused k = rw e in
-        let y = inspected s (ap refusal-of e ∙ (sym (ap refusal-of f) ∙ none)) in
-        absurd (never (y .1) e)
+there {s} {i} {r} b h z =
+    let l = reaches (λ x. x .explored-blocks) s i (sym (h .refusal) ∙ z) in
+    let x = l .routine in
+    let o = held-sound b (l .is) in
+    record {
+      routine = x;
+      holding = sound-holding o;
+      lent = o .image-lent;
+      within = l .within;
+      looked = l .looked (empty-block 0);
+      at = h .at x (l .is) (l .within);
+    }
 
 -- the block, as it stands
 module _ {s : State} {i o : ℕ} (t : There s i o) where

@@ -6,22 +6,20 @@ use Prim.Native.Nat.{ℕ, zero, suc, _+_, _*_, _-_, _≤_, _<_}
 use native.Mathlib.Omega.{arith}
 use lib.ListN.{length, getD}
 use borrow.Author.Tests.{ne-eqb}
-use Rattle.fields.specs.Outcome.{refused, accepted, after}
+use Rattle.fields.specs.Outcome.{refused, after}
 use Rattle.fields.specs.Parse.{choose}
 use Rattle.pod.specs.Values.{RoutineConvention}
-use Rattle.pod.specs.Written.{bit, register-bytes, counted-bytes}
+use Rattle.pod.specs.Written.{bit, register-bytes}
 use Rattle.pod.specs.Descs.{no-register}
 use Rattle.pod.specs.declared.RegisterDesc.{RegisterDesc}
-use Rattle.laws.specs.Holds.{List-holds, Register-holds}
-use Rattle.laws.proofs.At.{At, fits}
+use Rattle.laws.specs.Holds.{Register-holds}
 use Rattle.laws.proofs.Sizes.{register-size}
 use Rattle.machine.specs.Book.{State}
 use Rattle.machine.specs.Look.{element, look-convention, look-register, register-list}
-use Rattle.machine.proofs.Lists.{each-at}
 use Rattle.book.specs.Says.{refusal-of}
 use Rattle.walk.specs.Ends.{word, registersEnd}
 use Rattle.image.proofs.Inspects.{refused-by}
-use Rattle.look.proofs.Elements.{element-is, element-no, listed-count, listed-at}
+use Rattle.look.proofs.Elements.{listed-count, Listed, listed-none, the-element, element-stands, element-holds, element-room, element-found}
 use Rattle.look_convention.specs.Answers.{convention-look, register-look}
 use Rattle.look_convention.specs.Stands.{Stands-register, Stands-convention, registers-start}
 use Rattle.look_convention.proofs.Registers.{volatile-at, param-at, retval-at, frame-at, shadow-is, purge-is, convention-room, past-volatile, past-param, past-retval}
@@ -82,12 +80,9 @@ module _ {s : State} {i o : ℕ} (t : There s i o) where
         let purge : getD (s .image) (f + 32) 0 ≡ bit (c .purge-stack) = ap (λ j. getD (s .image) (j + 32) 0) f-is ∙ purge-is h in
         rw (n-is, k-is, m-is, w-is, purge, q₄, t .looked)
 
--- a list of registers: what is listed, where, and that each is one
-pub record Listed (s : List ℕ) (c : RoutineConvention) (k o : ℕ) : Type 0 where
-  pub registers : List RegisterDesc
-  pub is : register-list k c ≡ accepted registers
-  pub at : At s o (counted-bytes register-bytes registers)
-  pub holds : List-holds Register-holds registers
+-- a list of a convention's registers that stands at o
+abbrev pub Registers : List ℕ → RoutineConvention → ℕ → ℕ → Type 0
+Registers s c k o = Listed register-bytes Register-holds (register-list k c) s o
 
 -- where a list is, as the code finds it
 module _ {s : List ℕ} {o : ℕ} (c : RoutineConvention) (h : Stands-convention s o c) {k : ℕ} where
@@ -103,14 +98,14 @@ module _ {s : List ℕ} {o : ℕ} (c : RoutineConvention) (h : Stands-convention
   unfolding registers-start
   retval-found y z q f = let m : k ≡ suc (suc (k - 2)) = omega arith in rw m (past-param h (past-volatile h q) f)
 
-  listed : k ≤ 2 → Listed s c k (registers-start k c o)
+  listed : k ≤ 2 → Registers s c k (registers-start k c o)
   unfolding registers-start choose
   listed l = go k l
     where
-      go : (k : ℕ) → k ≤ 2 → Listed s c k (registers-start k c o)
-      go zero l = record { registers = c .volatile-registers; is = refl; at = volatile-at h; holds = h .holds .volatile }
-      go (suc zero) l = record { registers = c .param-registers; is = refl; at = param-at h; holds = h .holds .param }
-      go (suc (suc zero)) l = record { registers = c .retval-registers; is = refl; at = retval-at h; holds = h .holds .retval }
+      go : (k : ℕ) → k ≤ 2 → Registers s c k (registers-start k c o)
+      go zero l = record { elements = c .volatile-registers; is = refl; at = volatile-at h; holds = h .holds .volatile }
+      go (suc zero) l = record { elements = c .param-registers; is = refl; at = param-at h; holds = h .holds .param }
+      go (suc (suc zero)) l = record { elements = c .retval-registers; is = refl; at = retval-at h; holds = h .holds .retval }
       go (suc (suc (suc k))) l = absurd (omega arith)
 
 module _ {s : State} {i o : ℕ} (t : There s i o) (k j : ℕ) where
@@ -123,35 +118,27 @@ module _ {s : State} {i o : ℕ} (t : There s i o) (k j : ℕ) where
       rw (t .looked, ne-eqb k 0 x, ne-eqb k 1 y, ne-eqb k 2 z)
 
   module _ (l : k ≤ 2) {a n : ℕ} (e : a ≡ registers-start k (t .convention) o) (c : n ≡ word 4 (s .image) a) where
-    pub list-here : Listed (s .image) (t .convention) k a
+    pub list-here : Registers (s .image) (t .convention) k a
     list-here = rw e (listed (t .convention) (t .stands) l)
-
-    list-count : n ≡ length (list-here .registers)
-    list-count = c ∙ listed-count register-bytes 24 register-size (list-here .registers) (list-here .at) (list-here .holds .count)
 
     pub register-none : n ≤ j → register-look (refused 15) ≡ register-look (look-register i k j s)
     unfolding after
-    register-none h = rw (t .looked, list-here .is, element-no j (list-here .registers) (omega (arith, list-count)))
+    register-none h = rw (t .looked, listed-none list-here register-size c j h)
 
     module _ (h : j < n) where
       abbrev register-of : RegisterDesc
-      register-of = getD (list-here .registers) j no-register
-
-      within : j < length (list-here .registers)
-      within = omega (arith, list-count)
-
-      register-at : At (s .image) (a + 4 + 24 * j) (register-bytes register-of)
-      register-at = listed-at register-bytes 24 register-size (list-here .registers) (list-here .at) no-register j within
+      register-of = the-element list-here register-size c j no-register h
 
       pub register-stands : Stands-register (s .image) (a + 4 + 24 * j) register-of
-      register-stands = record { holds = each-at Register-holds no-register j (list-here .registers) (list-here .holds .each) within; at = register-at }
+      register-stands =
+          record { holds = element-holds list-here register-size c j no-register h; at = element-stands list-here register-size c j no-register h }
 
       pub register-room : a + 4 + 24 * j + 24 ≤ length (s .image)
-      register-room = omega (arith, fits register-at, register-size register-of)
+      register-room = element-room list-here register-size c j no-register h
 
       pub registers-room : a + 4 + 24 * j ≤ length (s .image)
       registers-room = omega (arith, register-room)
 
       pub register-final : {x : RegisterDesc} → x ≡ register-of → record { refusal = 0; register = x } ≡ register-look (look-register i k j s)
       unfolding after register-look
-      register-final q = rw (q, t .looked, list-here .is, element-is no-register j (list-here .registers) within)
+      register-final q = rw (q, t .looked, element-found list-here register-size c j no-register h)

@@ -1,15 +1,12 @@
 -- A convention that is looked at: its offset or the refusal, as `reach_convention` answers them, and what the looks go on with.
 -- Assumes nothing.
-use mathlib.Core.Path.{_≡_, refl, sym, ap, _∙_}
-use mathlib.Core.Bool.{Bool, true, false}
+use mathlib.Core.Path.{_≡_, sym, ap, _∙_}
 use mathlib.Core.List.{List}
 use Prim.Native.Nat.{ℕ, zero, suc, _+_, _≤_, _<_}
 use native.Mathlib.Nat.{le-of-suc-le-suc}
 use native.Mathlib.Omega.{arith}
-use lib.Dec.{leb}
 use lib.ListN.{length, getD}
-use borrow.Author.Tests.{leb-true, leb-false}
-use Rattle.fields.specs.Outcome.{Outcome, refused, accepted, after}
+use Rattle.fields.specs.Outcome.{refused, accepted, after}
 use Rattle.fields.proofs.Le.{Bytes}
 use Rattle.pod.specs.Values.{RoutineConvention, Routine}
 use Rattle.pod.specs.Written.{convention-bytes}
@@ -20,10 +17,10 @@ use Rattle.machine.proofs.Lists.{each-at}
 use Rattle.book.specs.Says.{refusal-of}
 use Rattle.book.specs.Holding.{Holding}
 use Rattle.image.specs.Places.{convention-start}
-use Rattle.image.proofs.Inspects.{Ready, refused-by, inspected, held-sound, sound-holding}
+use Rattle.image.proofs.Inspects.{Ready, never, one, refused-by, held-sound, sound-holding}
 use Rattle.image.proofs.Stands.{own-at, sub-at, special-at, element-at}
 use Rattle.look.proofs.Elements.{element-is, element-no}
-use Rattle.look.proofs.Reach.{never, one}
+use Rattle.look.proofs.Reach.{reaches}
 use Rattle.look_convention.specs.Stands.{Reached-convention, Stands-convention}
 use Rattle.look.specs.declared.Reached.{Reached}
 
@@ -77,28 +74,13 @@ pub record There (s : State) (i o : ℕ) : Type 0 where
 
 pub there : {s : State} {i : ℕ} {r : Reached} → Bytes (s .image) → Reached-convention s i r → r .refusal ≡ 0 → There s i (r .at)
 unfolding after refusal-of
-there {s} {i} {r} b h z = go (held s) refl
-  where
-    none : refusal-of (look-convention i s) ≡ 0
-    none = sym (h .refusal) ∙ z
-
-    go₂ : (x : Routine) → held s ≡ accepted x → (t : Bool) → leb (length (conventions x)) i ≡ t → There s i (r .at)
-    go₂ x e true q =
-        let m : length (conventions x) ≤ i = leb-true (length (conventions x)) i q in
-        let f : look-convention i s ≡ refused 15 = rw (e, element-no i (conventions x) m) in
-        absurd (omega (arith, sym (ap refusal-of f) ∙ none))
-    go₂ x e false q =
-        let m : i < length (conventions x) = leb-false (length (conventions x)) i q in
-        record {
-          convention = getD (conventions x) i (x .routine-convention);
-          lent = held-sound b e .image-lent;
-          looked = rw (e, element-is (x .routine-convention) i (conventions x) m);
-          stands = rw (h .at x e m) (convention-stands (sound-holding (held-sound b e)) i m);
-        }
-
-    go : (o : Outcome Routine) → held s ≡ o → There s i (r .at)
-    go (accepted x) e = go₂ x e (leb (length (conventions x)) i) refl
-    go (refused k) e =
-        let f : look-convention i s ≡ refused k = rw e in
-        let y = inspected s (ap refusal-of e ∙ (sym (ap refusal-of f) ∙ none)) in
-        absurd (never (y .1) e)
+there {s} {i} {r} b h z =
+    let l = reaches conventions s i (sym (h .refusal) ∙ z) in
+    let x = l .routine in
+    let o = held-sound b (l .is) in
+    record {
+      convention = getD (conventions x) i (x .routine-convention);
+      lent = o .image-lent;
+      looked = l .looked (x .routine-convention);
+      stands = rw (h .at x (l .is) (l .within)) (convention-stands (sound-holding o) i (l .within));
+    }

@@ -19,7 +19,7 @@ use Rattle.laws.specs.Holds.{List-holds, Register-holds}
 use Rattle.laws.proofs.At.{At, fits, left, right, first}
 use Rattle.laws.proofs.Back.{length-bytes, counted-reads}
 use Rattle.laws.proofs.Round.{register-reads}
-use Rattle.laws.proofs.Sizes.{register-size, many-size, counted-size}
+use Rattle.laws.proofs.Sizes.{register-size, registers-size}
 use Rattle.walk.specs.Ends.{word, registersEnd}
 use Rattle.walk.proofs.Same.{registers-ends}
 use Rattle.image.proofs.Stands.{named, word-at}
@@ -56,9 +56,6 @@ module _ {s : List ℕ} {o : ℕ} {r : RegisterDesc} (h : Stands-register s o r)
       rw (f-is, i-is, w-is, v-is, toZ-ofZ w32 (r .«bit_count») (h .holds .width), toZ-ofZ w32 (r .«bit_offset») (h .holds .offset))
 
 -- a list of registers
-pub registers-size : (xs : List RegisterDesc) → length (counted-bytes register-bytes xs) ≡ 4 + 24 * length xs
-registers-size xs = counted-size register-bytes xs ∙ ap (λ n. 4 + n) (many-size register-bytes 24 register-size xs)
-
 past-registers : {s : List ℕ} {o p : ℕ} (xs : List RegisterDesc) → List-holds Register-holds xs → At s o (counted-bytes register-bytes xs) → p ≡ o
     → registersEnd s p ≡ o + (4 + 24 * length xs)
 past-registers {s} {o} {p} xs h t e =

@@ -3,8 +3,8 @@
 -- Assumes nothing.
 use mathlib.Core.Path.{_≡_, refl, sym, ap, ap₂, _∙_}
 use mathlib.Core.Bool.{Bool, true, false, _&&_}
-use mathlib.Core.List.{List, [], _∷_, _++_}
-use Prim.Native.Nat.{ℕ, zero, suc, _-_, _≤_}
+use mathlib.Core.List.{_++_}
+use Prim.Native.Nat.{ℕ, _-_, _≤_}
 use native.Mathlib.Omega.{arith}
 use lib.ListN.{length, take, drop, length-append, length-replicate, take-append-drop}
 use lib.Seq.{length-take-le, take-append-seam, drop-append-seam}
@@ -12,7 +12,7 @@ use borrow.Author.Tests.{le-leb, leb-true}
 use Rattle.fields.specs.Parse.{Res, ok, no, choose}
 use Rattle.fields.specs.Bytes.{zeros}
 use Rattle.fields.specs.Outcome.{Outcome, refused, accepted}
-use Rattle.fields.proofs.Le.{Bytes}
+use Rattle.fields.proofs.Le.{Bytes, bytes-take}
 use Rattle.op.proofs.Same.{same-yes, same-eq}
 use Rattle.pod.specs.Values.{Routine}
 use Rattle.pod.specs.Written.{routine-bytes}
@@ -36,9 +36,9 @@ module _ (n : ℕ) (r : Routine) where
   unfolding in-image
   drop-image = drop-append-seam (routine-bytes r) (zeros (n - size r))
 
-pub sound-held : (s : State) (r : Routine) → Sound s r → held s ≡ accepted r
+pub sound-held : {s : State} {r : Routine} → Sound s r → held s ≡ accepted r
 unfolding held whole choose
-sound-held s r g =
+sound-held {s} {r} g =
     let n = length (s .image) in
     let t : take (size r) (s .image) ≡ routine-bytes r = ap (take (size r)) (g .image) ∙ take-image n r in
     let d : drop (size r) (s .image) ≡ zeros (n - size r) = ap (drop (size r)) (g .image) ∙ drop-image n r in
@@ -51,15 +51,9 @@ unfolding choose
 through true x e q = (refl, q)
 through false x e q = let z : _≡_ {A = ℕ} 0 1 = cc in absurd (omega arith)
 
-both : (t u : Bool) → (t && u) ≡ true → (t ≡ true) × (u ≡ true)
+pub both : (t u : Bool) → (t && u) ≡ true → (t ≡ true) × (u ≡ true)
 both true u q = (refl, q)
 both false u q = let z : _≡_ {A = ℕ} 0 1 = cc in absurd (omega arith)
-
-bytes-take : (n : ℕ) (s : List ℕ) → Bytes s → Bytes (take n s)
-bytes-take zero s b i = record { fits = omega arith }
-bytes-take (suc n) [] b i = record { fits = omega arith }
-bytes-take (suc n) (x ∷ s) b zero = b 0
-bytes-take (suc n) (x ∷ s) b (suc i) = bytes-take n s (λ k. b (suc k)) i
 
 whole-is : (s : State) (r : Routine) (x : Res Routine) → whole s x ≡ accepted r
     → (n : ℕ) × (x ≡ ok r n) × (take (s .book .written) (s .image) ≡ routine-bytes r) × (drop (s .book .written) (s .image) ≡ zeros (length (s .image) - s .book .written))
@@ -72,9 +66,9 @@ whole-is s r (ok x n) q =
     let e : x ≡ r = cc in
     (n, ap (λ z. ok z n) e, same-eq _ _ (w .0) ∙ ap routine-bytes e, same-eq _ _ (w .1))
 
-pub held-sound : (s : State) (r : Routine) → Bytes (s .image) → held s ≡ accepted r → Sound s r
+pub held-sound : {s : State} {r : Routine} → Bytes (s .image) → held s ≡ accepted r → Sound s r
 unfolding held in-image
-held-sound s r b q =
+held-sound {s} {r} b q =
     let l = through _ _ 10 q in
     let lent = both _ _ (l .0) in
     let m = through _ _ 13 (l .1) in

@@ -75,11 +75,11 @@ unfolding routine-bytes routine-head-bytes counted-bytes
 routine-parts r bs = refl
 
 -- one block
-one-bytes : (b : BasicBlock) → blocks-bytes (b ∷ []) ≡ block-bytes b
+pub one-bytes : (b : BasicBlock) → blocks-bytes (b ∷ []) ≡ block-bytes b
 unfolding many-bytes
 one-bytes b = append-nil (block-bytes b)
 
-cons-bytes : (b : BasicBlock) (bs : List BasicBlock) → blocks-bytes (b ∷ bs) ≡ block-bytes b ++ blocks-bytes bs
+pub cons-bytes : (b : BasicBlock) (bs : List BasicBlock) → blocks-bytes (b ∷ bs) ≡ block-bytes b ++ blocks-bytes bs
 unfolding many-bytes
 cons-bytes b bs = refl
 

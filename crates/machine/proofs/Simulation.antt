@@ -93,7 +93,7 @@ module _ (N J : ℕ) (small : N ≤ most-lent) (journal-small : J ≤ most-lent)
   holds-it r j o h k =
       let n = length-image N r h in
       let m = length-journal j k in
-      sound-held (state-of N J r j) r (record {
+      sound-held (record {
         image-lent = rw n small;
         journal-lent = rw m journal-small;
         used = rw m k;

@@ -11,12 +11,11 @@ use Rattle.fields.proofs.Le.{Bytes}
 use Rattle.pod.specs.Written.{bytes, many-bytes, counted-bytes}
 use Rattle.laws.proofs.At.{Spans, within}
 use Rattle.laws.proofs.Back.{length-bytes}
-use Rattle.laws.proofs.Post.{inv}
 use Rattle.laws.proofs.Took.{uint-took}
 use Rattle.laws.proofs.Local.{Local, local-many}
 use Rattle.laws.proofs.Place.{counted-is, many-append}
 use Rattle.walk.specs.Ends.{jump, word}
-use Rattle.walk.proofs.Invert.{inv-ok}
+use Rattle.fields.proofs.Invert.{inv, inv-ok}
 use Rattle.walk.proofs.Steps.{jump-in, value, word-is}
 use Rattle.normal.specs.Over.{Over, Normalised}
 use Rattle.normal.proofs.Puts.{stays, as-before, _beside_}

@@ -67,10 +67,10 @@ fn fill(file: &[u8], image: &mut [u8], journal: &mut [u8], n: usize, exact: bool
 pub fn open(file: &[u8], image: &mut [u8], journal: &mut [u8]) -> Answer
     ensures { λ r. ⌜ outcome r (now (image .exit)) (now (journal .exit)) ≡ open-book (now (file .entry)) (now (image .entry)) (now (journal .entry)) ⌝ }
 {
-    if image.len() > book::MOST_LENT {
+    if image.len() > fields::MOST_LENT {
         return refused(book::LENDING_TOO_LARGE);
     }
-    if journal.len() > book::MOST_LENT {
+    if journal.len() > fields::MOST_LENT {
         return refused(book::LENDING_TOO_LARGE);
     }
     // Most files are in written form: these take one walk and a copy.

@@ -1,7 +1,7 @@
 -- The bytes of a routine in an image as parts: what stands before the count of blocks, the count, the blocks, and the zeros. By regrouping the parts.
 -- Assumes nothing.
 use mathlib.Core.Path.{_≡_, refl, sym, ap, _∙_}
-use mathlib.Core.List.{List, [], _∷_, _++_, append-assoc, append-nil}
+use mathlib.Core.List.{List, [], _∷_, _++_, append-assoc}
 use Prim.Native.Nat.{ℕ, _+_, _-_}
 use native.Mathlib.Omega.{arith}
 use lib.ListN.{length, length-append, replicate-append-replicate}
@@ -15,6 +15,7 @@ use Rattle.buffer.proofs.Put.{put-parts}
 use Rattle.machine.specs.Edits.{with-blocks}
 use Rattle.machine.specs.Machine.{size}
 use Rattle.machine.specs.Book.{in-image}
+use Rattle.machine.proofs.Parts.{one-bytes, cons-bytes}
 use Rattle.book.specs.Holding.{blocks-start}
 
 -- blocks, one after the other
@@ -24,27 +25,19 @@ written bs = many-bytes block-bytes bs
 pub length-written : (p q : List BasicBlock) → length (written (p ++ q)) ≡ length (written p) + length (written q)
 length-written p q = ap length (many-append block-bytes p q) ∙ length-append (written p) (written q)
 
-pub written-one : (b : BasicBlock) → written (b ∷ []) ≡ block-bytes b
-unfolding many-bytes
-written-one b = append-nil (block-bytes b)
-
-pub written-cons : (b : BasicBlock) (q : List BasicBlock) → written (b ∷ q) ≡ block-bytes b ++ written q
-unfolding many-bytes
-written-cons b q = refl
-
 -- blocks p, then b, and then q
 pub written-parts : (p : List BasicBlock) (b : BasicBlock) (q : List BasicBlock) (z : List ℕ)
     → written (p ++ (b ∷ q)) ++ z ≡ written p ++ (block-bytes b ++ (written q ++ z))
-written-parts p b q z = rw (many-append block-bytes p (b ∷ q), written-cons b q) (simp append-assoc)
+written-parts p b q z = rw (many-append block-bytes p (b ∷ q), cons-bytes b q) (simp append-assoc)
 
 pub written-snoc : (p : List BasicBlock) (b : BasicBlock) (z : List ℕ) → written (p ++ (b ∷ [])) ++ z ≡ written p ++ (block-bytes b ++ z)
-written-snoc p b z = rw (many-append block-bytes p (b ∷ []), written-one b) (append-assoc (written p) (block-bytes b) z)
+written-snoc p b z = rw (many-append block-bytes p (b ∷ []), one-bytes b) (append-assoc (written p) (block-bytes b) z)
 
 pub length-cons : (b : BasicBlock) (q : List BasicBlock) → length (written (b ∷ q)) ≡ length (block-bytes b) + length (written q)
-length-cons b q = ap length (written-cons b q) ∙ length-append (block-bytes b) (written q)
+length-cons b q = ap length (cons-bytes b q) ∙ length-append (block-bytes b) (written q)
 
 pub length-one : (b : BasicBlock) → length (written (b ∷ [])) ≡ length (block-bytes b)
-length-one b = ap length (written-one b)
+length-one b = ap length (one-bytes b)
 
 pub zeros-join : (k n m : ℕ) → k + n ≡ m → zeros k ++ zeros n ≡ zeros m
 zeros-join k n m h = replicate-append-replicate k n 0 ∙ ap zeros h

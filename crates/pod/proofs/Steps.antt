@@ -1,9 +1,10 @@
 -- The steps of `fields.proofs.Steps`, for the answers of this crate.
 -- Assumes nothing.
-use mathlib.Core.Path.{_≡_}
+use mathlib.Core.Path.{ap}
 use Prim.Native.Nat.{ℕ}
-use Rattle.fields.specs.Parse.{Res, ok, no, bind, span}
+use Rattle.fields.specs.Parse.{Res}
 use Rattle.fields.proofs.Steps
+use Rattle.fields.proofs.Steps.{On, Off, SkipOn, SkipOff, on, off, span-on, span-off}
 use Rattle.pod.specs.Answers.{of-register, of-immediate, of-operand}
 use Rattle.pod.specs.declared.RegisterDesc.{RegisterDesc}
 use Rattle.pod.specs.declared.ImmediateDesc.{ImmediateDesc}
@@ -15,61 +16,44 @@ use Rattle.pod.specs.declared.ImmediateRead.the-variants as ir
 use Rattle.pod.specs.declared.OperandRead.{OperandRead}
 use Rattle.pod.specs.declared.OperandRead.the-variants as or
 
-module _ {B : Type 0} where
-  pub on-register : {r : RegisterRead} {v : RegisterDesc} {n : ℕ} {p : Res RegisterDesc} (f : RegisterDesc → ℕ → Res B) {x : Res B} → r ≡ rr.Value v n → of-register r ≡ p
-      → x ≡ f v n → x ≡ bind p f
-  unfolding bind span
-  on-register f g e h = rw (← e, g) h
+module _ {B : Type 0} {r : RegisterRead} {p : Res RegisterDesc} (f : RegisterDesc → ℕ → Res B) where
+  pub on-register : {v : RegisterDesc} {n : ℕ} {x : Res B} → On of-register rr.Value r v n p f x
+  on-register g = on f (ap of-register g)
 
-  pub off-register : {r : RegisterRead} {k : ℕ} {p : Res RegisterDesc} (f : RegisterDesc → ℕ → Res B) → r ≡ rr.Refused k → of-register r ≡ p → no k ≡ bind p f
-  unfolding bind span
-  off-register f g e = rw (← e, g)
+  pub off-register : {k : ℕ} → Off of-register rr.Refused r k p f
+  off-register g = off f (ap of-register g)
 
-  pub on-immediate : {r : ImmediateRead} {v : ImmediateDesc} {n : ℕ} {p : Res ImmediateDesc} (f : ImmediateDesc → ℕ → Res B) {x : Res B} → r ≡ ir.Value v n → of-immediate r ≡ p
-      → x ≡ f v n → x ≡ bind p f
-  unfolding bind span
-  on-immediate f g e h = rw (← e, g) h
+  pub skip-on-register : {v : RegisterDesc} {n : ℕ} {x : Res Unit} → SkipOn of-register rr.Value r v n p f x
+  skip-on-register g = span-on f (ap of-register g)
 
-  pub off-immediate : {r : ImmediateRead} {k : ℕ} {p : Res ImmediateDesc} (f : ImmediateDesc → ℕ → Res B) → r ≡ ir.Refused k → of-immediate r ≡ p → no k ≡ bind p f
-  unfolding bind span
-  off-immediate f g e = rw (← e, g)
+  pub skip-off-register : {k : ℕ} → SkipOff of-register rr.Refused r k p f
+  skip-off-register g = span-off f (ap of-register g)
 
-  pub on-operand : {r : OperandRead} {v : Operand} {n : ℕ} {p : Res Operand} (f : Operand → ℕ → Res B) {x : Res B} → r ≡ or.Value v n → of-operand r ≡ p
-      → x ≡ f v n → x ≡ bind p f
-  unfolding bind span
-  on-operand f g e h = rw (← e, g) h
+module _ {B : Type 0} {r : ImmediateRead} {p : Res ImmediateDesc} (f : ImmediateDesc → ℕ → Res B) where
+  pub on-immediate : {v : ImmediateDesc} {n : ℕ} {x : Res B} → On of-immediate ir.Value r v n p f x
+  on-immediate g = on f (ap of-immediate g)
 
-  pub off-operand : {r : OperandRead} {k : ℕ} {p : Res Operand} (f : Operand → ℕ → Res B) → r ≡ or.Refused k → of-operand r ≡ p → no k ≡ bind p f
-  unfolding bind span
-  off-operand f g e = rw (← e, g)
+  pub off-immediate : {k : ℕ} → Off of-immediate ir.Refused r k p f
+  off-immediate g = off f (ap of-immediate g)
 
-module _ {B : Type 0} where
-  pub skip-on-register : {r : RegisterRead} {v : RegisterDesc} {n : ℕ} {p : Res RegisterDesc} (f : RegisterDesc → ℕ → Res B) {x : Res Unit} → r ≡ rr.Value v n → of-register r ≡ p
-      → x ≡ span (f v n) → x ≡ span (bind p f)
-  unfolding bind span
-  skip-on-register f g e h = rw (← e, g) h
+  pub skip-on-immediate : {v : ImmediateDesc} {n : ℕ} {x : Res Unit} → SkipOn of-immediate ir.Value r v n p f x
+  skip-on-immediate g = span-on f (ap of-immediate g)
 
-  pub skip-off-register : {r : RegisterRead} {k : ℕ} {p : Res RegisterDesc} (f : RegisterDesc → ℕ → Res B) → r ≡ rr.Refused k → of-register r ≡ p → no k ≡ span (bind p f)
-  unfolding bind span
-  skip-off-register f g e = rw (← e, g)
+  pub skip-off-immediate : {k : ℕ} → SkipOff of-immediate ir.Refused r k p f
+  skip-off-immediate g = span-off f (ap of-immediate g)
 
-  pub skip-on-immediate : {r : ImmediateRead} {v : ImmediateDesc} {n : ℕ} {p : Res ImmediateDesc} (f : ImmediateDesc → ℕ → Res B) {x : Res Unit} → r ≡ ir.Value v n → of-immediate r ≡ p
-      → x ≡ span (f v n) → x ≡ span (bind p f)
-  unfolding bind span
-  skip-on-immediate f g e h = rw (← e, g) h
+module _ {B : Type 0} {r : OperandRead} {p : Res Operand} (f : Operand → ℕ → Res B) where
+  pub on-operand : {v : Operand} {n : ℕ} {x : Res B} → On of-operand or.Value r v n p f x
+  on-operand g = on f (ap of-operand g)
 
-  pub skip-off-immediate : {r : ImmediateRead} {k : ℕ} {p : Res ImmediateDesc} (f : ImmediateDesc → ℕ → Res B) → r ≡ ir.Refused k → of-immediate r ≡ p → no k ≡ span (bind p f)
-  unfolding bind span
-  skip-off-immediate f g e = rw (← e, g)
+  pub off-operand : {k : ℕ} → Off of-operand or.Refused r k p f
+  off-operand g = off f (ap of-operand g)
 
-  pub skip-on-operand : {r : OperandRead} {v : Operand} {n : ℕ} {p : Res Operand} (f : Operand → ℕ → Res B) {x : Res Unit} → r ≡ or.Value v n → of-operand r ≡ p
-      → x ≡ span (f v n) → x ≡ span (bind p f)
-  unfolding bind span
-  skip-on-operand f g e h = rw (← e, g) h
+  pub skip-on-operand : {v : Operand} {n : ℕ} {x : Res Unit} → SkipOn of-operand or.Value r v n p f x
+  skip-on-operand g = span-on f (ap of-operand g)
 
-  pub skip-off-operand : {r : OperandRead} {k : ℕ} {p : Res Operand} (f : Operand → ℕ → Res B) → r ≡ or.Refused k → of-operand r ≡ p → no k ≡ span (bind p f)
-  unfolding bind span
-  skip-off-operand f g e = rw (← e, g)
+  pub skip-off-operand : {k : ℕ} → SkipOff of-operand or.Refused r k p f
+  skip-off-operand g = span-off f (ap of-operand g)
 
 pub ruleset steps = (Steps.steps, on-register, off-register, on-immediate, off-immediate, on-operand, off-operand)
 

@@ -7,13 +7,13 @@ use mathlib.Core.List.{List, [], _∷_}
 use Prim.Native.Nat.{ℕ, zero, suc, _+_, _-_, _≤_, _<_}
 use native.Mathlib.Omega.{arith}
 use lib.ListN.{length, take, drop, length-drop}
-use lib.Seq.{take-nil, getD-drop, length-take-le}
+use lib.Seq.{take-nil, length-take-le}
 use lib.Dec.{leb, eqb}
 use borrow.Author.Tests.{le-leb, lt-leb, leb-true, eqb-true, eq-eqb}
 use Rattle.fields.specs.Bytes.{zeros, put}
 use Rattle.fields.specs.Parse.{Res, ok, no, choose}
 use Rattle.fields.specs.Outcome.{Outcome, refused, accepted}
-use Rattle.fields.proofs.Le.{Bytes}
+use Rattle.fields.proofs.Le.{Bytes, bytes-take, bytes-drop}
 use Rattle.pod.specs.Values.{BasicBlock, Routine}
 use Rattle.pod.specs.Layout.{block, as-written}
 use Rattle.pod.specs.Written.{block-bytes}
@@ -49,16 +49,6 @@ part-of zero t l h = let e : t ≡ t - 0 = omega arith in ap (λ (n : ℕ). take
 part-of (suc d) zero l h = absurd (omega arith)
 part-of (suc d) (suc t) [] h = sym (take-nil (suc t - suc d))
 part-of (suc d) (suc t) (x ∷ l) h = let e : t - d ≡ suc t - suc d = omega arith in part-of d t l (omega arith) ∙ ap (λ (n : ℕ). take n (drop d l)) e
-
--- parts of bytes are bytes
-taken-bytes : (n : ℕ) (s : List ℕ) → Bytes s → Bytes (take n s)
-taken-bytes zero s b i = record { fits = omega arith }
-taken-bytes (suc n) [] b i = b i
-taken-bytes (suc n) (x ∷ s) b zero = b 0
-taken-bytes (suc n) (x ∷ s) b (suc i) = taken-bytes n s (λ j. b (suc j)) i
-
-dropped-bytes : (n : ℕ) (s : List ℕ) → Bytes s → Bytes (drop n s)
-dropped-bytes n s b i = rw (getD-drop n s i 0) (b (n + i))
 
 -- a whole written block
 pub record One (v : ℕ) (s : List ℕ) : Type 0 where
@@ -173,7 +163,7 @@ module _ (image journal : List ℕ) (book : Book) (r : Routine) (g : Sound (stat
 
       pub written-back : Bytes journal → entry ≡ block-bytes back
       written-back b =
-          exact-whole block-layout (taken-bytes (book .used - 20 - from) (drop from journal) (dropped-bytes from journal b)) (whole N r t entry entry-size e .read)
+          exact-whole block-layout (bytes-take (book .used - 20 - from) (drop from journal) (bytes-drop from journal b)) (whole N r t entry entry-size e .read)
 
       pub restores : Bytes journal → (i₁ j₁ : List ℕ) → i₁ ≡ in-image N (with-blocks (insert-at (t .place) back (r .explored-blocks)) r)
           → j₁ ≡ put from (zeros (book .used - from)) journal

@@ -4,13 +4,14 @@
 use mathlib.Core.Path.{_≡_, refl, sym, ap, ap₂, _∙_}
 use mathlib.Core.Bool.{Bool, true, false}
 use mathlib.Core.List.{List, [], _∷_}
-use Prim.Native.Nat.{ℕ, zero, suc, _+_, _-_, _≤_, _<_, _^_}
+use Prim.Native.Nat.{ℕ, suc, _+_, _-_, _≤_, _<_, _^_}
 use native.Mathlib.Omega.{arith}
-use lib.ListN.{length, take, drop, getD}
+use lib.ListN.{length, drop, getD}
 use lib.Dec.{eqb}
 use borrow.Author.Tests.{eq-eqb, ne-eqb}
 use Rattle.fields.specs.Parse.{choose}
 use Rattle.fields.specs.Outcome.{Outcome, refused, accepted}
+use Rattle.fields.proofs.Le.{each-taken, each-dropped}
 use Rattle.machine.specs.Edits.{create, remove, append}
 use Rattle.machine.specs.Machine.{Call, edit, undo, Answer}
 use Rattle.machine.specs.Book.{State, unopened, open-book, step, run}
@@ -104,16 +105,8 @@ module _ (file image journal words texts : List ℕ) where
     opened-ran {b} a = rw (h, ← e, a)
 
 -- the calls can be sent
-bytes-take : (n : ℕ) (s : List ℕ) → Bytes s → Bytes (take n s)
-bytes-take zero s b i = omega arith
-bytes-take (suc n) [] b i = omega arith
-bytes-take (suc n) (x ∷ s) b zero = b 0
-bytes-take (suc n) (x ∷ s) b (suc i) = bytes-take n s (λ k. b (suc k)) i
-
-bytes-drop : (n : ℕ) (s : List ℕ) → Bytes s → Bytes (drop n s)
-bytes-drop zero s b i = b i
-bytes-drop (suc n) [] b i = omega arith
-bytes-drop (suc n) (x ∷ s) b i = bytes-drop n s (λ k. b (suc k)) i
+abbrev byte : ℕ → Type 0
+byte x = x < 256
 
 sent-one : (vip : ℕ) (bytes : List ℕ) → vip < 2 ^ 64 → Bytes bytes → (t u v : Bool)
     → Sendable (choose t (edit (create vip)) (choose u (edit (remove vip)) (choose v (edit (append vip bytes)) undo)))
@@ -130,7 +123,7 @@ sent (kind ∷ []) texts w b = tt
 sent (kind ∷ vip ∷ []) texts w b = tt
 sent (kind ∷ vip ∷ begin ∷ []) texts w b = tt
 sent (kind ∷ vip ∷ begin ∷ end ∷ words) texts w b = (
-  sent-one vip _ (w 1) (bytes-take (end - begin) (drop begin texts) (bytes-drop begin texts b)) (eqb kind 0) (eqb kind 1) (eqb kind 2),
+  sent-one vip _ (w 1) (each-taken byte (omega arith) (end - begin) (drop begin texts) (each-dropped byte begin texts b)) (eqb kind 0) (eqb kind 1) (eqb kind 2),
   sent words texts (λ i. w (suc (suc (suc (suc i))))) b,
 )
 

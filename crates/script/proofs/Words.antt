@@ -1,20 +1,17 @@
 -- The words of a script, four at a time: what the call at an offset says, and what is left after it. By taking the list apart there.
 -- Assumes nothing.
 use mathlib.Core.Path.{_≡_, refl, sym, ap, _∙_}
-use mathlib.Core.Bool.{Bool, true, false, _&&_}
+use mathlib.Core.Bool.{true, false, _&&_}
 use mathlib.Core.List.{List, [], _∷_}
-use Prim.Native.Nat.{ℕ, _+_, _-_, _≤_, _<_}
+use Prim.Native.Nat.{ℕ, _+_, _≤_, _<_}
 use native.Mathlib.Omega.{arith}
 use native.Mathlib.Numerals.{add-one}
 use lib.ListN.{length, drop, getD, length-drop}
 use lib.Seq.{drop-cons, drop-length}
 use lib.Dec.{leb}
 use borrow.Author.Tests.{le-leb, lt-leb, leb-true}
+pub use Rattle.machine.proofs.Held.{both}
 use Rattle.script.specs.Script.{is-script, call-at, Sits, calls}
-
-pub both : (t u : Bool) → (t && u) ≡ true → (t ≡ true) × (u ≡ true)
-both true u q = (refl, q)
-both false u q = let z : _≡_ {A = ℕ} 0 1 = cc in absurd (omega arith)
 
 -- fewer than four words are left, and not none
 pub too-few : (words texts : List ℕ) → 0 < length words → length words < 4 → is-script words texts ≡ false

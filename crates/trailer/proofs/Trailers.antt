@@ -15,7 +15,7 @@ use Rattle.fields.proofs.Le.{uint-ok}
 use Rattle.pod.specs.Values.{Routine}
 use Rattle.pod.specs.Written.{bytes}
 use Rattle.buffer.proofs.Put.{put-put}
-use Rattle.buffer.proofs.Digits.{length-bytes}
+use Rattle.pod.proofs.Sizes.{length-bytes}
 use Rattle.machine.specs.Journal.{Trailer, trailer, trailer-bytes, undo-entry, undone}
 use Rattle.trailer.specs.Says.{named}
 

@@ -2,7 +2,7 @@
 -- Assumes nothing.
 use mathlib.Core.Path.{_≡_, refl, sym, ap, _∙_}
 use mathlib.Core.Bool.{Bool, true, false, _&&_}
-use mathlib.Core.List.{List, [], _∷_, _++_}
+use mathlib.Core.List.{List, [], _∷_}
 use Prim.Native.Nat.{ℕ, _+_}
 use native.Mathlib.Omega.{arith}
 use lib.Dec.{eqb}
@@ -10,16 +10,14 @@ use lib.ListN.{length}
 use borrow.Author.Tests.{eq-eqb, ne-eqb}
 use mir.Syntax.{w64}
 use mir.Val.{ofZ}
-use mir.ValLaws.{ofZ-fits}
 use Rattle.pod.specs.Values.{BasicBlock}
-use Rattle.pod.specs.Written.{bytes, many-bytes, counted-bytes, instruction-bytes, block-head-bytes, block-bytes}
+use Rattle.pod.specs.Written.{bytes, many-bytes, counted-bytes, instruction-bytes, block-bytes}
 use Rattle.laws.specs.Holds.{Block-holds}
-use Rattle.laws.proofs.At.{At, left, right}
-use Rattle.laws.proofs.Back.{length-bytes}
+use Rattle.laws.proofs.At.{At, left}
 use Rattle.walk.specs.Ends.{word}
 use Rattle.machine.specs.Journal.{none, is-fresh}
 use Rattle.image.proofs.Stands.{named, word-at}
-use Rattle.image.proofs.Parts.{instruction-count, prev-at, next-at}
+use Rattle.image.proofs.Parts.{offset-read, index-read, temporary-read, instruction-count, prev-at, next-at}
 
 none-is : {A : Type 0} (xs : List A) → none xs ≡ eqb (length xs) 0
 none-is [] = refl
@@ -32,30 +30,6 @@ empty-size w [] h = refl
 empty-size w (x ∷ xs) h = absurd (omega arith)
 
 module _ (s : List ℕ) (o : ℕ) (b : BasicBlock) (h : Block-holds b) (t : At s o (block-bytes b)) where
-  head : At s o (block-head-bytes b)
-  unfolding block-bytes
-  head = left (block-head-bytes b) _ t
-
-  -- after the vip
-  after-vip : At s (o + 8) (bytes 8 (ofZ w64 (b .sp-offset)) ++ (bytes 4 (b .sp-index) ++ bytes 4 (b .last-temporary-index)))
-  unfolding block-head-bytes
-  after-vip = named (ap (λ k. o + k) (length-bytes 8 (b .vip))) (right (bytes 8 (b .vip)) _ head)
-
-  after-offset : At s (o + 16) (bytes 4 (b .sp-index) ++ bytes 4 (b .last-temporary-index))
-  after-offset = named (omega (arith, length-bytes 8 (ofZ w64 (b .sp-offset)))) (right (bytes 8 (ofZ w64 (b .sp-offset))) _ after-vip)
-
-  pub offset-read : word 8 s (o + 8) ≡ ofZ w64 (b .sp-offset)
-  offset-read = word-at 8 _ _ (ofZ-fits w64 (b .sp-offset) (h .sp-offset) .fits) (left (bytes 8 (ofZ w64 (b .sp-offset))) _ after-vip)
-
-  pub index-read : word 4 s (o + 16) ≡ b .sp-index
-  index-read = word-at 4 _ _ (h .sp-index) (left (bytes 4 (b .sp-index)) _ after-offset)
-
-  pub temporary-read : word 4 s (o + 20) ≡ b .last-temporary-index
-  temporary-read = word-at 4 _ _ (h .last-temporary) (named (omega (arith, length-bytes 4 (b .sp-index))) (right (bytes 4 (b .sp-index)) _ after-offset))
-
-  pub count-read : word 4 s (o + 24) ≡ length (b .instructions)
-  count-read = instruction-count b t h
-
   pub prev-read : length (b .instructions) ≡ 0 → word 4 s (o + 28) ≡ length (b .prev-vip)
   unfolding counted-bytes
   prev-read e =
@@ -83,32 +57,32 @@ module _ (s : List ℕ) (o : ℕ) (b : BasicBlock) (h : Block-holds b) (t : At s
   off = ofZ w64 (b .sp-offset)
 
   pub not-offset : (word 8 s (o + 8) ≡ 0 → ⊥) → false ≡ is-fresh b
-  not-offset n = sym (rw (ne-eqb off 0 (λ e. n (offset-read ∙ e)))) ∙ by-tests
+  not-offset n = sym (rw (ne-eqb off 0 (λ e. n (offset-read b t h ∙ e)))) ∙ by-tests
 
   module _ (e₁ : word 8 s (o + 8) ≡ 0) where
     z₁ : eqb off 0 ≡ true
-    z₁ = eq-eqb off 0 (sym offset-read ∙ e₁)
+    z₁ = eq-eqb off 0 (sym (offset-read b t h) ∙ e₁)
 
     pub not-index : (word 4 s (o + 16) ≡ 0 → ⊥) → false ≡ is-fresh b
-    not-index n = sym (rw (z₁, ne-eqb (b .sp-index) 0 (λ e. n (index-read ∙ e)))) ∙ by-tests
+    not-index n = sym (rw (z₁, ne-eqb (b .sp-index) 0 (λ e. n (index-read b t h ∙ e)))) ∙ by-tests
 
     module _ (e₂ : word 4 s (o + 16) ≡ 0) where
       z₂ : eqb (b .sp-index) 0 ≡ true
-      z₂ = eq-eqb (b .sp-index) 0 (sym index-read ∙ e₂)
+      z₂ = eq-eqb (b .sp-index) 0 (sym (index-read b t h) ∙ e₂)
 
       pub not-temporary : (word 4 s (o + 20) ≡ 0 → ⊥) → false ≡ is-fresh b
-      not-temporary n = sym (rw (z₁, z₂, ne-eqb (b .last-temporary-index) 0 (λ e. n (temporary-read ∙ e)))) ∙ by-tests
+      not-temporary n = sym (rw (z₁, z₂, ne-eqb (b .last-temporary-index) 0 (λ e. n (temporary-read b t h ∙ e)))) ∙ by-tests
 
       module _ (e₃ : word 4 s (o + 20) ≡ 0) where
         z₃ : eqb (b .last-temporary-index) 0 ≡ true
-        z₃ = eq-eqb (b .last-temporary-index) 0 (sym temporary-read ∙ e₃)
+        z₃ = eq-eqb (b .last-temporary-index) 0 (sym (temporary-read b t h) ∙ e₃)
 
         pub not-count : (word 4 s (o + 24) ≡ 0 → ⊥) → false ≡ is-fresh b
-        not-count n = sym (rw (z₁, z₂, z₃, ne-eqb (length (b .instructions)) 0 (λ e. n (count-read ∙ e)))) ∙ by-tests
+        not-count n = sym (rw (z₁, z₂, z₃, ne-eqb (length (b .instructions)) 0 (λ e. n (instruction-count b t h ∙ e)))) ∙ by-tests
 
         module _ (e₄ : word 4 s (o + 24) ≡ 0) where
           no-code : length (b .instructions) ≡ 0
-          no-code = sym count-read ∙ e₄
+          no-code = sym (instruction-count b t h) ∙ e₄
 
           z₄ : eqb (length (b .instructions)) 0 ≡ true
           z₄ = eq-eqb (length (b .instructions)) 0 no-code

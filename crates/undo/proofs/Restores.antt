@@ -1,7 +1,7 @@
--- What taking back leaves, by whether the entry fits: 13 and nothing changed, or the routine before it and zeros for the entry; and that a contract may
--- name the routine, since a sound state holds only one.
+-- What taking back leaves, by whether the entry fits: 13 and nothing changed, or the routine before it and zeros for the entry. By computing what is
+-- restored.
 -- Assumes nothing.
-use mathlib.Core.Path.{_≡_, sym, ap, _∙_}
+use mathlib.Core.Path.{_≡_, sym, ap}
 use mathlib.Core.List.{List}
 use Prim.Native.Nat.{ℕ, suc, _+_, _-_, _≤_, _<_}
 use native.Mathlib.Omega.{arith}
@@ -11,15 +11,10 @@ use Rattle.fields.specs.Outcome.{Outcome, refused, accepted}
 use Rattle.pod.specs.Values.{Routine}
 use Rattle.pod.specs.Written.{many-bytes, block-bytes}
 use Rattle.machine.specs.Machine.{Answer, size}
-use Rattle.machine.specs.Book.{State, in-image, held, restored}
+use Rattle.machine.specs.Book.{State, in-image, restored}
 use Rattle.book.specs.Holding.{block-start, Sound}
-use Rattle.image.proofs.Inspects.{sound-held}
 use Rattle.edits.proofs.Cuts.{the-block, links, links-least}
 use Rattle.edits.proofs.Stands.{ends-within}
-
--- the routine that a contract names is the one that is held
-pub the-same : {s : State} {r r′ : Routine} → Sound s r → held s ≡ accepted r′ → r ≡ r′
-the-same {s} {r} {r′} o e = let q : accepted r ≡ accepted r′ = sym (sound-held o) ∙ e in cc
 
 -- what is restored of an entry that does not fit
 pub spoiled : (s : State) {q : Outcome (Routine × ℕ)} → q ≡ refused 13 → (refused 13, s) ≡ restored s q

@@ -26,7 +26,8 @@ use Rattle.machine.specs.Book.{State, in-image, restored}
 use Rattle.machine.proofs.Lists.{snoc-last}
 use Rattle.machine.proofs.Undo.{without-appended}
 use Rattle.book.specs.Holding.{block-start, Sound}
-use Rattle.edits.proofs.Cuts.{zeros-split, before, behind, the-block, with-code, code-of, before-size, change-split, cut, cut-size}
+use Rattle.machine.proofs.Parts.{change-parts}
+use Rattle.edits.proofs.Cuts.{zeros-split, before, behind, the-block, with-code, code-of, before-size, cut, cut-size}
 use Rattle.edits.proofs.Stands.{unused, image-cut, ends-within}
 use Rattle.undo.proofs.Restores.{spoiled, restored-to}
 
@@ -157,7 +158,7 @@ module _ (s : State) (r : Routine) (o : Sound s r) (t : Trailer) where
         unfolding undo-append choose
         undoes f =
             let c : change-at (t .place) without-last (r .explored-blocks) ≡ take (t .place) (r .explored-blocks) ++ (with-instructions (front there) there ∷ drop (suc (t .place)) (r .explored-blocks))
-            = change-split (t .place) without-last (r .explored-blocks) h ∙ ap (λ b. take (t .place) (r .explored-blocks) ++ (b ∷ drop (suc (t .place)) (r .explored-blocks))) (without-final there k) in
+            = change-parts (t .place) without-last (r .explored-blocks) h ∙ ap (λ b. take (t .place) (r .explored-blocks) ++ (b ∷ drop (suc (t .place)) (r .explored-blocks))) (without-final there k) in
             rw (lt-ltb (t .place) (length (r .explored-blocks)) h, eq-eqb (there .vip) (t .vip) e, final-size there k (t .length), eq-eqb (length (instruction-bytes (final there))) (t .length) f, c)
 
         pub append-final : length (instruction-bytes (final there)) ≡ t .length

@@ -21,7 +21,8 @@ use Rattle.machine.specs.Machine.{Answer, size}
 use Rattle.machine.specs.Journal.{Trailer, is-fresh, undo-create}
 use Rattle.machine.specs.Book.{State, in-image, restored}
 use Rattle.book.specs.Holding.{blocks-start, block-start, Sound}
-use Rattle.edits.proofs.Cuts.{zeros-split, written-blocks}
+use Rattle.machine.proofs.Parts.{routine-parts}
+use Rattle.edits.proofs.Cuts.{zeros-split}
 use Rattle.undo.proofs.Restores.{spoiled, restored-to}
 
 module _ (r : Routine) (p : ℕ) where
@@ -30,7 +31,7 @@ module _ (r : Routine) (p : ℕ) where
   up-to = with-blocks (take p (r .explored-blocks)) r
 
   pub up-to-size : p ≤ length (r .explored-blocks) → size up-to ≡ block-start r p
-  up-to-size h = ap length (written-blocks r (take p (r .explored-blocks))) ∙ simp (length-append, length-bytes) (omega arith)
+  up-to-size h = ap length (routine-parts r (take p (r .explored-blocks))) ∙ simp (length-append, length-bytes) (omega arith)
 
 module _ (N : ℕ) (image : List ℕ) (w at start : ℕ) (r : Routine) (p : ℕ) (is : image ≡ in-image N r) (ew : w ≡ size r) (room : w ≤ N) (l : p + 1 ≡ length (r .explored-blocks))
     (ea : at ≡ block-start r p) (es : start ≡ blocks-start r) where
@@ -51,7 +52,7 @@ module _ (N : ℕ) (image : List ℕ) (w at start : ℕ) (r : Routine) (p : ℕ)
       = many-split block-bytes (empty-block 0) p bs h ∙ ap (λ x. M ++ (b ++ many-bytes block-bytes x)) (drop-of-length-le bs m) ∙ ap (λ x. M ++ x) (append-nil b) in
       let A = H ++ (bytes 4 n ++ M) in
       let la : length A ≡ at = omega (arith, length-append H (bytes 4 n ++ M), length-append (bytes 4 n) M, length-bytes 4 n) in
-      let f : routine-bytes r ≡ A ++ b = written-blocks r bs ∙ rw e (simp append-assoc) in
+      let f : routine-bytes r ≡ A ++ b = routine-parts r bs ∙ rw e (simp append-assoc) in
       let lb : w - at ≡ length b = omega (arith, ap length f, length-append A b) in
       let c : image ≡ A ++ (b ++ Z) = is ∙ ap (λ x. x ++ Z) f ∙ append-assoc A b Z in
       let d : put at (zeros (w - at)) image ≡ A ++ (zeros (w - at) ++ Z)
@@ -63,7 +64,7 @@ module _ (N : ℕ) (image : List ℕ) (w at start : ℕ) (r : Routine) (p : ℕ)
       let lh : length H ≡ start - 4 = omega arith in
       let u : put (start - 4) (bytes 4 p) (H ++ (bytes 4 n ++ (M ++ Y))) ≡ H ++ (bytes 4 p ++ (M ++ Y))
       = put-parts H (bytes 4 p) (bytes 4 n) (M ++ Y) (start - 4) lh (length-bytes 4 p ∙ sym (length-bytes 4 n)) in
-      let v : H ++ (bytes 4 p ++ (M ++ Y)) ≡ routine-bytes (up-to r p) ++ Y = rw (written-blocks r P, lp) (simp append-assoc) in
+      let v : H ++ (bytes 4 p ++ (M ++ Y)) ≡ routine-bytes (up-to r p) ++ Y = rw (routine-parts r P, lp) (simp append-assoc) in
       ap (put (start - 4) (bytes 4 p)) (d ∙ ap (λ x. A ++ x) z ∙ g) ∙ u ∙ v
 
 -- What taking back a create is

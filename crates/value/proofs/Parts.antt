@@ -13,6 +13,7 @@ use mir.Syntax.{w64}
 use mir.Val.{SFits, toZ, ofZ}
 use mir.ValLaws.{toZ-ofZ}
 use Rattle.fields.specs.Parse.{Res, ok, no, Reader, bind, choose, uint, part, many, flag, taken}
+use Rattle.fields.proofs.Invert.{inv}
 use Rattle.op.specs.Ops.{number, counts}
 use Rattle.pod.specs.Values.{Instruction}
 use Rattle.pod.specs.Written.{bit}
@@ -62,12 +63,6 @@ after-parts : (k : ℕ) (s : List ℕ) (o : ℕ) → after as-it-comes k s o ≡
 unfolding after tail
 after-parts k s o =
     under _ _ _ (λ xs n. step _ _ _ _ (λ v a. step _ _ _ _ (λ z b. step _ _ _ _ (λ i c. flagged s c _ ∙ step _ _ _ _ (λ r d. here _ _ _)))))
-
--- what two steps answered, apart
-inv : {A B : Type 0} (q : Res A) (f : A → ℕ → Res B) {b : B} {n : ℕ} → bind q f ≡ ok b n → (a : A) × (m : ℕ) × (q ≡ ok a m) × (f a m ≡ ok b n)
-unfolding bind
-inv (ok a m) f h = (a, m, refl, h)
-inv (no k) f h = let z : _≡_ {A = ℕ} 0 1 = cc in absurd (omega arith)
 
 -- a test that passed
 passed : (t : Bool) (e o : ℕ) {u : Unit {0}} {n : ℕ} → choose t (ok tt o) (no e) ≡ ok u n → t ≡ true

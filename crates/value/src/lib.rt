@@ -86,8 +86,8 @@ fn unused_place() -> OperandDesc
     }))
 }
 
-// `count` operands, at most three.
-pub fn operands_at(s: &[u8], at: usize, count: usize) -> OperandsRead
+// `count` operands. It asks for at most three, since that is how many places there are; no operation takes more.
+fn operands_at(s: &[u8], at: usize, count: usize) -> OperandsRead
     requires { ⌜ count ≤ 3 ⌝ }
     ensures { λ r. ⌜ r ≡ operands-read (many operand count (now (s .entry)) at) ⌝ }
 {

@@ -21,7 +21,7 @@ use Rattle.pod.specs.declared.ImmediateDesc.{ImmediateDesc}
 use Rattle.pod.specs.declared.Operand.{Operand}
 use Rattle.pod.specs.declared.Operand.the-variants.{Imm, Reg}
 use Rattle.walk.specs.Ends.{jump, word, operandEnd, times, instructionEnd, vipsEnd, blockEnd, registersEnd, conventionEnd}
-use Rattle.walk.proofs.Invert.{inv, inv-check, inv-ok}
+use Rattle.fields.proofs.Invert.{inv, inv-check, inv-ok}
 use Rattle.walk.proofs.Steps.{jump-in, value, word-is, imm-end, reg-end}
 
 -- n is k further than o, and within

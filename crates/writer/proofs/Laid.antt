@@ -8,7 +8,7 @@ use lib.ListN.{length, length-append}
 use Rattle.fields.specs.Bytes.{put}
 use Rattle.pod.specs.Written.{bytes}
 use Rattle.buffer.proofs.Put.{put-put, length-put}
-use Rattle.buffer.proofs.Digits.{length-bytes}
+use Rattle.pod.proofs.Sizes.{length-bytes}
 
 -- x, of j bytes, was laid over a from `at` on, which gave b
 pub record Laid (a : List ℕ) (at : ℕ) (x : List ℕ) (j : ℕ) (b : List ℕ) : Type 0 where

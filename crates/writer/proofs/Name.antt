@@ -12,7 +12,7 @@ use Rattle.op.specs.Ops.{names}
 use Rattle.pod.specs.Written.{bytes, name-bytes}
 use Rattle.buffer.proofs.Put.{put-put, put-nil}
 use Rattle.buffer.proofs.Moves.{put-one}
-use Rattle.buffer.proofs.Digits.{length-bytes}
+use Rattle.pod.proofs.Sizes.{length-bytes}
 use Rattle.writer.proofs.Laid.{Laid, laid-as, laid-then}
 
 -- the first j bytes of x were put, from 4 on over a, which gave b

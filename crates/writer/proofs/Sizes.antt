@@ -9,20 +9,10 @@ use Rattle.fields.specs.Bytes.{put}
 use Rattle.fields.specs.Parse.{choose}
 use Rattle.pod.specs.Written.{bytes, register-bytes, immediate-bytes, operand-bytes}
 use Rattle.pod.specs.Descs.{desc-operand}
-use Rattle.pod.specs.declared.RegisterDesc.{RegisterDesc}
-use Rattle.pod.specs.declared.ImmediateDesc.{ImmediateDesc}
 use Rattle.pod.specs.declared.Operand.the-variants.{Imm, Reg}
 use Rattle.pod.specs.declared.OperandDesc.{OperandDesc}
-use Rattle.buffer.proofs.Digits.{length-bytes}
+use Rattle.pod.proofs.Sizes.{length-bytes, register-size, immediate-size}
 use Rattle.writer.proofs.Laid.{Laid, laid-field, laid-then}
-
-length-register : (r : RegisterDesc) → length (register-bytes r) ≡ 24
-unfolding register-bytes
-length-register r = simp (length-append, length-bytes)
-
-length-immediate : (i : ImmediateDesc) → length (immediate-bytes i) ≡ 12
-unfolding immediate-bytes
-length-immediate i = simp (length-append, length-bytes)
 
 module _ (d : OperandDesc) where
   pub is-imm : d .kind ≡ 0 → desc-operand d ≡ Imm (d .immediate)
@@ -35,19 +25,19 @@ module _ (d : OperandDesc) where
 
   pub size-imm : d .kind ≡ 0 → length (operand-bytes (desc-operand d)) ≡ 16
   unfolding operand-bytes
-  size-imm h = rw (is-imm h) (length-append (bytes 4 0) _ ∙ ap₂ (λ (i j : ℕ). i + j) (length-bytes 4 0) (length-immediate (d .immediate)))
+  size-imm h = rw (is-imm h) (length-append (bytes 4 0) _ ∙ ap₂ (λ (i j : ℕ). i + j) (length-bytes 4 0) (immediate-size (d .immediate)))
 
   pub size-reg : (d .kind ≡ 0 → ⊥) → length (operand-bytes (desc-operand d)) ≡ 28
   unfolding operand-bytes
-  size-reg h = rw (is-reg h) (length-append (bytes 4 1) _ ∙ ap₂ (λ (i j : ℕ). i + j) (length-bytes 4 1) (length-register (d .register)))
+  size-reg h = rw (is-reg h) (length-append (bytes 4 1) _ ∙ ap₂ (λ (i j : ℕ). i + j) (length-bytes 4 1) (register-size (d .register)))
 
   -- the kind, and then the operand
   pub laid-imm : {a b e : List ℕ} {at : ℕ} → d .kind ≡ 0 → b ≡ put at (bytes 4 0) a → e ≡ put (at + 4) (immediate-bytes (d .immediate)) b
       → Laid a at (operand-bytes (desc-operand d)) 16 e
   unfolding operand-bytes
-  laid-imm h p q = rw (is-imm h) (laid-then (laid-field 4 0 p) (record { size = length-immediate (d .immediate); is = λ l. q }) refl)
+  laid-imm h p q = rw (is-imm h) (laid-then (laid-field 4 0 p) (record { size = immediate-size (d .immediate); is = λ l. q }) refl)
 
   pub laid-reg : {a b e : List ℕ} {at : ℕ} → (d .kind ≡ 0 → ⊥) → b ≡ put at (bytes 4 1) a → e ≡ put (at + 4) (register-bytes (d .register)) b
       → Laid a at (operand-bytes (desc-operand d)) 28 e
   unfolding operand-bytes
-  laid-reg h p q = rw (is-reg h) (laid-then (laid-field 4 1 p) (record { size = length-register (d .register); is = λ l. q }) refl)
+  laid-reg h p q = rw (is-reg h) (laid-then (laid-field 4 1 p) (record { size = register-size (d .register); is = λ l. q }) refl)

@@ -10,7 +10,7 @@ use Rattle.op.specs.Ops.{names}
 use Rattle.pod.specs.Written.{bytes, name-bytes, counted-bytes, instruction-bytes}
 use Rattle.pod.specs.Descs.{desc-operand, desc-instruction}
 use Rattle.pod.specs.declared.InstructionDesc.{InstructionDesc}
-use Rattle.buffer.proofs.Digits.{length-bytes}
+use Rattle.pod.proofs.Sizes.{length-bytes}
 use Rattle.writer.specs.Forms.{operands-bytes, tail-bytes}
 use Rattle.writer.proofs.Laid.{Laid, laid-field, laid-then}
 use Rattle.writer.proofs.Name.{size-name}

@@ -24,11 +24,6 @@ pub struct Written {
     pub size: u64,
 }
 
-// Document 01's 16 MiB.
-const MOST_LENT: usize = 16777216;
-
-const IMAGE_FULL: u8 = 11;
-
 // The bits of a number in two's complement.
 pub fn bits32(v: i32) -> u32
     ensures { λ r. ⌜ r ≡ ofZ w32 v ⌝ }
@@ -212,7 +207,7 @@ fn refusal(e: u8) -> Written
 pub fn write_instruction(value: InstructionDesc, image: &mut [u8]) -> Written
     ensures { λ r. ⌜ (r ≡ write-answer (writing (length (now (image .entry))) value)) × (now (image .exit) ≡ written-over (now (image .entry)) (writing (length (now (image .entry))) value)) ⌝ }
 {
-    if MOST_LENT < image.len() {
+    if fields::MOST_LENT < image.len() {
         return refusal(fields::LENDING_TOO_LARGE);
     }
     if 48 < value.op {
@@ -230,7 +225,7 @@ pub fn write_instruction(value: InstructionDesc, image: &mut [u8]) -> Written
     }
     let size = instruction_size(value);
     if image.len() < size {
-        return refusal(IMAGE_FULL);
+        return refusal(fields::IMAGE_FULL);
     }
     put_instruction(value, image);
     Written {

@@ -1,6 +1,6 @@
 -- A list of vips passed over: its count, and then the run.
 use Rattle.fields.proofs.Chain.{far-past, far-refused}
-use Rattle.fields.proofs.Steps.{skip-on-u32, skip-off-u32}
+use Rattle.fields.proofs.Steps.{skips}
 use borrow.Author.Needs.{needs}
 use Rattle.block.proofs.then_vips.Statement.{statement}
 use Rattle.block.proofs.then_vips.Tie as tie
@@ -28,18 +28,13 @@ enum-told : tie.Need-enum-told
 enum-told c = search needs
 
 returns : tie.Need-returns
-returns c =
-    far-past _ (c .before .before .before .before .before .far .given .1)
-    (skip-off-u32 _ (c .before .e .given .1) (c .before .before .before .u32-at .ensures))
+returns c = search (needs, skips, far-past)
 
 returns-2 : tie.Need-returns-2
-returns-2 c =
-    let k = c .before in
-    far-past _ (k .before .before .before .before .before .far .given .1)
-    (skip-on-u32 _ (k .before .count .given .1) (k .before .before .before .u32-at .ensures) (c .vips-run .ensures))
+returns-2 c = search (needs, skips, far-past)
 
 returns-3 : tie.Need-returns-3
-returns-3 c = far-refused _ (c .enum-told .given .1)
+returns-3 c = search (needs, far-refused)
 
 pub then-vips-spec : {M : Type 1} → statement M
 then-vips-spec =

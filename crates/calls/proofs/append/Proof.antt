@@ -1,9 +1,7 @@
 -- `calls::append` meets its contract: where the inspection refuses, so does the step, and else the state is what the edit's function asks for.
 -- Assumes nothing.
 use borrow.Author.Needs.{needs}
-use Rattle.machine.specs.Edits.{append}
-use Rattle.machine.specs.Machine.{edit}
-use Rattle.calls.proofs.Inspected as I
+use Rattle.calls.proofs.Inspected.{sound, spoiled}
 use Rattle.calls.proofs.append.Statement.{statement}
 use Rattle.calls.proofs.append.Tie as tie
 
@@ -17,12 +15,10 @@ same-length-2 : tie.Need-same-length-2
 same-length-2 c = search needs
 
 returns : tie.Need-returns
-returns c = let i = c .before in let s = i .before .before .before .before .before .before in
-    I.spoiled _ _ _ _ (i .inspect .ensures) (edit (append (s .args .vip .0) (s .args .instruction .now))) (c .if1 .taken)
+returns c = search (needs, spoiled)
 
 append-requires : tie.Need-append-requires
-append-requires c κs = let e = c .before .before in let i = e .before in let k = i .before .before .before .before in
-    I.sound _ _ _ _ (i .inspect .ensures) (k .before .slice-known .given) (e .if1 .left)
+append-requires c κs = search (needs, sound)
 
 same-length-3 : tie.Need-same-length-3
 same-length-3 c = search needs

@@ -1,8 +1,7 @@
 -- `calls::undo` meets its contract: where the inspection refuses, so does the step, and else the state is what the edit's function asks for.
 -- Assumes nothing.
 use borrow.Author.Needs.{needs}
-use Rattle.machine.specs.Machine.{undo}
-use Rattle.calls.proofs.Inspected as I
+use Rattle.calls.proofs.Inspected.{sound, spoiled}
 use Rattle.calls.proofs.undo.Statement.{statement}
 use Rattle.calls.proofs.undo.Tie as tie
 
@@ -16,11 +15,10 @@ same-length-2 : tie.Need-same-length-2
 same-length-2 c = search needs
 
 returns : tie.Need-returns
-returns c = let i = c .before in I.spoiled _ _ _ _ (i .inspect .ensures) (undo) (c .if1 .taken)
+returns c = search (needs, spoiled)
 
 undo-requires : tie.Need-undo-requires
-undo-requires c κs = let e = c .before .before in let i = e .before in let k = i .before .before .before in
-    I.sound _ _ _ _ (i .inspect .ensures) (k .before .slice-known .given) (e .if1 .left)
+undo-requires c κs = search (needs, sound)
 
 same-length-3 : tie.Need-same-length-3
 same-length-3 c = search needs

@@ -1,7 +1,5 @@
 -- What follows the name of a listed operation: the count, and then the test of it.
-use mathlib.Core.Path.{refl}
-use borrow.Author.Tests.{eq-eqb, ne-eqb}
-use Rattle.fields.proofs.Steps.{on-check, off-check, on-u32, off-u32}
+use Rattle.fields.proofs.Steps.{steps}
 use Rattle.instruction.specs.Listed.{listed}
 use borrow.Author.Needs.{needs}
 use Rattle.instruction.proofs.listed_at.Statement.{statement}
@@ -24,19 +22,15 @@ cast-if1 c = search needs
 
 returns : tie.Need-returns
 unfolding listed
-returns c = off-u32 _ (c .before .e .given .1) (c .before .before .before .u32-at .ensures)
+returns c = search (needs, steps)
 
 returns-2 : tie.Need-returns-2
 unfolding listed
-returns-2 c =
-    let k = c .before in
-    on-u32 _ (k .before .count .given .1) (k .before .before .before .u32-at .ensures) (on-check _ _ _ (eq-eqb _ _ (c .if1 .taken)) refl)
+returns-2 c = search (needs, steps)
 
 returns-3 : tie.Need-returns-3
 unfolding listed
-returns-3 c =
-    let k = c .before in
-    on-u32 _ (k .before .count .given .1) (k .before .before .before .u32-at .ensures) (off-check _ _ _ (ne-eqb _ _ (c .if1 .left)))
+returns-3 c = search (needs, steps)
 
 pub listed-at-spec : {M : Type 1} → statement M
 listed-at-spec =

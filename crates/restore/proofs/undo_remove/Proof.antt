@@ -1,7 +1,7 @@
 -- `restore::undo_remove` meets its contract: each return is what taking back a removal is at the tests made so far. A state holds one routine, so
 -- that of `requires` is every one that it holds.
 -- Assumes nothing.
-use mathlib.Core.Path.{_≡_, sym, ap, _∙_}
+use mathlib.Core.Path.{_≡_, sym, _∙_}
 use mathlib.Core.Bool.{true}
 use mathlib.Core.List.{List}
 use Prim.Native.Nat.{ℕ, _-_, _≤_}
@@ -15,7 +15,7 @@ use Rattle.machine.specs.Book.{State, held, restored}
 use Rattle.machine.specs.Journal as journal
 use Rattle.book.specs.Says.{state}
 use Rattle.book.specs.Holding.{Sound}
-use Rattle.image.proofs.Inspects.{sound-held, sound-holding}
+use Rattle.image.proofs.Inspects.{of-held, sound-holding}
 use Rattle.trailer.specs.Says.{trailer-of}
 use Rattle.restore.specs.Blocks.{may-enter}
 use Rattle.restore.specs.Entering.{Entering}
@@ -39,11 +39,8 @@ T s = trailer-of (s .args .last)
 abbrev gives : tie.Start → Routine → Answer × State
 gives s r = restored (L s) (journal.undo-remove (length (s .args .image .now)) r (take (s .args .book .used - 20) (s .args .journal .now)) (T s))
 
-one-routine : (s : State) (a b : Routine) → held s ≡ accepted a → held s ≡ accepted b → a ≡ b
-one-routine s a b p q = cc
-
 over : (s : tie.Start) (x : Answer × State) → x ≡ gives s (R s) → (r : Routine) → held (L s) ≡ accepted r → x ≡ gives s r
-over s x e r h = e ∙ ap (gives s) (one-routine (L s) (R s) r (sound-held (sound s)) h)
+over s x = of-held (gives s) (sound s)
 
 abbrev start : tie.Else1 → tie.Start
 start c = c .before .before .before .before

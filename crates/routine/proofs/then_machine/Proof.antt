@@ -1,9 +1,6 @@
 -- The machine byte passed over: the field's answer, and then the test of it.
-use mathlib.Core.Path.{_≡_, sym, ap, _∙_}
-use borrow.Author.Tests.{le-leb, lt-leb}
-use Rattle.fields.specs.Parse.{bind, choose}
 use Rattle.fields.proofs.Chain.{far-past, far-refused}
-use Rattle.fields.proofs.Steps.{on-u8, off-u8}
+use Rattle.fields.proofs.Steps.{steps}
 use Rattle.routine.specs.Header.{machine-byte}
 use borrow.Author.Needs.{needs}
 use Rattle.routine.proofs.then_machine.Statement.{statement}
@@ -29,26 +26,18 @@ enum-told c = search needs
 
 returns : tie.Need-returns
 unfolding machine-byte
-returns c =
-    far-past _ (c .before .before .before .before .before .far .given .1)
-    (off-u8 _ (c .before .e .given .1) (c .before .before .before .u8-at .ensures))
+returns c = search (needs, steps, far-past)
 
 returns-2 : tie.Need-returns-2
-unfolding machine-byte choose
-returns-2 c =
-    let k = c .before in
-    far-past _ (k .before .before .before .before .before .far .given .1)
-    (on-u8 _ (k .before .machine .given .1) (k .before .before .before .u8-at .ensures) (rw (le-leb _ _ (c .if1 .taken))))
+unfolding machine-byte
+returns-2 c = search (needs, steps, far-past)
 
 returns-3 : tie.Need-returns-3
-unfolding machine-byte choose
-returns-3 c =
-    let k = c .before in
-    far-past _ (k .before .before .before .before .before .far .given .1)
-    (on-u8 _ (k .before .machine .given .1) (k .before .before .before .u8-at .ensures) (rw (lt-leb _ _ (c .if1 .left))))
+unfolding machine-byte
+returns-3 c = search (needs, steps, far-past)
 
 returns-4 : tie.Need-returns-4
-returns-4 c = far-refused _ (c .enum-told .given .1)
+returns-4 c = search (needs, far-refused)
 
 pub then-machine-spec : {M : Type 1} → statement M
 then-machine-spec =

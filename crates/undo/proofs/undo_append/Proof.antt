@@ -16,12 +16,11 @@ use Rattle.machine.specs.Book.{State, held, restored}
 use Rattle.book.specs.Says.{state}
 use Rattle.book.specs.Holding.{block-start}
 use Rattle.trailer.specs.Says.{trailer-of}
-use Rattle.image.proofs.Inspects.{sound-holding}
+use Rattle.image.proofs.Inspects.{of-held, sound-holding}
 use Rattle.image.proofs.Stands.{block-holds, block-word}
 use Rattle.image.proofs.Parts.{stands-here}
 use Rattle.edits.proofs.Cuts.{the-block, behind, code-of}
 use Rattle.edits.proofs.Stands.{ends-within, count-read}
-use Rattle.undo.proofs.Restores.{the-same}
 use Rattle.undo.proofs.Unappends.{front, final, code-sum}
 use Rattle.undo.proofs.Unappends as U
 use borrow.Author.Needs.{needs}
@@ -43,7 +42,7 @@ B s = the-block (R s) (T s .place)
 
 -- of every routine that is held
 over : (s : tie.Start) (x : Answer × State) → x ≡ restored (S s) (undo-append (R s) (T s)) → (r : Routine) → held (S s) ≡ accepted r → x ≡ restored (S s) (undo-append r (T s))
-over s x e r h = e ∙ ap (λ q. restored (S s) (undo-append q (T s))) (the-same (s .pre .0 .sound) h)
+over s x = of-held (λ q. restored (S s) (undo-append q (T s))) (s .pre .0 .sound)
 
 lent : (s : tie.Start) → (s .args .book .written ≤ length (s .args .image .now)) × (length (s .args .image .now) ≤ 16777216)
 lent s = let o = s .pre .0 .sound in (omega (arith, o .written, o .room), o .image-lent)

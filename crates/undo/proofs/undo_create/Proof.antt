@@ -1,6 +1,6 @@
 -- `undo::undo_create` meets its contract: each answer is one law of taking back a create, with what the image's readers tell of the routine held.
 -- Assumes nothing.
-use mathlib.Core.Path.{_≡_, sym, ap, _∙_}
+use mathlib.Core.Path.{_≡_, sym, _∙_}
 use native.Mathlib.Omega.{arith}
 use Prim.Native.Nat.{_+_, _≤_, _<_}
 use lib.ListN.{length}
@@ -16,10 +16,10 @@ use Rattle.laws.proofs.Sizes.{routine-size}
 use Rattle.book.specs.Says.{state}
 use Rattle.book.specs.Holding.{blocks-start, block-start}
 use Rattle.trailer.specs.Says.{trailer-of}
-use Rattle.image.proofs.Inspects.{sound-holding}
+use Rattle.image.proofs.Inspects.{of-held, sound-holding}
 use Rattle.image.proofs.Stands.{block-holds, block-word}
 use Rattle.image.proofs.Parts.{stands-here}
-use Rattle.undo.proofs.Restores.{the-same, block-fits}
+use Rattle.undo.proofs.Restores.{block-fits}
 use Rattle.undo.proofs.Uncreates as U
 use borrow.Author.Needs.{needs}
 use Rattle.undo.proofs.undo_create.Statement.{statement}
@@ -40,7 +40,7 @@ B s = block-at (s .args .last .place) (R s .explored-blocks)
 
 -- of every routine that is held
 over : (s : tie.Start) (x : Answer × State) → x ≡ restored (S s) (undo-create (R s) (T s)) → (r : Routine) → held (S s) ≡ accepted r → x ≡ restored (S s) (undo-create r (T s))
-over s x e r h = e ∙ ap (λ q. restored (S s) (undo-create q (T s))) (the-same (s .pre .0 .sound) h)
+over s x = of-held (λ q. restored (S s) (undo-create q (T s))) (s .pre .0 .sound)
 
 lent : (s : tie.Start) → s .args .book .written ≤ length (s .args .image .now)
 lent s = let o = s .pre .0 .sound in omega (arith, o .written, o .room)

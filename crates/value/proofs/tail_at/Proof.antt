@@ -1,6 +1,6 @@
 -- `value::tail_at` meets its contract, one field after the other.
 -- Assumes nothing.
-use Rattle.fields.proofs.Steps.{on-u64, off-u64, on-i64, off-i64, on-u32, off-u32, on-u8, off-u8}
+use Rattle.fields.proofs.Steps.{steps, on-u64, on-i64, on-u32, on-u8}
 use mathlib.Core.Path.{refl}
 use Rattle.value.specs.Tail.{tail}
 use Rattle.value.proofs.Parts.{tail-stands}
@@ -52,31 +52,19 @@ enum-known-sp-reset c = search needs
 
 returns : tie.Need-returns
 unfolding tail
-returns c = off-u64 _ (c .before .e .given .1) (c .before .before .before .u64-at .ensures)
+returns c = search (needs, steps)
 
 returns-2 : tie.Need-returns-2
 unfolding tail
-returns-2 c =
-    let v = c .before .before .before .before in
-    on-u64 _ (v .before .vip .given .1) (v .before .before .before .u64-at .ensures) (off-i64 _ (c .before .e2 .given .1) (c .before .before .before .i64-at .ensures))
+returns-2 c = search (needs, steps)
 
 returns-3 : tie.Need-returns-3
 unfolding tail
-returns-3 c =
-    let z = c .before .before .before .before in
-    let v = z .before .before .before .before in
-    on-u64 _ (v .before .vip .given .1) (v .before .before .before .u64-at .ensures)
-    (on-i64 _ (z .before .sp-offset .given .1) (z .before .before .before .i64-at .ensures) (off-u32 _ (c .before .e3 .given .1) (c .before .before .before .u32-at .ensures)))
+returns-3 c = search (needs, steps)
 
 returns-4 : tie.Need-returns-4
 unfolding tail
-returns-4 c =
-    let i = c .before .before .before .before in
-    let z = i .before .before .before .before in
-    let v = z .before .before .before .before in
-    on-u64 _ (v .before .vip .given .1) (v .before .before .before .u64-at .ensures)
-    (on-i64 _ (z .before .sp-offset .given .1) (z .before .before .before .i64-at .ensures)
-    (on-u32 _ (i .before .sp-index .given .1) (i .before .before .before .u32-at .ensures) (off-u8 _ (c .before .e4 .given .1) (c .before .before .before .u8-at .ensures))))
+returns-4 c = search (needs, steps) depth 7
 
 returns-5 : tie.Need-returns-5
 unfolding tail

@@ -25,12 +25,10 @@ loop-less : tie.Need-loop-less Inv-loop μ-loop
 loop-less c = search needs
 
 loop-again : tie.Need-loop-again Inv-loop μ-loop
-loop-again c =
-    let l = c .before in
-    times-next _ _ _ (l .before .loop .inv) (l .loop-test .taken) (c .block-end .ensures)
+loop-again c = search (needs, times-next)
 
 returns : tie.Need-returns Inv-loop μ-loop
-returns c = times-end _ _ _ (c .before .loop .inv) (c .loop-test .left)
+returns c = search (needs, times-end)
 
 pub blocks-end-spec : {M : Type 1} → statement M
 blocks-end-spec =
