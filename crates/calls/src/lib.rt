@@ -56,5 +56,5 @@ pub fn undo(book: Book, image: &mut [u8], journal: &mut [u8]) -> Answer
     if refusal != 0 {
         return Answer { refusal, book };
     }
-    takeback::undo(book, image, journal)
+    undo_last::undo(book, image, journal)
 }

@@ -54,7 +54,7 @@ pub fn create_block(book: Book, image: &mut [u8], journal: &mut [u8], vip: Vip) 
     let start = blocks.start;
     buffer::put_u64(image, written, v);
     buffer::put_u32(image, start - 4, count + 1);
-    trailer::put_trailer(journal, used, v, count, 0, trailer::CREATE);
+    trailer::put_trailer(journal, used, vip, count, 0, trailer::CREATE);
     Answer {
         refusal: 0,
         book: Book {
@@ -88,7 +88,6 @@ fn append_whole(
     requires { ⌜ Held (state (now image) (now journal) book) × Whole (now instruction) ⌝ }
     ensures { λ r. ⌜ outcome r (now (image .exit)) (now (journal .exit)) ≡ step (edit (append (vip .0) (now (instruction .entry)))) (state (now (image .entry)) (now (journal .entry)) book) ⌝ }
 {
-    let v = vip.0;
     let written = book.written as usize;
     let used = book.used as usize;
     let size = instruction.len();
@@ -119,7 +118,14 @@ fn append_whole(
     buffer::move_within(image, end, end + size, written - end);
     put_instruction(image, end, instruction);
     buffer::put_u32(image, at + COUNT_AT, count + 1);
-    trailer::put_trailer(journal, used, v, place as u32, size as u32, trailer::APPEND);
+    trailer::put_trailer(
+        journal,
+        used,
+        vip,
+        place as u32,
+        size as u32,
+        trailer::APPEND,
+    );
     Answer {
         refusal: 0,
         book: Book {

@@ -42,7 +42,6 @@ pub fn remove_block(book: Book, image: &mut [u8], journal: &mut [u8], vip: Vip) 
     requires { ⌜ Held (state (now image) (now journal) book) ⌝ }
     ensures { λ r. ⌜ outcome r (now (image .exit)) (now (journal .exit)) ≡ step (edit (remove (vip .0))) (state (now (image .entry)) (now (journal .entry)) book) ⌝ }
 {
-    let v = vip.0;
     let written = book.written as usize;
     let used = book.used as usize;
     let spot = image::find(image, vip);
@@ -66,7 +65,7 @@ pub fn remove_block(book: Book, image: &mut [u8], journal: &mut [u8], vip: Vip) 
     trailer::put_trailer(
         journal,
         used + size,
-        v,
+        vip,
         place as u32,
         size as u32,
         trailer::REMOVE,

@@ -24,14 +24,14 @@ use pod::Vip;
 use trailer::Trailer;
 
 // Whether `s` is exactly one block in written form, with the vip.
-fn is_block(s: &[u8], vip: u64) -> bool
-    ensures { λ r. ⌜ r ≡ is-block vip (now (s .entry)) ⌝ }
+fn is_block(s: &[u8], vip: Vip) -> bool
+    ensures { λ r. ⌜ r ≡ is-block (vip .0) (now (s .entry)) ⌝ }
 {
     match block::block_skip(s, 0, true) {
         Skip::Refused(_) => false,
         Skip::Past(end) => {
             if end == s.len() {
-                fields::eight(s, 0) == vip
+                fields::eight(s, 0) == vip.0
             } else {
                 false
             }
@@ -62,14 +62,14 @@ fn put_in(image: &mut [u8], place: usize, written: usize, block: &[u8])
 
 // Whether the bytes of the block may enter the routine that ends at `written`: they are one written block with the vip, no block has it, the place is
 // one of the blocks' or the next, and there is room.
-fn may_enter(image: &[u8], written: usize, block: &[u8], vip: u64, place: u32) -> bool
+fn may_enter(image: &[u8], written: usize, block: &[u8], vip: Vip, place: u32) -> bool
     requires { ⌜ written ≤ length (now image) ⌝ }
-    ensures { λ x. ⌜ ((r : Routine) → Holding (now (image .entry)) r → written ≡ size r → x ≡ may-enter (length (now (image .entry))) r vip place (now (block .entry))) ⌝ }
+    ensures { λ x. ⌜ ((r : Routine) → Holding (now (image .entry)) r → written ≡ size r → x ≡ may-enter (length (now (image .entry))) r (vip .0) place (now (block .entry))) ⌝ }
 {
     if !is_block(block, vip) {
         return false;
     }
-    let spot = image::find(image, Vip(vip));
+    let spot = image::find(image, vip);
     let count = spot.count;
     if spot.place < count as usize {
         return false;

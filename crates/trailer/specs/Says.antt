@@ -7,4 +7,4 @@ abbrev pub named : ℕ → ℕ → ℕ → ℕ → journal.Trailer
 named vip place length kind = record { vip = vip; place = place; length = length; kind = kind }
 
 abbrev pub trailer-of : Trailer → journal.Trailer
-trailer-of t = named (t .vip) (t .place) (t .length) (t .kind)
+trailer-of t = named (t .vip .0) (t .place) (t .length) (t .kind)

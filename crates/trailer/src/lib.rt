@@ -9,10 +9,11 @@ ghost use Rattle.fields.specs.Parse.{ok};
 ghost use Rattle.fields.specs.Bytes.{put};
 ghost use Rattle.machine.specs.Journal.{trailer, trailer-bytes};
 ghost use Rattle.trailer.specs.Says.{named, trailer-of};
+use pod::Vip;
 
 // `place` is the block's, and `length` the size of what was removed or appended.
 pub struct Trailer {
-    pub vip: u64,
+    pub vip: Vip,
     pub place: u32,
     pub length: u32,
     pub kind: u32,
@@ -28,11 +29,11 @@ pub const REMOVE: u32 = 2;
 
 pub const APPEND: u32 = 3;
 
-pub fn put_trailer(journal: &mut [u8], at: usize, vip: u64, place: u32, size: u32, kind: u32)
+pub fn put_trailer(journal: &mut [u8], at: usize, vip: Vip, place: u32, size: u32, kind: u32)
     requires { ⌜ at + 20 ≤ length (now journal) ⌝ }
-    ensures { λ _. ⌜ now (journal .exit) ≡ put at (trailer-bytes (named vip place size kind)) (now (journal .entry)) ⌝ }
+    ensures { λ _. ⌜ now (journal .exit) ≡ put at (trailer-bytes (named (vip .0) place size kind)) (now (journal .entry)) ⌝ }
 {
-    buffer::put_u64(journal, at, vip);
+    buffer::put_u64(journal, at, vip.0);
     buffer::put_u32(journal, at + 8, place);
     buffer::put_u32(journal, at + 12, size);
     buffer::put_u32(journal, at + 16, kind);
@@ -42,10 +43,14 @@ pub fn read_trailer(journal: &[u8], at: usize) -> Trailer
     requires { ⌜ at + 20 ≤ length (now journal) ⌝ }
     ensures { λ r. ⌜ trailer (now (journal .entry)) at ≡ ok (trailer-of r) (at + 20) ⌝ }
 {
+    let vip = Vip(fields::eight(journal, at));
+    let place = fields::four(journal, at + 8) as u32;
+    let length = fields::four(journal, at + 12) as u32;
+    let kind = fields::four(journal, at + 16) as u32;
     Trailer {
-        vip: fields::eight(journal, at),
-        place: fields::four(journal, at + 8) as u32,
-        length: fields::four(journal, at + 12) as u32,
-        kind: fields::four(journal, at + 16) as u32,
+        vip,
+        place,
+        length,
+        kind,
     }
 }

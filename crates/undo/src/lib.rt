@@ -77,7 +77,7 @@ pub fn undo_create(book: Book, image: &mut [u8], journal: &mut [u8], last: Trail
         };
     }
     let at = image::block_offset(image, place as usize);
-    if walk::word64(image, at) != last.vip {
+    if walk::word64(image, at) != last.vip.0 {
         return Answer {
             refusal: book::SPOILED_BOOK,
             book,
@@ -118,7 +118,7 @@ pub fn undo_append(book: Book, image: &mut [u8], journal: &mut [u8], last: Trail
         };
     }
     let at = image::block_offset(image, place as usize);
-    if walk::word64(image, at) != last.vip {
+    if walk::word64(image, at) != last.vip.0 {
         return Answer {
             refusal: book::SPOILED_BOOK,
             book,

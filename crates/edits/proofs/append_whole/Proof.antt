@@ -167,11 +167,11 @@ cast-put-trailer-2 c = let s = (c .before .before .before .before .before .befor
 put-trailer-requires : tie.Need-put-trailer-requires
 put-trailer-requires c κs = search needs
 
-add-t20 : tie.Need-add-t20
-add-t20 c = let s = (c .before .before .before .before .before .before .before .before .before .before .before .before .before .before .before .before .before .before .before .before .before .before .before .before .before .before .before .before .before) in omega (arith, c .before .before .before .before .before .before .before .before .before .before .before .before .before .before .before .before .before .before .before .before .if3 .left, s .pre .0 .sound .used, s .pre .0 .sound .journal-lent)
+add-t19 : tie.Need-add-t19
+add-t19 c = let s = (c .before .before .before .before .before .before .before .before .before .before .before .before .before .before .before .before .before .before .before .before .before .before .before .before .before .before .before .before .before) in omega (arith, c .before .before .before .before .before .before .before .before .before .before .before .before .before .before .before .before .before .before .before .before .if3 .left, s .pre .0 .sound .used, s .pre .0 .sound .journal-lent)
 
-add-t18 : tie.Need-add-t18
-add-t18 c = let s = (c .before .before .before .before .before .before .before .before .before .before .before .before .before .before .before .before .before .before .before .before .before .before .before .before .before .before .before .before .before) in omega (arith, c .before .before .before .before .before .before .before .before .before .before .before .before .before .before .before .before .before .before .before .before .before .if2 .left, lent s .0, lent s .1)
+add-t17 : tie.Need-add-t17
+add-t17 c = let s = (c .before .before .before .before .before .before .before .before .before .before .before .before .before .before .before .before .before .before .before .before .before .before .before .before .before .before .before .before .before) in omega (arith, c .before .before .before .before .before .before .before .before .before .before .before .before .before .before .before .before .before .before .before .before .before .if2 .left, lent s .0, lent s .1)
 
 same-length-4 : tie.Need-same-length-4
 same-length-4 c = search needs
@@ -215,8 +215,8 @@ append-whole-spec =
     cast-put-trailer
     cast-put-trailer-2
     put-trailer-requires
-    add-t20
-    add-t18
+    add-t19
+    add-t17
     same-length-4
     same-length-5
     returns-4)

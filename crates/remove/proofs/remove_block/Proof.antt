@@ -137,14 +137,14 @@ put-trailer-requires c κs = search needs
 take-out-requires : tie.Need-take-out-requires
 take-out-requires c κs = let u = c .before .before .before .before .before .before .before .before .before .before .before .before in let s = start (found (passed u)) in record { r = R s; i = P s; leaving = leaving u }
 
-sub-t15 : tie.Need-sub-t15
-sub-t15 c = omega (arith, ends (c .before .before .before .before .before .before .before .before .before .before .before .before .before .before .before), in-image (c .before .before .before .before .before .before .before .before .before .before .before .before .before .before .before))
-
-add-t20 : tie.Need-add-t20
-add-t20 c = search needs
+sub-t14 : tie.Need-sub-t14
+sub-t14 c = omega (arith, ends (c .before .before .before .before .before .before .before .before .before .before .before .before .before .before .before), in-image (c .before .before .before .before .before .before .before .before .before .before .before .before .before .before .before))
 
 add-t19 : tie.Need-add-t19
 add-t19 c = search needs
+
+add-t18 : tie.Need-add-t18
+add-t18 c = search needs
 
 same-length-3 : tie.Need-same-length-3
 same-length-3 c = search needs
@@ -187,9 +187,9 @@ remove-block-spec =
     cast-put-trailer-2
     put-trailer-requires
     take-out-requires
-    sub-t15
-    add-t20
+    sub-t14
     add-t19
+    add-t18
     same-length-3
     same-length-4
     returns-3)

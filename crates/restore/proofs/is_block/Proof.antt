@@ -30,7 +30,7 @@ returns : tie.Need-returns
 returns c = W.not-read _ _ (sym (ap of-skip (c .enum-told .given .1)) ∙ c .before .before .block-skip .ensures)
 
 returns-2 : tie.Need-returns-2
-returns-2 c = let k = c .before .before in W.by-vip _ _ (k .before .before .before .before .shared-slice-known .given) (ends k) (c .before .if1 .taken) _ (c .eight .ensures)
+returns-2 c = let e = c .before in let k = e .before .before in W.by-vip _ _ (k .before .before .before .before .shared-slice-known .given) (ends k) (e .before .if1 .taken) _ (e .eight .ensures)
 
 returns-3 : tie.Need-returns-3
 returns-3 c = W.not-all _ _ (ends (c .before)) (c .if1 .left)

@@ -16,10 +16,10 @@ use Rattle.restore.proofs.may_enter.Tie as tie
 abbrev start : tie.Else1 → tie.Start
 start c = c .before .before .before .before
 
-whole : (c : tie.Else1) → is-block (start c .args .vip) (start c .args .block .now) ≡ true
+whole : (c : tie.Else1) → is-block (start c .args .vip .0) (start c .args .block .now) ≡ true
 whole c = sym (c .before .is-block .ensures) ∙ not-false _ (c .if1 .left)
 
-spotted : (c : tie.After-find) (r : Routine) → Holding (start (c .before) .args .image .now) r → Spotted r (start (c .before) .args .vip) (c .find .result)
+spotted : (c : tie.After-find) (r : Routine) → Holding (start (c .before) .args .image .now) r → Spotted r (start (c .before) .args .vip .0) (c .find .result)
 spotted c r h = c .find .ensures r h
 
 is-block-requires : tie.Need-is-block-requires

@@ -32,7 +32,7 @@ same-length c = search needs
 returns : tie.Need-returns
 returns c =
     let s = c .before .before .before .before .before .before .before .before .before .before .before .before .before .before .before .before .before in
-    cc (put-fields (s .args .at) (s .args .vip) (s .args .place) (s .args .size) (s .args .kind) (s .args .journal .now) (s .pre))
+    cc (put-fields (s .args .at) (s .args .vip .0) (s .args .place) (s .args .size) (s .args .kind) (s .args .journal .now) (s .pre))
 
 pub put-trailer-spec : {M : Type 1} → statement M
 put-trailer-spec =

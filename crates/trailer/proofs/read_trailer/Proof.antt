@@ -16,8 +16,8 @@ add-four c = search needs
 four-requires : tie.Need-four-requires
 four-requires c κs = search needs
 
-cast-t6 : tie.Need-cast-t6
-cast-t6 c = record { fits = rw (c .four .ensures) (le-lt 4 _ _ (c .before .before .shared-slice-known .given)) }
+cast-place : tie.Need-cast-place
+cast-place c = record { fits = rw (c .four .ensures) (le-lt 4 _ _ (c .before .before .shared-slice-known .given)) }
 
 add-four-2 : tie.Need-add-four-2
 add-four-2 c = search needs
@@ -25,8 +25,8 @@ add-four-2 c = search needs
 four-requires-2 : tie.Need-four-requires-2
 four-requires-2 c κs = search needs
 
-cast-t9 : tie.Need-cast-t9
-cast-t9 c = record { fits = rw (c .four2 .ensures) (le-lt 4 _ _ (c .before .before .before .shared-slice-known .given)) }
+cast-length : tie.Need-cast-length
+cast-length c = record { fits = rw (c .four2 .ensures) (le-lt 4 _ _ (c .before .before .before .shared-slice-known .given)) }
 
 add-four-3 : tie.Need-add-four-3
 add-four-3 c = search needs
@@ -34,8 +34,8 @@ add-four-3 c = search needs
 four-requires-3 : tie.Need-four-requires-3
 four-requires-3 c κs = search needs
 
-cast-t12 : tie.Need-cast-t12
-cast-t12 c = record { fits = rw (c .four3 .ensures) (le-lt 4 _ _ (c .before .before .before .before .shared-slice-known .given)) }
+cast-kind : tie.Need-cast-kind
+cast-kind c = record { fits = rw (c .four3 .ensures) (le-lt 4 _ _ (c .before .before .before .before .shared-slice-known .given)) }
 
 returns : tie.Need-returns
 returns c =
@@ -50,11 +50,11 @@ read-trailer-spec =
     eight-requires
     add-four
     four-requires
-    cast-t6
+    cast-place
     add-four-2
     four-requires-2
-    cast-t9
+    cast-length
     add-four-3
     four-requires-3
-    cast-t12
+    cast-kind
     returns)

@@ -1,4 +1,4 @@
--- `takeback::undo` meets its contract: the state holds a routine, and each return is what taking back is at the tests made so far and the kind read.
+-- `undo_last::undo` meets its contract: the state holds a routine, and each return is what taking back is at the tests made so far and the kind read.
 -- Assumes nothing.
 use mathlib.Core.Path.{_≡_, _∙_}
 use Rattle.fields.specs.Outcome.{accepted}
@@ -7,10 +7,10 @@ use Rattle.machine.specs.Book.{State, held}
 use Rattle.book.specs.Says.{state}
 use Rattle.book.specs.Holding.{Sound}
 use Rattle.image.proofs.Inspects.{sound-held}
-use Rattle.takeback.proofs.Entry as K
+use Rattle.undo_last.proofs.Entry as K
 use borrow.Author.Needs.{needs}
-use Rattle.takeback.proofs.undo.Statement.{statement}
-use Rattle.takeback.proofs.undo.Tie as tie
+use Rattle.undo_last.proofs.undo.Statement.{statement}
+use Rattle.undo_last.proofs.undo.Tie as tie
 
 abbrev L : tie.Start → State
 L s = state (s .args .image .now) (s .args .journal .now) (s .args .book)
