@@ -1,33 +1,14 @@
--- A run of parts that are passed over, and the block passed over part by part.
+-- The block, passed over part by part.
 -- Assumes nothing.
-use mathlib.Core.Path.{_≡_, refl, sym, ap, _∙_}
+use mathlib.Core.Path.{_≡_, refl}
 use mathlib.Core.Bool.{Bool}
 use mathlib.Core.List.{List}
-use Prim.Native.Nat.{ℕ, _-_, _<_}
-use native.Mathlib.Omega.{arith}
+use Prim.Native.Nat.{ℕ}
 use mir.Syntax.{w64}
-use Rattle.fields.specs.Parse.{Res, ok, no, Reader, bind, span, uint, int, many, counted, u64}
+use Rattle.fields.specs.Parse.{Res, ok, Reader, bind, span, uint, int, counted, u64}
 use Rattle.fields.proofs.Chain.{chain, chain-map}
-use Rattle.fields.proofs.Many.{run-next, run-stop}
+pub use Rattle.fields.proofs.Many.{skip-next, skip-stop}
 use Rattle.pod.specs.Layout.{instruction, block}
-
--- `Many`'s laws, where only the span of the next is known
-module _ {A : Type 0} (p : Reader A) (n : ℕ) (s : List ℕ) (o : ℕ) {q : Res Unit} (inv : span (many p n s o) ≡ q) (h : 0 < n) where
-  pub skip-next : {m : ℕ} → ok tt m ≡ span (p s o) → span (many p (n - 1) s m) ≡ q
-  unfolding span
-  skip-next {m} e = go (p s o) refl e
-    where
-      go : (r : Res A) → p s o ≡ r → ok tt m ≡ span r → span (many p (n - 1) s m) ≡ q
-      go (ok a k) g e = let z : m ≡ k = cc in rw z (run-next p n s o inv h g)
-      go (no k) g e = let z : _≡_ {A = ℕ} 0 1 = cc in absurd (omega arith)
-
-  pub skip-stop : {k : ℕ} → no k ≡ span (p s o) → no k ≡ q
-  unfolding span
-  skip-stop {k} e = go (p s o) refl e
-    where
-      go : (r : Res A) → p s o ≡ r → no k ≡ span r → no k ≡ q
-      go (ok a m) g e = let z : _≡_ {A = ℕ} 0 1 = cc in absurd (omega arith)
-      go (no j) g e = let z : k ≡ j = cc in rw z (run-stop p n s o inv h g)
 
 module _ (exact : Bool) (s : List ℕ) (o : ℕ) where
   abbrev next : ℕ → Res Unit → Res Unit

@@ -5,9 +5,9 @@ use mathlib.Core.Path.{_≡_, refl, sym, ap, _∙_}
 use mathlib.Core.List.{List, [], _++_, append-assoc}
 use Prim.Native.Nat.{ℕ, _+_, _-_, _≤_}
 use native.Mathlib.Omega.{arith}
-use lib.ListN.{length, take, drop, length-append, length-take, length-drop, take-append-drop}
+use lib.ListN.{length, take, drop, length-append, length-take, length-drop, take-append-drop, replicate-append-replicate}
 use lib.Seq.{take-at, drop-at, length-take-le, take-append-le, drop-append-le, drop-drop, take-take}
-use Rattle.fields.specs.Bytes.{put}
+use Rattle.fields.specs.Bytes.{put, zeros}
 
 -- a part of the first of two lists
 in-front : (m k : ℕ) (p q : List ℕ) → m + k ≤ length p → take k (drop m (p ++ q)) ≡ take k (drop m p)
@@ -157,3 +157,7 @@ closed A X T B Z n m k ha hm hk hz =
     ∙ ap (put (n + k) Z) (p ∙ sym (append-assoc A T (U ++ B)))
     ∙ put-parts (A ++ T) Z U B (n + k) (omega (arith, length-append A T)) lu
     ∙ append-assoc A T (Z ++ B)
+
+-- zeros side by side
+pub zeros-join : (k n m : ℕ) → k + n ≡ m → zeros k ++ zeros n ≡ zeros m
+zeros-join k n m h = replicate-append-replicate k n 0 ∙ ap zeros h

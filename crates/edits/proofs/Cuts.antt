@@ -5,12 +5,13 @@ use mathlib.Core.Path.{_≡_, sym, ap, _∙_}
 use mathlib.Core.List.{List, _∷_, _++_, append-assoc}
 use Prim.Native.Nat.{ℕ, suc, _+_, _≤_, _<_}
 use native.Mathlib.Omega.{arith}
-use lib.ListN.{length, take, drop, length-append, replicate-append-replicate}
+use lib.ListN.{length, take, drop, length-append}
 use lib.Seq.{split-at}
 use Rattle.fields.specs.Bytes.{zeros}
 use Rattle.pod.specs.Values.{Instruction, BasicBlock, Routine}
 use Rattle.pod.specs.Written.{bytes, many-bytes, counted-bytes, instruction-bytes, block-head-bytes, block-bytes, routine-head-bytes, routine-bytes}
 use Rattle.laws.proofs.Back.{length-bytes}
+use Rattle.buffer.proofs.Put.{zeros-join}
 use Rattle.laws.proofs.Place.{many-append}
 use Rattle.laws.proofs.Sizes.{block-head-size, vips-size}
 use Rattle.machine.specs.Edits.{block-at, with-instructions, with-blocks}
@@ -19,7 +20,7 @@ use Rattle.machine.proofs.Parts.{routine-parts}
 use Rattle.book.specs.Holding.{block-start}
 
 pub zeros-split : (n k m : ℕ) → n ≡ k + m → zeros n ≡ zeros k ++ zeros m
-zeros-split n k m h = ap zeros h ∙ sym (replicate-append-replicate k m 0)
+zeros-split n k m h = sym (zeros-join k m n (sym h))
 
 -- what follows a block's instructions in it
 abbrev pub links : BasicBlock → List ℕ

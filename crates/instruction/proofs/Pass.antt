@@ -3,15 +3,14 @@
 use mathlib.Core.Path.{_≡_, refl, sym, ap, _∙_}
 use mathlib.Core.Bool.{Bool, true}
 use mathlib.Core.List.{List}
-use Prim.Native.Nat.{ℕ, _+_, _-_, _≤_, _<_}
+use Prim.Native.Nat.{ℕ, _+_, _≤_, _<_}
 use native.Mathlib.Omega.{arith}
 use lib.ListN.{length, getD, take, drop}
 use borrow.Author.Tests.{lt-ltb, eq-eqb}
-use Rattle.fields.specs.Parse.{Res, ok, no, Reader, bind, choose, span, le, uint, part, many, taken, flag}
+use Rattle.fields.specs.Parse.{Res, ok, bind, choose, span, le, uint, many, taken, flag}
 use Rattle.fields.proofs.Le.{uint-ok, span-ok}
 use Rattle.fields.proofs.Bound.{bounded-ok, flag-is}
 use Rattle.fields.proofs.Steps.{on-check, on-part}
-use Rattle.fields.proofs.Many.{run-next}
 use Rattle.op.specs.Ops.{number, counts}
 use Rattle.op.proofs.Packed.{text-of}
 use Rattle.pod.specs.Layout.{operand, named, opcode, after, instruction}
@@ -49,16 +48,6 @@ module _ (exact : Bool) (s : List ℕ) (at n k : ℕ) (h : at + 4 + n + 4 ≤ le
       → span (many operand (getD counts k 0) s (at + 4 + n + 4)) ≡ ok tt o → span (instruction exact s at) ≡ ok tt (o + 21)
   unfolding instruction bind
   quick-ok o c g t q = rw (← opcode-ok c) (tail-ok o g t q)
-
--- one more of a run was passed over
-pub pass-next : {A : Type 0} (p : Reader A) (n : ℕ) (s : List ℕ) (o : ℕ) {q : Res Unit} → span (many p n s o) ≡ q → 0 < n → {m : ℕ}
-    → span (p s o) ≡ ok tt m → span (many p (n - 1) s m) ≡ q
-unfolding span
-pass-next {A} p n s o {q} inv h {m} e = go (p s o) refl e
-  where
-    go : (r : Res A) → p s o ≡ r → span r ≡ ok tt m → span (many p (n - 1) s m) ≡ q
-    go (ok a k) g e = let z : m ≡ k = cc in rw z (run-next p n s o inv h g)
-    go (no k) g e = let z : _≡_ {A = ℕ} 0 1 = cc in absurd (omega arith)
 
 -- a listed name's operand count comes next
 pub listed-is : (w : List ℕ) (n r : ℕ) (s : List ℕ) (o : ℕ) → Known w n r → listed r s o ≡ named w s o

@@ -1,6 +1,6 @@
 -- Each way out of an opening, against the definition: what the calls left is what `open-book` says.
 -- Assumes nothing.
-use mathlib.Core.Path.{_≡_, refl, sym, ap, ap₂, _∙_}
+use mathlib.Core.Path.{_≡_, sym, ap, ap₂, _∙_}
 use mathlib.Core.Bool.{Bool, true, false}
 use mathlib.Core.List.{List, _++_, append-nil}
 use Prim.Native.Nat.{ℕ, _+_, _-_, _≤_, _<_}
@@ -13,6 +13,7 @@ use Rattle.fields.specs.Parse.{Res, ok, no, choose, span}
 use Rattle.fields.specs.Bytes.{put, zeros}
 use Rattle.fields.specs.Refusals.{lending-too-large, image-full}
 use Rattle.fields.proofs.Le.{Bytes}
+use Rattle.fields.proofs.Invert.{inv-span, inv-span-no}
 use Rattle.pod.specs.Values.{Routine}
 use Rattle.pod.specs.Layout.{routine, read-file}
 use Rattle.pod.specs.Written.{routine-bytes}
@@ -42,23 +43,13 @@ says-refused e image journal h = rw (ne-eqb e 0 (λ z. omega arith))
 
 -- what was passed over is a routine
 pub passed : (exact : Bool) (s : List ℕ) {n : ℕ} → ok tt n ≡ span (routine exact s 0) → (x : Routine) × (routine exact s 0 ≡ ok x n)
-unfolding span
-passed exact s {n} h = go (routine exact s 0) refl h
-  where
-    go : (r : Res Routine) → routine exact s 0 ≡ r → ok tt n ≡ span r → (x : Routine) × (routine exact s 0 ≡ ok x n)
-    go (ok x m) e h = let z : n ≡ m = cc in (x, e ∙ ap (ok x) (sym z))
-    go (no k) e h = let z : _≡_ {A = ℕ} 0 1 = cc in absurd (omega arith)
+passed exact s h = inv-span (routine exact s 0) h
 
 pub ends : (exact : Bool) (s : List ℕ) → Bytes s → {n : ℕ} → ok tt n ≡ span (routine exact s 0) → n ≤ length s
 ends exact s b h = read-within routine-layout exact b (passed exact s h .1)
 
 pub not-read : (s : List ℕ) {e : ℕ} → no e ≡ span (read-file s) → read-file s ≡ no e
-unfolding span
-not-read s {e} h = go (read-file s) refl h
-  where
-    go : (r : Res Routine) → read-file s ≡ r → no e ≡ span r → read-file s ≡ no e
-    go (ok x m) q h = let z : _≡_ {A = ℕ} 0 1 = cc in absurd (omega arith)
-    go (no k) q h = let z : k ≡ e = cc in q ∙ ap no z
+not-read s h = inv-span-no (read-file s) h
 
 -- what was copied: the file's first n bytes, over those of the image
 module _ (file image copied : List ℕ) (n : ℕ) (f : n ≤ length file) (r : n ≤ length image) (c : copied ≡ put 0 (take n file) image) where

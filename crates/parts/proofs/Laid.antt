@@ -4,7 +4,7 @@ use mathlib.Core.Path.{_≡_, refl, sym, ap, _∙_}
 use mathlib.Core.List.{List, [], _∷_, _++_, append-assoc}
 use Prim.Native.Nat.{ℕ, _+_, _-_}
 use native.Mathlib.Omega.{arith}
-use lib.ListN.{length, length-append, replicate-append-replicate}
+use lib.ListN.{length, length-append}
 use Rattle.fields.specs.Bytes.{zeros, put}
 use Rattle.pod.specs.Values.{BasicBlock, Routine}
 use Rattle.pod.specs.Written.{bytes, many-bytes, counted-bytes, block-bytes, routine-head-bytes, routine-bytes}
@@ -12,6 +12,7 @@ use Rattle.laws.proofs.Back.{length-bytes}
 use Rattle.laws.proofs.Sizes.{routine-size}
 use Rattle.laws.proofs.Place.{many-append}
 use Rattle.buffer.proofs.Put.{put-parts}
+pub use Rattle.buffer.proofs.Put.{zeros-join}
 use Rattle.machine.specs.Edits.{with-blocks}
 use Rattle.machine.specs.Machine.{size}
 use Rattle.machine.specs.Book.{in-image}
@@ -38,9 +39,6 @@ length-cons b q = ap length (cons-bytes b q) ∙ length-append (block-bytes b) (
 
 pub length-one : (b : BasicBlock) → length (written (b ∷ [])) ≡ length (block-bytes b)
 length-one b = ap length (one-bytes b)
-
-pub zeros-join : (k n m : ℕ) → k + n ≡ m → zeros k ++ zeros n ≡ zeros m
-zeros-join k n m h = replicate-append-replicate k n 0 ∙ ap zeros h
 
 module _ (r : Routine) where
   abbrev head : List ℕ

@@ -1,6 +1,6 @@
 -- Bytes that are one whole written block, by the exact walk over them: it is taken, ends where they end, and the vip is their first eight.
 -- Assumes nothing.
-use mathlib.Core.Path.{_≡_, refl, sym, ap, _∙_}
+use mathlib.Core.Path.{_≡_, sym, ap, _∙_}
 use mathlib.Core.Bool.{Bool, true, false}
 use mathlib.Core.List.{List}
 use Prim.Native.Nat.{ℕ, _+_, _-_, _≤_, _<_}
@@ -8,8 +8,9 @@ use native.Mathlib.Omega.{arith}
 use lib.ListN.{length}
 use lib.Dec.{leb, eqb}
 use borrow.Author.Tests.{le-leb, lt-leb, eq-eqb, ne-eqb}
-use Rattle.fields.specs.Parse.{Res, ok, no, choose, le, span}
+use Rattle.fields.specs.Parse.{ok, no, choose, le, span}
 use Rattle.fields.proofs.Le.{Bytes, leb-sub}
+use Rattle.fields.proofs.Invert.{inv-span, inv-span-no}
 use Rattle.pod.specs.Values.{BasicBlock, Routine}
 use Rattle.pod.specs.Layout.{block, as-written}
 use Rattle.laws.proofs.Layouts.{block-layout, read-to}
@@ -19,25 +20,16 @@ use Rattle.walk.proofs.Same.{block-vip}
 use Rattle.machine.specs.Edits.{place}
 use Rattle.machine.specs.Machine.{size}
 use Rattle.edits.proofs.Steps.{present-before, absent-after}
-use Rattle.restore.specs.Blocks.{fits-block, is-block, may-enter}
+use Rattle.restore.specs.Blocks.{is-block, may-enter}
 
 module _ (v : ℕ) (s : List ℕ) where
   pub not-read : {e : ℕ} → no e ≡ span (block as-written s 0) → false ≡ is-block v s
-  unfolding is-block span
-  not-read {e} q = go (block as-written s 0) q
-    where
-      go : (x : Res BasicBlock) → no e ≡ span x → false ≡ fits-block v (length s) x
-      go (ok b n) q = let z : _≡_ {A = ℕ} 0 1 = cc in absurd (omega arith)
-      go (no k) q = refl
+  unfolding is-block
+  not-read q = rw (inv-span-no (block as-written s 0) q)
 
   -- what was passed over was a block
   passed : {n : ℕ} → ok tt n ≡ span (block as-written s 0) → (b : BasicBlock) × (block as-written s 0 ≡ ok b n)
-  unfolding span
-  passed {n} q = go (block as-written s 0) refl q
-    where
-      go : (x : Res BasicBlock) → block as-written s 0 ≡ x → ok tt n ≡ span x → (b : BasicBlock) × (block as-written s 0 ≡ ok b n)
-      go (ok b m) e q = let z : n ≡ m = cc in (b, e ∙ ap (ok b) (sym z))
-      go (no k) e q = let z : _≡_ {A = ℕ} 0 1 = cc in absurd (omega arith)
+  passed q = inv-span (block as-written s 0) q
 
   pub not-all : {n : ℕ} → ok tt n ≡ span (block as-written s 0) → (n ≡ length s → ⊥) → false ≡ is-block v s
   unfolding is-block

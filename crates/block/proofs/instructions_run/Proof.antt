@@ -2,9 +2,8 @@
 use mathlib.Core.Path.{_≡_, _∙_, sym, ap}
 use Rattle.fields.specs.Parse.{many, span}
 use Rattle.fields.specs.Answers.{of-skip}
-use Rattle.fields.proofs.Many.{run-end}
+use Rattle.fields.proofs.Many.{run-end, skip-next, skip-stop}
 use Rattle.pod.specs.Layout.{instruction}
-use Rattle.block.proofs.Skip.{skip-next, skip-stop}
 use borrow.Author.Needs.{needs}
 use Rattle.block.proofs.instructions_run.Statement.{statement}
 use Rattle.block.proofs.instructions_run.Tie as tie

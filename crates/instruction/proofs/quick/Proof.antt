@@ -1,13 +1,14 @@
 -- The quick way: it answers only where nothing is refused. The loop keeps that the operands left are read as the whole run is, with room for
 -- each and for the fields after them.
 use native.Mathlib.Omega.{arith}
-use mathlib.Core.Path.{_≡_, refl, sym, _∙_, ap}
-use Prim.Native.Nat.{_+_, _*_, _≤_, _<_}
+use mathlib.Core.Path.{_≡_, refl, sym, _∙_}
+use Prim.Native.Nat.{_+_, _*_, _≤_}
 use lib.ListN.{length}
 use Rattle.fields.specs.Parse.{many, span}
 use Rattle.fields.proofs.Many.{run-end}
 use Rattle.pod.specs.Layout.{operand}
-use Rattle.instruction.proofs.Pass.{quick-ok, pass-next}
+use Rattle.fields.proofs.Many.{skip-next}
+use Rattle.instruction.proofs.Pass.{quick-ok}
 use borrow.Author.Needs.{needs}
 use Rattle.instruction.proofs.quick.Statement.{statement}
 use Rattle.instruction.proofs.quick.Tie as tie
@@ -77,7 +78,7 @@ loop-again c =
     let q = c .before in
     let l = q .before .before .loop in
     let e = q .operand-quick .ensures (omega (arith, c .if5 .left)) in
-    (omega arith, pass-next operand _ _ _ (l .inv .1) (q .before .loop-test .taken) (e .0))
+    (omega arith, skip-next operand _ _ _ (l .inv .1) (q .before .loop-test .taken) (sym (e .0)))
 
 add-is-taken : tie.Need-add-is-taken Inv-loop μ-loop
 add-is-taken c = search needs

@@ -2,8 +2,7 @@
 use mathlib.Core.Path.{_≡_, _∙_, sym, ap}
 use Rattle.fields.specs.Parse.{many, span}
 use Rattle.fields.specs.Answers.{of-skip}
-use Rattle.fields.proofs.Many.{run-end}
-use Rattle.block.proofs.Skip.{skip-next, skip-stop}
+use Rattle.fields.proofs.Many.{run-end, skip-next, skip-stop}
 use Rattle.pod.specs.Layout.{convention}
 use borrow.Author.Needs.{needs}
 use Rattle.routine.proofs.conventions_run.Statement.{statement}
