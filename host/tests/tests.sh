@@ -1,9 +1,10 @@
 #!/usr/bin/env bash
 # The tests of the C side: the header, the library's calls in guarded memory against a plain reader and
-# a plain machine, the command, and the Rust crate. The last line is the verdict.
+# a plain machine, the scripts, the command, and the Rust crate. The last line is the verdict.
 #
-#   VTIL_LIB=/path/to/libvtil.a   use that archive and prove nothing
+#   VTIL_LIB=path/to/libvtil.a   use that archive and prove nothing
 set -euo pipefail
+VTIL_LIB=${VTIL_LIB:+$(realpath -m -- "$VTIL_LIB")} # named from the caller's folder
 cd "$(dirname "$0")/../.."
 export LC_ALL=C
 . host/build.sh
@@ -34,8 +35,8 @@ need_archive
 build_routine
 scratch=$(mktemp -d)
 trap 'rm -rf "$scratch"' EXIT
-chmod 755 "$scratch" # command.sh tries a file as another user
-mkdir "$scratch/header" "$scratch/command" "$scratch/command_books" "$scratch/command_edits"
+chmod 755 "$scratch" # some tests try files as another user
+mkdir "$scratch/header" "$scratch/scripts" "$scratch/command" "$scratch/command_books" "$scratch/command_edits"
 
 # build_guard NAME OTHER..: a test program out of host/tests, and the parts that all of them have.
 build_guard() {
@@ -49,6 +50,7 @@ run bash host/tests/samples.sh
 run bash host/tests/format.sh
 run bash host/tests/contracts.sh
 run bash host/tests/header.sh "$LIB" "$scratch/header"
+run bash host/tests/scripts.sh "$LIB" "$scratch/scripts"
 build_guard guard
 run "$scratch/guard" samples/*.vtil
 run bash host/tests/command.sh target/host/routine "$scratch/command"
