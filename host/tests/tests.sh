@@ -36,7 +36,8 @@ build_routine
 scratch=$(mktemp -d)
 trap 'rm -rf "$scratch"' EXIT
 chmod 755 "$scratch" # some tests try files as another user
-mkdir "$scratch/header" "$scratch/scripts" "$scratch/command" "$scratch/command_books" "$scratch/command_edits"
+mkdir "$scratch/header" "$scratch/scripts" "$scratch/command" "$scratch/command_books" "$scratch/command_edits" \
+    "$scratch/output"
 
 # build_guard NAME OTHER..: a test program out of host/tests, and the parts that all of them have.
 build_guard() {
@@ -60,6 +61,7 @@ run bash host/tests/command_books.sh target/host/routine "$scratch/command_books
 build_guard guard_edits shelf reference_book
 run "$scratch/guard_edits" samples/*.vtil
 run bash host/tests/command_edits.sh target/host/routine "$scratch/command_edits"
+run bash host/tests/output.sh target/host/routine "$scratch/output"
 run bash host/tests/rust.sh "$LIB"
 
 echo "host tests: $passed passed, $failed failed, $skipped skipped"
