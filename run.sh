@@ -3,8 +3,9 @@
 # the command target/host/routine and checks the sample files with it. Status 0 when what it says of
 # them is what samples/EXPECTED has.
 #
-#   VTIL_LIB=/path/to/libvtil.a ./run.sh    uses that archive and proves nothing
+#   VTIL_LIB=path/to/libvtil.a ./run.sh    uses that archive and proves nothing
 set -euo pipefail
+VTIL_LIB=${VTIL_LIB:+$(realpath -m -- "$VTIL_LIB")} # named from the caller's folder
 cd "$(dirname "$0")"
 export LC_ALL=C # the order of samples/*.vtil
 . host/build.sh

@@ -15,10 +15,20 @@ static size_t limited_sum(size_t a, size_t b)
     return at_most(a, MOST_LENT) + at_most(b, MOST_LENT - at_most(a, MOST_LENT));
 }
 
+/* No more of a file is read: a routine that does not end within these bytes is longer than an image can be. */
+#define MOST_READ (MOST_LENT + 1)
+
+/* Where so many bytes were too short for the routine, it is the image that is, whatever follows them in the file. */
+static uint64_t refusal_of(uint64_t refusal, const struct file *file)
+{
+    return refusal == VTIL_SHORT_FILE && file->len == MOST_READ ? VTIL_IMAGE_FULL : refusal;
+}
+
 static enum status open_file(const char *name, const struct file *file, size_t room, struct book *book)
 {
     vtil_answer answer =
         vtil_open(file->bytes, file->len, book->image, book->image_len, book->journal, book->journal_len);
+    answer.refusal = refusal_of(answer.refusal, file);
     if (answer.refusal != 0) {
         say_refused(name, answer.refusal);
         /* The image is as long as the file, or as long as it can be. */
@@ -35,7 +45,7 @@ static enum status open_file(const char *name, const struct file *file, size_t r
 enum status book_open(const char *name, size_t room, size_t journal_len, struct book *out)
 {
     struct file file;
-    const char *problem = file_read(name, &file);
+    const char *problem = file_read(name, MOST_READ, &file);
     if (problem != NULL) {
         say_unread(name, problem);
         return TROUBLE;

@@ -3,7 +3,7 @@
 # the current folder and `set -e`.
 #
 #   CC        the C compiler (default cc)
-#   VTIL_LIB  an archive that is built already, to use instead of building one
+#   VTIL_LIB  an archive that is built already, by its whole path, to use instead of building one
 
 CC=${CC:-cc}
 HOST_FLAGS=(-std=c11 -Wall -Wextra -Werror -O2 -Iinclude)

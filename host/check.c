@@ -5,6 +5,7 @@
 #include <stdio.h>
 
 #include "file.h"
+#include "printed.h"
 #include "vtil.h"
 #include "words.h"
 
@@ -18,7 +19,7 @@ static enum status print_accepted(size_t consumed, size_t len)
 {
     printf("accepted, %zu bytes consumed", consumed);
     if (consumed < len)
-        printf(", %zu bytes after it ignored", len - consumed);
+        printf(", %zu byte%s after it ignored", len - consumed, plural(len - consumed));
     printf("\n");
     return ALL_ACCEPTED;
 }
@@ -26,7 +27,7 @@ static enum status print_accepted(size_t consumed, size_t len)
 static enum status check_one(const char *name)
 {
     struct file file;
-    const char *problem = file_read(name, &file);
+    const char *problem = file_read(name, SIZE_MAX, &file);
     if (problem != NULL) {
         say_unread(name, problem);
         return TROUBLE;
@@ -42,7 +43,8 @@ static enum status check_one(const char *name)
 enum status check_command(const struct request *request)
 {
     enum status status = ALL_ACCEPTED;
-    for (int i = 0; i < request->count; i++)
+    /* Where the output fails there is nothing to go on for: that it does is said at the end. */
+    for (int i = 0; i < request->count && printed_so_far(); i++)
         status = worse(status, check_one(request->files[i]));
     return status;
 }

@@ -39,6 +39,7 @@ void print_name(FILE *to, const char *name);
 /* These say on standard error what is wrong with `name`, after all that was printed before it. */
 void say_unread(const char *name, const char *problem);
 void say_unwritten(const char *name, const char *problem);
+void say_unsafe(const char *name, const char *problem);
 void say_refused(const char *name, uint64_t refusal);
 
 #endif

@@ -3,10 +3,10 @@
 
 #include <inttypes.h>
 #include <stdio.h>
-#include <string.h>
 
 #include "book.h"
 #include "output.h"
+#include "printed.h"
 #include "script.h"
 #include "words.h"
 
@@ -42,7 +42,7 @@ static void print_line(FILE *to, const struct line *line)
     switch (line->call) {
     case CREATE: fprintf(to, "create 0x%" PRIx64, line->vip); break;
     case REMOVE: fprintf(to, "remove 0x%" PRIx64, line->vip); break;
-    case APPEND: fprintf(to, "append 0x%" PRIx64 ", %zu bytes", line->vip, line->len); break;
+    case APPEND: fprintf(to, "append 0x%" PRIx64 ", %zu byte%s", line->vip, line->len, plural(line->len)); break;
     default: fprintf(to, "undo"); break;
     }
 }
@@ -67,32 +67,29 @@ static size_t run_lines(FILE *to, const struct script *script, struct book *book
         refused += answer.refusal != 0;
         book->numbers = answer.book; /* after a refusal the one handed in */
     }
-    fprintf(to, "%zu lines, %zu refused\n", script->count, refused);
+    fprintf(to, "%zu line%s, %zu refused\n", script->count, plural(script->count), refused);
     return refused;
 }
 
-static enum status write_result(const char *out, const struct book *book)
+static bool was_shown(FILE *to)
 {
-    const char *problem = output_write(out, book->image, (size_t)book->numbers.written);
-    if (problem == NULL)
-        return ALL_ACCEPTED;
-    say_unwritten(out, problem);
-    return TROUBLE;
+    return to == stdout ? printed_whole() : fflush(to) == 0 && !ferror(to);
 }
 
 static enum status edit_book(const struct request *request, const struct script *script, struct book *book)
 {
     /* The answers don't stand among the routine's bytes. */
-    FILE *to = request->out != NULL && strcmp(request->out, "-") == 0 ? stderr : stdout;
+    FILE *to = request->out != NULL && output_is_standard(request->out) ? stderr : stdout;
     enum status status = run_lines(to, script, book) == 0 ? ALL_ACCEPTED : SOME_REFUSED;
+    bool shown = was_shown(to);
     if (request->out == NULL)
-        return status;
+        return status; /* that standard output failed is said at the end */
     /* Nothing is written where it can't be seen what was refused. */
-    if (fflush(to) != 0 || ferror(to)) {
+    if (!shown) {
         say_unwritten(request->out, "the lines' answers could not be shown");
         return TROUBLE;
     }
-    return worse(status, write_result(request->out, book));
+    return worse(status, output_write(request->out, book->image, (size_t)book->numbers.written));
 }
 
 enum status edit_command(const struct request *request)

@@ -1,4 +1,4 @@
-/* Reading a whole file into memory. */
+/* Reading a file into memory. */
 #ifndef ROUTINE_FILE_H
 #define ROUTINE_FILE_H
 
@@ -11,11 +11,11 @@ struct file {
 };
 
 /*
- * Reads all of `path` ("-": standard input), a regular file, a pipe or a device.
- * NULL when it was read: then file_free is owed. Otherwise the reason in words,
- * and nothing is owed.
+ * Reads `path` ("-": standard input), a regular file, a pipe or a device: all of it,
+ * or its first `most` bytes where it has more; SIZE_MAX: all of it. NULL when it was
+ * read: then file_free is owed. Otherwise the reason in words, and nothing is owed.
  */
-const char *file_read(const char *path, struct file *out);
+const char *file_read(const char *path, size_t most, struct file *out);
 
 void file_free(struct file *file);
 

@@ -10,10 +10,7 @@ enum status normalize_command(const struct request *request)
     enum status status = book_open(request->files[0], 0, 0, &book);
     if (status != ALL_ACCEPTED)
         return status;
-    const char *problem = output_write(request->out, book.image, (size_t)book.numbers.written);
+    status = output_write(request->out, book.image, (size_t)book.numbers.written);
     book_free(&book);
-    if (problem == NULL)
-        return ALL_ACCEPTED;
-    say_unwritten(request->out, problem);
-    return TROUBLE;
+    return status;
 }

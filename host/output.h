@@ -5,13 +5,19 @@
 #include <stddef.h>
 #include <stdint.h>
 
+#include "commands.h"
+
 /*
  * Makes `len` bytes the content of the file `path`. They go to a new file in the
  * same folder first, which takes the path's name when it is safe on the disk: so
  * whatever fails, the path holds either what it held or all of the bytes. A path
- * that is no regular file, such as a pipe or a device, and "-", standard output, are
- * written to directly. NULL when it is written, otherwise the reason in words.
+ * that is no regular file, such as a pipe or a device, and standard output are
+ * written to directly. ALL_ACCEPTED when it is written and safe; otherwise it was
+ * said what is so.
  */
-const char *output_write(const char *path, const uint8_t *bytes, size_t len);
+enum status output_write(const char *path, const uint8_t *bytes, size_t len);
+
+/* Whether `path` is standard output: "-", or a name of the file that standard output leads to. */
+bool output_is_standard(const char *path);
 
 #endif

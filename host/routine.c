@@ -13,6 +13,7 @@
 #include <unistd.h>
 
 #include "commands.h"
+#include "printed.h"
 #include "words.h"
 
 struct command {
@@ -39,6 +40,7 @@ static const struct command commands[] = {
      "Exit status: 0 it was written; 1 the file was refused, and nothing was written.\n",
      "o", "o", 1, 1, normalize_command},
     {"same", "A B", "say whether two files hold one routine, and where their written forms first differ",
+     "Bytes are counted from 0.\n"
      "Exit status: 0 one routine; 1 two routines; 2 a file was refused or could not be read.\n", "", "", 2, 2, same_command},
     {"edit", "FILE -s SCRIPT [-o OUT]", "run the lines of a script on the routine, and say what each gives",
      "A line of SCRIPT is one of:\n"
@@ -46,7 +48,8 @@ static const struct command commands[] = {
      "  remove VIP      the last block takes its place\n"
      "  append VIP HEX  an instruction, its bytes in hexadecimal, after the block's last\n"
      "  undo            take back the last edit that stands\n"
-     "VIP is decimal, or hexadecimal after 0x. After # a line is a comment.\n"
+     "VIP is decimal, or hexadecimal after 0x. What follows a # at the beginning of a word is a\n"
+     "comment; lines without words are passed over.\n"
      "A refused line leaves the routine as it was, and the next line follows.\n"
      "  -s SCRIPT  the script. A line that is none of these stops it before the first call.\n"
      "  -o OUT     after the last line, write the routine there; it may be FILE. It is\n"
@@ -71,7 +74,7 @@ void print_name(FILE *to, const char *name)
 /* Both streams may lead to one place: keep the order. A failure here is noticed at the end. */
 static void begin_complaint(const char *name)
 {
-    fflush(stdout);
+    printed_whole();
     fprintf(stderr, "routine: ");
     print_name(stderr, name);
 }
@@ -86,6 +89,12 @@ void say_unwritten(const char *name, const char *problem)
 {
     begin_complaint(name);
     fprintf(stderr, ": not written: %s\n", problem);
+}
+
+void say_unsafe(const char *name, const char *problem)
+{
+    begin_complaint(name);
+    fprintf(stderr, ": written, but a crash may undo it, since its folder could not be synced: %s\n", problem);
 }
 
 void say_refused(const char *name, uint64_t refusal)
@@ -110,14 +119,15 @@ static void print_help(FILE *to)
             "\n"
             "%s"
             "Exit status: 0 all was accepted; 1 something was refused, or two routines differ;\n"
-            "2 something could not be read or written, the usage is wrong, or a file of same was refused.\n",
+            "2 something could not be read or written, the usage is wrong, or a file of same was refused.\n"
+            "Where both 1 and 2 apply it is 2.\n",
             conventions);
 }
 
 static void print_command_help(const struct command *command)
 {
     printf("usage: routine %s %s\n\n%s.\n%s\n%s", command->name, command->operands, command->does, command->more, conventions);
-    printf("Exit status 2: something could not be read or written, or the usage is wrong.\n");
+    printf("Exit status 2, also where 1 applies: something could not be read or written, or the usage is wrong.\n");
 }
 
 static enum status bad_usage(const char *problem, const char *word)
@@ -206,6 +216,8 @@ static enum status run_request(const struct command *command, const struct reque
         return bad_usage("-o OUT is missing for ", command->name);
     if (strchr(command->needed, 's') != NULL && request->script == NULL)
         return bad_usage("-s SCRIPT is missing for ", command->name);
+    if (request->script != NULL && strcmp(request->script, "-") == 0 && strcmp(request->files[0], "-") == 0)
+        return bad_usage("FILE and SCRIPT can't both be standard input (-) for ", command->name);
     return command->run(request);
 }
 
@@ -247,16 +259,11 @@ static enum status run(int argc, char **argv)
     return run_command(command, argc - 2, argv + 2);
 }
 
-/* Output is buffered, so a full disk or a closed pipe may show only when the rest is written. */
 static enum status finish_output(void)
 {
-    bool failed_before = ferror(stdout) != 0;
-    if (fflush(stdout) == 0 && !failed_before)
+    if (printed_whole())
         return ALL_ACCEPTED;
-    if (failed_before)
-        fprintf(stderr, "routine: standard output could not be written\n");
-    else
-        fprintf(stderr, "routine: standard output could not be written: %s\n", strerror(errno));
+    fprintf(stderr, "routine: standard output could not be written: %s\n", printed_problem());
     return TROUBLE;
 }
 

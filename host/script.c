@@ -152,9 +152,16 @@ static void say_bad_line(const char *name, size_t number, const char *problem)
     fprintf(stderr, ": line %zu: %s\n", number, problem);
 }
 
+/* Some editors put a byte order mark before a text in UTF-8. */
+static size_t mark_len(const struct file *file)
+{
+    static const uint8_t mark[] = {0xef, 0xbb, 0xbf};
+    return file->len >= sizeof mark && memcmp(file->bytes, mark, sizeof mark) == 0 ? sizeof mark : 0;
+}
+
 static enum status read_lines(const char *name, const struct file *file, struct script *out)
 {
-    const char *at = (const char *)file->bytes, *end = at + file->len;
+    const char *at = (const char *)file->bytes + mark_len(file), *end = (const char *)file->bytes + file->len;
     uint8_t *room = out->bytes;
     for (size_t number = 1; at < end; number++) {
         const char *feed = memchr(at, '\n', (size_t)(end - at));
@@ -177,7 +184,7 @@ static enum status read_lines(const char *name, const struct file *file, struct 
 enum status script_read(const char *name, struct script *out)
 {
     struct file file;
-    const char *problem = file_read(name, &file);
+    const char *problem = file_read(name, SIZE_MAX, &file);
     if (problem != NULL) {
         say_unread(name, problem);
         return TROUBLE;

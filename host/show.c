@@ -6,6 +6,7 @@
 #include "book.h"
 #include "pages.h"
 #include "parts.h"
+#include "printed.h"
 #include "printer.h"
 
 const char *machine_name(uint64_t arch_id)
@@ -82,7 +83,7 @@ static uint64_t show_list(struct show *show, enum list list, uint64_t count, sho
     uint64_t refusal = 0;
     show->print->list(list, count);
     show->at += COUNT_SIZE;
-    for (uint64_t place = 0; place < count && refusal == 0 && !ferror(stdout);) {
+    for (uint64_t place = 0; place < count && refusal == 0 && printed_so_far();) {
         size_t end = show->at, some = 0;
         for (; some < PAGE_ITEMS && place + some < count; some++)
             end = item_end(show, list, end);
@@ -138,14 +139,14 @@ static uint64_t show_block(struct show *show, uint64_t place)
 static uint64_t show_parts(struct show *show, const vtil_routine_look *look)
 {
     uint64_t refusal = 0;
-    for (uint64_t i = 0; i < 2 + look->spec_conventions && refusal == 0 && !ferror(stdout); i++) {
+    for (uint64_t i = 0; i < 2 + look->spec_conventions && refusal == 0 && printed_so_far(); i++) {
         if (i == 2)
             show->at += COUNT_SIZE;
         refusal = show_convention(show, i);
     }
     show->print->blocks();
     show->at = blocks_begin(show->bytes) + COUNT_SIZE;
-    for (uint64_t i = 0; i < look->blocks && refusal == 0 && !ferror(stdout); i++)
+    for (uint64_t i = 0; i < look->blocks && refusal == 0 && printed_so_far(); i++)
         refusal = show_block(show, i);
     return refusal;
 }
@@ -157,7 +158,7 @@ static uint64_t show_routine(const struct book *book, struct show *show)
         return look.refusal;
     show->print->routine(&look, book->numbers.written);
     uint64_t refusal = show_parts(show, &look);
-    if (refusal != 0 || ferror(stdout))
+    if (refusal != 0 || !printed_so_far())
         return refusal;
     if (show->at != book->numbers.written)
         return VTIL_LEFTOVER;

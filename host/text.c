@@ -4,12 +4,14 @@
 
 #include "operations.h"
 #include "printer.h"
+#include "words.h"
 
 static void routine(const vtil_routine_look *look, uint64_t written)
 {
     printf("routine: machine %" PRIu64 " (%s), entry vip 0x%" PRIx64 ", %" PRIu64 " conventions, %" PRIu64
-           " blocks, %" PRIu64 " bytes written\n",
-           look->arch_id, machine_name(look->arch_id), look->vip, 2 + look->spec_conventions, look->blocks, written);
+           " block%s, %" PRIu64 " bytes written\n",
+           look->arch_id, machine_name(look->arch_id), look->vip, 2 + look->spec_conventions, look->blocks,
+           plural(look->blocks), written);
 }
 
 static void print_register(const vtil_register_desc *reg)

@@ -28,3 +28,8 @@ const char *refusal_words(int64_t number)
         return "not a refusal number";
     return words[number];
 }
+
+const char *plural(uint64_t count)
+{
+    return count == 1 ? "" : "s";
+}

@@ -307,8 +307,9 @@ vtil_answer vtil_undo(vtil_book book, uint8_t *image, size_t image_len, uint8_t 
  *
  *   words      four for each call: its kind (0 create, 1 remove, 2 append, 3
  *              undo), its vip, and where its bytes begin and end in `texts`. A
- *              kind that has no use for the vip or the bytes ignores them, but
- *              they have to lie within `texts`; 0 and 0 do.
+ *              kind that has no use for the vip or the bytes ignores them; all
+ *              the same the bytes have to lie within `texts`, as 0 and 0 do,
+ *              else the list is refused 15.
  *   words_len  the number of words, not of bytes: four times the number of calls.
  *   texts      the bytes of the instructions to append.
  *

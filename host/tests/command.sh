@@ -25,6 +25,9 @@ odd_files() {
     expect "a file of unknown size" 1 "/proc/version: $refused_3" "" "$routine" check /proc/version
     expect "a name of two lines" 1 "two\\x0alines: $refused_3" "" "$routine" check $'two\nlines'
     expect "a name like an option, after --" 0 "-x: accepted, 114 bytes consumed" "" "$routine" check -- -x
+    { cat "$samples/minimal.vtil" && printf x; } >one-more
+    expect "one byte after the routine" 0 "one-more: accepted, 114 bytes consumed, 1 byte after it ignored" "" \
+        "$routine" check one-more
     expect "a missing file among others" 2 "-x: accepted, 114 bytes consumed
 empty: $refused_1" "routine: missing: not read: No such file or directory" "$routine" check -- -x missing empty
     cd - >/dev/null || exit 2
@@ -87,10 +90,6 @@ named_pipe() {
     wait $!
 }
 
-# 64 MB of address space: enough for the command, not for these files.
-little_memory() {
-    (ulimit -v 65536 && exec "$routine" "$@")
-}
 too_large() {
     truncate -s 1G "$scratch/large"
     expect "a file that is too large" 2 "" "routine: $scratch/large: not read: too large for memory" \
@@ -117,8 +116,12 @@ failing_output() {
     "$routine" check samples/minimal.vtil missing >/dev/full 2>"$scratch/err" || status=$?
     : >"$scratch/out"
     want "" "routine: missing: not read: No such file or directory
-routine: standard output could not be written"
+routine: standard output could not be written: No space left on device"
     hold "a full disk before a missing file" 2
+
+    # It shows in the middle: what comes after it fails for another reason.
+    expect "a full disk before the end" 2 "" "routine: standard output could not be written: No space left on device" \
+        bash -c '"$0" check $(yes samples/minimal.vtil | head -n 500) missing >/dev/full' "$routine"
 
     closed_pipe "a closed pipe" "$routine" check samples/minimal.vtil
 }
@@ -138,6 +141,7 @@ $try" "$routine" check -x
 $try" "$routine" check --json samples/minimal.vtil
     expect "an unknown command of two lines" 2 "" "routine: unknown command: a\\x0ab
 $try" "$routine" $'a\nb'
+    passes "the help says which status wins" grep -q "^Where both 1 and 2 apply it is 2" <<<"$help"
     if "$routine" check --help | grep -q '^usage: routine check FILE'; then
         pass "help for a command"
     else

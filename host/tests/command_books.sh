@@ -9,20 +9,6 @@ accepted_samples() {
     for name in all-operations blocks minimal odd-flags trailing; do echo "samples/$name.vtil"; done
 }
 
-# has_only FOLDER FILE..: no other file was left there.
-has_only() {
-    local folder=$1
-    shift
-    [ "$(ls -A "$folder" | tr '\n' ' ')" = "$* " ]
-}
-
-# passes NAME COMMAND..
-passes() {
-    local name=$1
-    shift
-    if "$@"; then pass "$name"; else fail "$name"; fi
-}
-
 # Showing ----------------------------------------------------------------------------
 
 show_text() {
@@ -31,6 +17,7 @@ show_text() {
     for file in $(accepted_samples); do
         passes "show $file to its end" [ "$("$routine" show "$file" | tail -n 1)" = end ]
     done
+    passes "one block is one block" [ "$("$routine" show samples/odd-flags.vtil | sed -n '1s/.*, \(1 [a-z]*\),.*/\1/p')" = "1 block" ]
     expect "show standard input" 0 "$(cat host/tests/blocks.shown)" "" "$routine" show - <samples/blocks.vtil
 }
 
@@ -107,8 +94,9 @@ show_failing_output() {
     closed_pipe "show, the pipe closed" "$routine" show samples/minimal.vtil
     if [ -f "$scratch/many.vtil" ]; then
         # The failure shows before the end: what is left is not looked at.
-        expect "show a long routine, the disk full" 2 "" "routine: standard output could not be written" \
+        expect "show a long routine, the disk full" 2 "" "routine: standard output could not be written: No space left on device" \
             bash -c '"$0" show "$1" >/dev/full' "$routine" "$scratch/many.vtil"
+        closed_pipe "show a long routine, the pipe closed" "$routine" show "$scratch/many.vtil"
     fi
 }
 
@@ -124,7 +112,32 @@ sys.stdout.buffer.write(make.routine(blocks=[make.block(1, prev=range(2097152))]
     expect "$name" 1 "" "routine: $scratch/large.vtil: refused 11: image full: the new written size passes the image's length
 routine: a routine of over 16,777,216 bytes can only be checked" "$routine" show "$scratch/large.vtil"
     expect "check it" 0 "$scratch/large.vtil: accepted, 16777366 bytes consumed" "" "$routine" check "$scratch/large.vtil"
+    # Cut where the limit is, the file is short; cut after it, the routine is over the limit all the same.
+    truncate -s 16777216 "$scratch/large.vtil"
+    expect "show a file that is cut at the limit" 1 "" "routine: $scratch/large.vtil: $refused_1" "$routine" show "$scratch/large.vtil"
+    truncate -s 16777300 "$scratch/large.vtil"
+    expect "show a file that is cut after the limit" 1 "" "routine: $scratch/large.vtil: refused 11: image full: the new written size passes the image's length
+routine: a routine of over 16,777,216 bytes can only be checked" "$routine" show "$scratch/large.vtil"
     rm "$scratch/large.vtil"
+}
+
+# What follows the routine is not read into memory.
+endless_files() {
+    local long=$scratch/long
+    printf 'create 1\n' >"$scratch/script"
+    expect "show a device without end" 1 "" "routine: /dev/zero: $refused_3" little_memory show /dev/zero
+    expect "same, a device without end" 2 "" "routine: /dev/zero: $refused_3" little_memory same samples/blocks.vtil /dev/zero
+    expect "normalize a device without end" 1 "" "routine: /dev/zero: $refused_3" little_memory normalize /dev/zero -o "$long"
+    expect "edit a device without end" 1 "" "routine: /dev/zero: $refused_3" little_memory edit /dev/zero -s "$scratch/script"
+    passes "nothing was written of them" [ ! -e "$long" ]
+    cp samples/trailing.vtil "$long" && truncate -s 1G "$long"
+    expect "same, a file of 1 GB with a short routine" 0 "$long and samples/minimal.vtil: one routine, 114 bytes written" "" \
+        little_memory same "$long" samples/minimal.vtil
+    expect "edit it" 0 "line 1: create 0x1: accepted, 150 bytes written, 20 of the journal used
+1 line, 0 refused" "" little_memory edit "$long" -s "$scratch/script"
+    expect "same, a pipe of 40 MB with a short routine" 0 "- and samples/minimal.vtil: one routine, 114 bytes written" "" \
+        little_memory same - samples/minimal.vtil < <(head -c 40M "$long" 2>/dev/null)
+    rm "$long"
 }
 
 # Normalizing --------------------------------------------------------------------------
@@ -279,6 +292,7 @@ helps() {
     for command in show normalize same; do
         passes "help for $command" grep -q "^usage: routine $command " <("$routine" "$command" --help)
     done
+    passes "the help says from where bytes are counted" grep -q "counted from 0" <("$routine" same --help)
 }
 
 show_text
@@ -287,6 +301,7 @@ show_long
 show_refused
 show_failing_output
 too_large_to_open
+endless_files
 normalize_files
 normalize_over_files
 normalize_fails

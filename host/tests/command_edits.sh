@@ -7,13 +7,6 @@ script="command_edits"
 # A nop: name size, name, operand count, vip, sp offset, sp index, sp reset.
 nop="03000000 6e6f70 00000000 0000000000000000 0000000000000000 00000000 00"
 
-# passes NAME COMMAND..
-passes() {
-    local name=$1
-    shift
-    if "$@"; then pass "$name"; else fail "$name"; fi
-}
-
 write_script() {
     cat >"$scratch/script"
 }
@@ -100,19 +93,26 @@ outputs() {
     printf 'create 1' >"$scratch/script" # without a line feed
     cp samples/minimal.vtil "$scratch/in"
     expect "edit without -o" 0 "line 1: create 0x1: accepted, 150 bytes written, 20 of the journal used
-1 lines, 0 refused" "" "$routine" edit "$scratch/in" -s "$scratch/script"
+1 line, 0 refused" "" "$routine" edit "$scratch/in" -s "$scratch/script"
     passes "nothing was written" cmp samples/minimal.vtil "$scratch/in"
     "$routine" edit "$scratch/in" -s "$scratch/script" -o "$scratch/in" >/dev/null
     expect "edit a file over itself" 0 "$scratch/in: accepted, 150 bytes consumed" "" "$routine" check "$scratch/in"
     "$routine" edit samples/minimal.vtil -s - -o - <"$scratch/script" 2>"$scratch/lines" | cmp - "$scratch/in"
     passes "edit to standard output, the script from standard input" [ "${PIPESTATUS[1]}" = 0 ]
-    passes "its lines are on standard error" [ "$(tail -n 1 "$scratch/lines")" = "1 lines, 0 refused" ]
+    passes "its lines are on standard error" [ "$(tail -n 1 "$scratch/lines")" = "1 line, 0 refused" ]
     "$routine" edit - -s "$scratch/script" -o "$scratch/edited" <samples/minimal.vtil >/dev/null
     passes "edit standard input" cmp "$scratch/edited" "$scratch/in"
     printf 'create 1\r\n\r\n# nothing\r\nundo\r\n' >"$scratch/script"
     expect "a script with carriage returns" 0 "line 1: create 0x1: accepted, 150 bytes written, 20 of the journal used
 line 4: undo: accepted, 114 bytes written, 0 of the journal used
 2 lines, 0 refused" "" "$routine" edit samples/minimal.vtil -s "$scratch/script"
+    printf '\xef\xbb\xbfcreate 1\nappend 1 00\n' >"$scratch/script"
+    expect "a script with a byte order mark" 1 "line 1: create 0x1: accepted, 150 bytes written, 20 of the journal used
+line 2: append 0x1, 1 byte: $refused_1
+2 lines, 1 refused" "" "$routine" edit samples/minimal.vtil -s "$scratch/script"
+    printf '\xef\xbb\xbf' >"$scratch/script"
+    expect "a script of nothing but a byte order mark" 0 "0 lines, 0 refused" "" \
+        "$routine" edit samples/minimal.vtil -s "$scratch/script"
     expect "an empty script" 0 "0 lines, 0 refused" "" "$routine" edit samples/odd-flags.vtil -s /dev/null -o "$scratch/edited"
     "$routine" normalize samples/odd-flags.vtil -o "$scratch/written"
     passes "which writes the written form" cmp "$scratch/written" "$scratch/edited"
@@ -142,6 +142,7 @@ bad_lines() {
     bad_line "no bytes" "append wants the instruction's bytes" "append 5"
     bad_line "half a byte" "$pairs" "append 5 030"
     bad_line "no digits" "$pairs" "append 5 03 0g"
+    bad_line "a # within a word" "$vip" "create 5#"
     bad_line "words after create" "there are words after its end" "create 5 6"
     bad_line "words after undo" "there are words after its end" "undo 1"
     printf 'create 1\nun\0do\n' >"$scratch/script"
@@ -162,16 +163,17 @@ edit_fails() {
         "$routine" edit samples/minimal.vtil -s missing -o "$scratch/in"
     expect "no script" 2 "" "routine: -s SCRIPT is missing for edit
 $try" "$routine" edit samples/minimal.vtil -o "$scratch/in"
-    expect "file and script from standard input" 2 "" "routine: -: not read: standard input was read already" \
+    expect "file and script from standard input" 2 "" "routine: FILE and SCRIPT can't both be standard input (-) for edit
+$try" \
         "$routine" edit - -s - -o "$scratch/in" <"$scratch/script"
     expect "the lines' answers on a full disk" 2 "" "routine: $scratch/in: not written: the lines' answers could not be shown
-routine: standard output could not be written" \
+routine: standard output could not be written: No space left on device" \
         bash -c '"$0" edit samples/minimal.vtil -s "$1/script" -o "$1/in" >/dev/full' "$routine" "$scratch"
     expect "the lines' answers on a closed stream" 2 "" "routine: $scratch/in: not written: the lines' answers could not be shown
-routine: standard output could not be written" \
+routine: standard output could not be written: Bad file descriptor" \
         bash -c '"$0" edit samples/minimal.vtil -s "$1/script" -o "$1/in" >&-' "$routine" "$scratch"
     expect "edit to a full device" 2 "line 1: create 0x63: accepted, 150 bytes written, 20 of the journal used
-1 lines, 0 refused" "routine: /dev/full: not written: No space left on device" \
+1 line, 0 refused" "routine: /dev/full: not written: No space left on device" \
         "$routine" edit samples/minimal.vtil -s "$scratch/script" -o /dev/full
     passes "the file there is as it was" [ "$(cksum <"$scratch/in")" = "$before" ]
 }
@@ -198,8 +200,15 @@ line 11: create 0x9: accepted, 366 bytes written, 16777200 of the journal used
     rm "$scratch/large"
 }
 
+# The page's source without its marks, in one line.
+page_words() {
+    sed 's/^\.[A-Z]* //' docs/routine.1 | tr '\n' ' '
+}
 helps() {
+    local comment="What follows a # at the beginning of a word is a comment; lines without words are passed over."
     passes "help for edit" grep -q "^usage: routine edit " <("$routine" edit --help)
+    passes "the help says what a comment is" grep -qF "$comment" <("$routine" edit --help | tr '\n' ' ')
+    passes "the page says the same" grep -qF "$comment" <(page_words)
 }
 
 accepted_lines

@@ -23,6 +23,20 @@ hold() {
     diff "$scratch/want-err" "$scratch/err"
 }
 
+# passes NAME COMMAND..
+passes() {
+    local name=$1
+    shift
+    if "$@"; then pass "$name"; else fail "$name"; fi
+}
+
+# has_only FOLDER FILE..: no other file is there.
+has_only() {
+    local folder=$1
+    shift
+    [ "$(ls -A "$folder" | tr '\n' ' ')" = "$* " ]
+}
+
 # expect NAME STATUS OUT ERR COMMAND..: runs the command; OUT and ERR are its whole output and error
 # output. Standard input is that of the call.
 expect() {
@@ -45,6 +59,11 @@ output_fails() {
     : >"$scratch/out"
     want "" "routine: standard output could not be written: $2"
     hold "$1" 2
+}
+
+# little_memory WORDS..: runs the command with 64 MB of address space: enough for the largest routine, not for any file.
+little_memory() {
+    (ulimit -v 65536 && exec "$routine" "$@")
 }
 
 # closed_pipe NAME WORDS..: as expect, for a pipe as standard output whose only reader is gone.

@@ -74,6 +74,16 @@ readme_example() {
     [ "$("$scratch/example" <samples/wrong-mark.vtil)" = "refused 3" ]
 }
 
+# The example has room for 1 MiB: it takes a file of that size, and says so of a longer one.
+readme_example_long() {
+    local status=0
+    cp samples/minimal.vtil "$scratch/long" && truncate -s 1048576 "$scratch/long"
+    [ "$("$scratch/example" <"$scratch/long")" = "a routine of 150 bytes" ] || return 1
+    printf x >>"$scratch/long"
+    "$scratch/example" <"$scratch/long" >"$scratch/said" || status=$?
+    [ "$status" = 2 ] && [ "$(cat "$scratch/said")" = "not read, or over 1 MiB" ]
+}
+
 write_sources
 try "alone as C11, included twice" "$CC" -std=c11 "${strict[@]}" -fsyntax-only "$scratch/alone.c"
 try "the numbers of the 17 refusals" "$CC" -std=c11 "${strict[@]}" -fsyntax-only "$scratch/numbers.c"
@@ -87,4 +97,5 @@ else
 fi
 try "declares the functions that the archive defines" same_functions
 try "the README's example" readme_example
+try "the README's example cuts no file" readme_example_long
 finish

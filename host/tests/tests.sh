@@ -1,9 +1,10 @@
 #!/usr/bin/env bash
 # The tests of the C side: the header, the library's calls in guarded memory against a plain reader and
-# a plain machine, the command, and the Rust crate. The last line is the verdict.
+# a plain machine, the scripts, the command, and the Rust crate. The last line is the verdict.
 #
-#   VTIL_LIB=/path/to/libvtil.a   use that archive and prove nothing
+#   VTIL_LIB=path/to/libvtil.a   use that archive and prove nothing
 set -euo pipefail
+VTIL_LIB=${VTIL_LIB:+$(realpath -m -- "$VTIL_LIB")} # named from the caller's folder
 cd "$(dirname "$0")/../.."
 export LC_ALL=C
 . host/build.sh
@@ -34,8 +35,9 @@ need_archive
 build_routine
 scratch=$(mktemp -d)
 trap 'rm -rf "$scratch"' EXIT
-chmod 755 "$scratch" # command.sh tries a file as another user
-mkdir "$scratch/header" "$scratch/command" "$scratch/command_books" "$scratch/command_edits"
+chmod 755 "$scratch" # some tests try files as another user
+mkdir "$scratch/header" "$scratch/scripts" "$scratch/command" "$scratch/command_books" "$scratch/command_edits" \
+    "$scratch/output"
 
 # build_guard NAME OTHER..: a test program out of host/tests, and the parts that all of them have.
 build_guard() {
@@ -49,6 +51,7 @@ run bash host/tests/samples.sh
 run bash host/tests/format.sh
 run bash host/tests/contracts.sh
 run bash host/tests/header.sh "$LIB" "$scratch/header"
+run bash host/tests/scripts.sh "$LIB" "$scratch/scripts"
 build_guard guard
 run "$scratch/guard" samples/*.vtil
 run bash host/tests/command.sh target/host/routine "$scratch/command"
@@ -58,6 +61,7 @@ run bash host/tests/command_books.sh target/host/routine "$scratch/command_books
 build_guard guard_edits shelf reference_book
 run "$scratch/guard_edits" samples/*.vtil
 run bash host/tests/command_edits.sh target/host/routine "$scratch/command_edits"
+run bash host/tests/output.sh target/host/routine "$scratch/output"
 run bash host/tests/rust.sh "$LIB"
 
 echo "host tests: $passed passed, $failed failed, $skipped skipped"

@@ -1,0 +1,67 @@
+/*
+ * For output.sh: loaded before libc (LD_PRELOAD), it makes calls of the command fail
+ * that don't fail on the disk of a test. The variable FAILING says which:
+ *
+ *   folder      fsync of a folder
+ *   fchmod      every fchmod, as on a file system without modes
+ *   owner       every fchown that gives a file another owner, as for a user who isn't root
+ *   fchown      every fchown
+ *   fsetxattr   every fsetxattr
+ *   signal N    no call, but signal N comes when the new file is filled
+ */
+#define _GNU_SOURCE
+#include <errno.h>
+#include <signal.h>
+#include <stdbool.h>
+#include <stdlib.h>
+#include <string.h>
+#include <sys/stat.h>
+#include <sys/syscall.h>
+#include <sys/types.h>
+#include <unistd.h>
+
+static bool fails(const char *what)
+{
+    const char *failing = getenv("FAILING");
+    return failing != NULL && strcmp(failing, what) == 0;
+}
+
+static int failed(int reason)
+{
+    errno = reason;
+    return -1;
+}
+
+static void send_signal(void)
+{
+    const char *failing = getenv("FAILING");
+    if (failing != NULL && strncmp(failing, "signal ", 7) == 0)
+        raise(atoi(failing + 7));
+}
+
+int fsync(int fd)
+{
+    struct stat about;
+    if (fstat(fd, &about) == 0 && S_ISREG(about.st_mode))
+        send_signal();
+    else if (fails("folder"))
+        return failed(EIO);
+    return (int)syscall(SYS_fsync, fd);
+}
+
+int fchmod(int fd, mode_t mode)
+{
+    return fails("fchmod") ? failed(EPERM) : (int)syscall(SYS_fchmod, fd, mode);
+}
+
+int fchown(int fd, uid_t owner, gid_t group)
+{
+    if (fails("fchown") || (fails("owner") && owner != (uid_t)-1))
+        return failed(EPERM);
+    return (int)syscall(SYS_fchown, fd, owner, group);
+}
+
+int fsetxattr(int fd, const char *name, const void *value, size_t size, int flags)
+{
+    return fails("fsetxattr") ? failed(EOPNOTSUPP) : (int)syscall(SYS_fsetxattr, fd, name, value, size, flags);
+}
