@@ -7,7 +7,6 @@ use Prim.Native.Nat.{ℕ}
 use mir.Syntax.{w64}
 use Rattle.fields.specs.Parse.{Res, ok, Reader, bind, span, uint, int, counted, u64}
 use Rattle.fields.proofs.Chain.{chain, chain-map}
-pub use Rattle.fields.proofs.Many.{skip-next, skip-stop}
 use Rattle.pod.specs.Layout.{instruction, block}
 
 module _ (exact : Bool) (s : List ℕ) (o : ℕ) where

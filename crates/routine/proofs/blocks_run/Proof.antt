@@ -6,8 +6,7 @@ use borrow.Author.Tests.{ltb-true}
 use Prim.Native.Nat.{_<_}
 use Rattle.fields.specs.Parse.{many, span}
 use Rattle.fields.specs.Answers.{of-skip}
-use Rattle.fields.proofs.Many.{run-end}
-use Rattle.block.proofs.Skip.{skip-next, skip-stop}
+use Rattle.fields.proofs.Many.{run-end, skip-next, skip-stop}
 use Rattle.pod.specs.Layout.{block}
 use Rattle.sorting.specs.Buffer.{TOP}
 use Rattle.sorting.proofs.Order.{false-true}
