@@ -16,7 +16,7 @@ use Rattle.sorting.specs.Counts.{hit, count}
 use Rattle.sorting.specs.Buffer.{TOP}
 use Rattle.sorting.proofs.Counts.{hit-le, hit-other}
 use Rattle.walk.specs.Ends.{word, blockEnd}
-use Rattle.walk.proofs.Invert.{inv, inv-ok}
+use Rattle.fields.proofs.Invert.{inv, inv-ok}
 use Rattle.walk.proofs.Same.{block-vip, block-ends}
 use Rattle.distinct.specs.Walked.{vipsFrom}
 

@@ -12,7 +12,7 @@ use Rattle.pod.specs.Values.{BasicBlock}
 use Rattle.pod.specs.Blocks.{has, vips, repeats}
 use Rattle.pod.specs.Layout.{block}
 use Rattle.walk.specs.Ends.{word}
-use Rattle.walk.proofs.Invert.{inv, inv-ok}
+use Rattle.fields.proofs.Invert.{inv, inv-ok}
 use Rattle.walk.proofs.Same.{block-vip}
 
 -- each is over the one before it, and the first is at least the floor
