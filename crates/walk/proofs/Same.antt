@@ -1,5 +1,5 @@
 -- Of what a layout accepted, the walk finds the end, and of a block its vip too. Each layout's equation is taken apart field by field
--- (Invert.antt): every field ends as many bytes further as it has, within the bytes, and there `jump` comes too.
+-- (fields' proofs/Invert.antt): every field ends as many bytes further as it has, within the bytes, and there `jump` comes too.
 use mathlib.Core.Path.{_≡_, refl, sym, ap, _∙_}
 use mathlib.Core.List.{List}
 use mathlib.Core.Bool.{Bool, true, false}
