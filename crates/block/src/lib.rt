@@ -14,9 +14,11 @@ pub fn instructions_run(s: &[u8], at: usize, count: u32, exact: bool) -> Skip
     let mut left = count;
     let mut o = at;
     while 0 < left {
-        match instruction::instruction_skip(s, o, exact) {
-            Skip::Refused(e) => return Skip::Refused(e),
-            Skip::Past(n) => o = n,
+        let far = instruction::instruction_skip(s, o, exact);
+        if let Skip::Past(n) = far {
+            o = n;
+        } else {
+            return far;
         }
         left -= 1;
     }

@@ -75,9 +75,11 @@ fn conventions_run(s: &[u8], at: usize, count: u32, exact: bool) -> Skip
     let mut left = count;
     let mut o = at;
     while 0 < left {
-        match convention::convention_skip(s, o, exact) {
-            Skip::Refused(e) => return Skip::Refused(e),
-            Skip::Past(n) => o = n,
+        let far = convention::convention_skip(s, o, exact);
+        if let Skip::Past(n) = far {
+            o = n;
+        } else {
+            return far;
         }
         left -= 1;
     }

@@ -23,16 +23,17 @@ loop-holds c = search needs
 instruction-skip-requires : tie.Need-instruction-skip-requires Inv-loop μ-loop
 instruction-skip-requires c κs = search needs
 
-enum-known-e : tie.Need-enum-known-e Inv-loop μ-loop
-enum-known-e c = search needs
+enum-known-far : tie.Need-enum-known-far Inv-loop μ-loop
+enum-known-far c = search needs
+
+enum-told : tie.Need-enum-told Inv-loop μ-loop
+enum-told c = search needs
 
 returns : tie.Need-returns Inv-loop μ-loop
 returns c =
-    let d = c .before .before .before in
-    skip-stop (instruction _) _ _ _ (d .before .before .loop .inv) (d .before .loop-test .taken) (sym (ap of-skip (c .before .e .given .1)) ∙ d .instruction-skip .ensures)
-
-enum-known-n : tie.Need-enum-known-n Inv-loop μ-loop
-enum-known-n c = search needs
+    let d = c .before .before in
+    let far = c .enum-told .given .1 in
+    ap of-skip far ∙ skip-stop (instruction _) _ _ _ (d .before .before .loop .inv) (d .before .loop-test .taken) (sym (ap of-skip far) ∙ d .instruction-skip .ensures)
 
 sub-left : tie.Need-sub-left Inv-loop μ-loop
 sub-left c = search needs
@@ -43,7 +44,7 @@ loop-less c = search needs
 loop-again : tie.Need-loop-again Inv-loop μ-loop
 loop-again c =
     let d = c .before .before .before in
-    skip-next (instruction _) _ _ _ (d .before .before .loop .inv) (d .before .loop-test .taken) (sym (ap of-skip (c .before .n .given .1)) ∙ d .instruction-skip .ensures)
+    skip-next (instruction _) _ _ _ (d .before .before .loop .inv) (d .before .loop-test .taken) (sym (ap of-skip (c .before .far .given .1)) ∙ d .instruction-skip .ensures)
 
 returns-2 : tie.Need-returns-2 Inv-loop μ-loop
 returns-2 c = run-end (instruction _) _ _ _ (c .before .loop .inv) (c .loop-test .left)
@@ -56,9 +57,9 @@ instructions-run-spec =
     μ-loop
     loop-holds
     instruction-skip-requires
-    enum-known-e
+    enum-known-far
+    enum-told
     returns
-    enum-known-n
     sub-left
     loop-less
     loop-again
