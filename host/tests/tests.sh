@@ -50,6 +50,7 @@ build_guard() {
 run bash host/tests/samples.sh
 run bash host/tests/format.sh
 run bash host/tests/contracts.sh
+run bash host/tests/edits.sh
 run bash host/tests/header.sh "$LIB" "$scratch/header"
 run bash host/tests/scripts.sh "$LIB" "$scratch/scripts"
 build_guard guard
