@@ -24,6 +24,12 @@ need_compiler() {
     command -v "$CC" >/dev/null || stop "gcc was installed, but there is still no cc"
 }
 
+# Proves and builds the archive. What vtil names is proved by rt check, which takes crates side by side; rt staticlib takes one after the other.
+build_archive() {
+    # shellcheck disable=SC2046
+    rt check $(sed -n 's/^vtil: *//p' crates.txt) && rt staticlib vtil
+}
+
 # Sets LIB to the archive.
 need_archive() {
     if [ -n "${VTIL_LIB:-}" ]; then
@@ -34,7 +40,7 @@ need_archive() {
     command -v rt >/dev/null || stop "rt is not there: it is the command of the Rattle kit, which proves and builds the library. Install the kit, or name an archive that is built already: VTIL_LIB=/path/to/libvtil.a $0"
     mkdir -p target
     echo "Proving and building the library: rt staticlib vtil (some minutes the first time)"
-    if ! rt staticlib vtil >target/staticlib.out 2>&1; then
+    if ! build_archive >target/staticlib.out 2>&1; then
         tail -n 30 target/staticlib.out >&2
         stop "the library was not proved or not built; target/staticlib.out has the whole report"
     fi

@@ -6,7 +6,13 @@ use lib.ListN.{length, take}
 use Rattle.pod.specs.Values.{RoutineConvention, BasicBlock, Routine}
 use Rattle.pod.specs.Written.{header-bytes, bytes, convention-bytes, block-bytes, many-bytes, routine-head-bytes, routine-bytes}
 use Rattle.laws.specs.Holds.{Routine-holds}
+use Rattle.machine.specs.Book.{State}
 pub use Rattle.machine.specs.Sound.{Sound}
+
+-- the state is sound: what the functions over an inspected state ask
+pub record Held (s : State) : Type 0 where
+  pub r : Routine
+  pub sound : Sound s r
 
 -- the image begins with the written form of r
 pub record Holding (image : List ℕ) (r : Routine) : Type 0 where

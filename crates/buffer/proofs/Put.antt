@@ -161,3 +161,6 @@ closed A X T B Z n m k ha hm hk hz =
 -- zeros side by side
 pub zeros-join : (k n m : ℕ) → k + n ≡ m → zeros k ++ zeros n ≡ zeros m
 zeros-join k n m h = replicate-append-replicate k n 0 ∙ ap zeros h
+
+pub zeros-split : (n k m : ℕ) → n ≡ k + m → zeros n ≡ zeros k ++ zeros m
+zeros-split n k m h = sym (zeros-join k m n (sym h))

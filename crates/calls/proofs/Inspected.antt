@@ -12,7 +12,7 @@ use Rattle.machine.proofs.Calls.{step-refused}
 use Rattle.book.specs.declared.Book.{Book}
 use Rattle.book.specs.Says.{state, outcome, refusal-of}
 use Rattle.image.proofs.Inspects.{refused-by, ready}
-use Rattle.edits.specs.Held.{Held}
+use Rattle.book.specs.Holding.{Held}
 
 module _ (image journal : List ℕ) (b : Book) (n : ℕ) (is : n ≡ refusal-of (held (state image journal b))) where
   pub sound : Bytes image → n ≡ 0 → Held (state image journal b)

@@ -17,7 +17,7 @@ pub fn create_block(book: Book, image: &mut [u8], journal: &mut [u8], vip: Vip) 
     if refusal != 0 {
         return Answer { refusal, book };
     }
-    edits::create_block(book, image, journal, vip)
+    create::create_block(book, image, journal, vip)
 }
 
 // The block with the vip goes, and the last block takes its place: 15 where it is absent, then 12.
@@ -45,7 +45,7 @@ pub fn append(
     if refusal != 0 {
         return Answer { refusal, book };
     }
-    edits::append(book, image, journal, vip, instruction)
+    append::append(book, image, journal, vip, instruction)
 }
 
 // The last accepted edit that stands is taken back: 16 where none does, and 13 where the journal's last entry does not fit the image.
@@ -56,5 +56,5 @@ pub fn undo(book: Book, image: &mut [u8], journal: &mut [u8]) -> Answer
     if refusal != 0 {
         return Answer { refusal, book };
     }
-    undo_last::undo(book, image, journal)
+    undo::undo(book, image, journal)
 }

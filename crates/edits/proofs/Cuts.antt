@@ -1,9 +1,9 @@
 -- The written form of a routine cut at the block with a place, and there at the end of its instructions: what the edits that change a block leave
--- before and after it. The cut is one law for every list of instructions that the block may have.
+-- before and after it. The cut is one law for every list of instructions that the block may have. Then the image of a sound state, cut there.
 -- Assumes nothing.
-use mathlib.Core.Path.{_≡_, sym, ap, _∙_}
+use mathlib.Core.Path.{_≡_, refl, sym, ap, _∙_}
 use mathlib.Core.List.{List, _∷_, _++_, append-assoc}
-use Prim.Native.Nat.{ℕ, suc, _+_, _≤_, _<_}
+use Prim.Native.Nat.{ℕ, suc, _+_, _-_, _*_, _≤_, _<_}
 use native.Mathlib.Omega.{arith}
 use lib.ListN.{length, take, drop, length-append}
 use lib.Seq.{split-at}
@@ -11,16 +11,18 @@ use Rattle.fields.specs.Bytes.{zeros}
 use Rattle.pod.specs.Values.{Instruction, BasicBlock, Routine}
 use Rattle.pod.specs.Written.{bytes, many-bytes, counted-bytes, instruction-bytes, block-head-bytes, block-bytes, routine-head-bytes, routine-bytes}
 use Rattle.laws.proofs.Back.{length-bytes}
-use Rattle.buffer.proofs.Put.{zeros-join}
 use Rattle.laws.proofs.Place.{many-append}
 use Rattle.laws.proofs.Sizes.{block-head-size, vips-size}
 use Rattle.machine.specs.Edits.{block-at, with-instructions, with-blocks}
+use Rattle.walk.specs.Ends.{word}
 use Rattle.machine.specs.Machine.{size}
+use Rattle.machine.specs.Book.{State, in-image}
 use Rattle.machine.proofs.Parts.{routine-parts}
-use Rattle.book.specs.Holding.{block-start}
-
-pub zeros-split : (n k m : ℕ) → n ≡ k + m → zeros n ≡ zeros k ++ zeros m
-zeros-split n k m h = sym (zeros-join k m n (sym h))
+use Rattle.machine.proofs.Keeps.{instructions-few, weight-at}
+use Rattle.book.specs.Holding.{block-start, Sound}
+use Rattle.image.proofs.Inspects.{sound-holding}
+use Rattle.image.proofs.Stands.{block-holds}
+use Rattle.image.proofs.Parts.{stands-here, instruction-count}
 
 -- what follows a block's instructions in it
 abbrev pub links : BasicBlock → List ℕ
@@ -84,3 +86,23 @@ module _ (r : Routine) (i : ℕ) where
 
     pub here-size : size r ≡ block-start r i + 28 + length (code-of (the-block .instructions)) + length behind
     here-size = ap size (sym as-is) ∙ cut-size (the-block .instructions)
+
+-- the image of a sound state, cut there
+module _ (s : State) (r : Routine) (o : Sound s r) (i : ℕ) (h : i < length (r .explored-blocks)) where
+  -- after the written form
+  abbrev pub unused : List ℕ
+  unused = zeros (length (s .image) - size r)
+
+  pub image-cut : s .image ≡ before r i ++ (bytes 4 (length (the-block r i .instructions)) ++ (code-of (the-block r i .instructions) ++ (behind r i ++ unused)))
+  unfolding in-image
+  image-cut = o .image ∙ rw (cut-here r i h) (simp append-assoc)
+
+  pub ends-within : block-start r i + 28 + length (code-of (the-block r i .instructions)) + length (behind r i) ≡ s .book .written
+  ends-within = sym (o .written ∙ here-size r i h)
+
+  -- the count of its instructions, each of which has 29 bytes at least
+  pub count-read : word 4 (s .image) (block-start r i + 24) ≡ length (the-block r i .instructions)
+  count-read = instruction-count _ (stands-here r i (sound-holding o) h refl) (block-holds (sound-holding o) i h)
+
+  pub count-few : 29 * length (the-block r i .instructions) ≤ s .book .written
+  count-few = omega (arith, instructions-few (the-block r i), weight-at r i (r .explored-blocks) h, o .written)

@@ -1,6 +1,6 @@
-pub mod Steps
-pub mod Cuts
+pub mod Places
+pub mod Laid
 pub mod Stands
-pub mod Flags
-pub mod Creates
-pub mod Appends
+pub mod Cuts
+pub mod Steps
+pub mod Restored

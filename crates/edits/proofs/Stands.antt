@@ -1,38 +1,47 @@
--- The image of a sound state, cut at a block's place; and that the block is within the written length.
+-- The block at a place of an image that begins with a routine's written form: its bytes stand at its start, and the walk ends it where they end.
+-- By splitting the blocks at the place.
 -- Assumes nothing.
-use mathlib.Core.Path.{_≡_, refl, sym, _∙_}
-use mathlib.Core.List.{List, _++_, append-assoc}
-use Prim.Native.Nat.{ℕ, _+_, _-_, _*_, _≤_, _<_}
+use mathlib.Core.Path.{_≡_, refl, ap, _∙_}
+use mathlib.Core.List.{List, _∷_, _++_}
+use Prim.Native.Nat.{ℕ, suc, _+_, _-_, _<_}
 use native.Mathlib.Omega.{arith}
-use lib.ListN.{length}
-use Rattle.fields.specs.Bytes.{zeros}
-use Rattle.pod.specs.Values.{Routine}
-use Rattle.pod.specs.Written.{bytes}
-use Rattle.walk.specs.Ends.{word}
+use lib.ListN.{length, take, drop}
+use lib.Seq.{split-at, take-at}
+use Rattle.pod.specs.Values.{BasicBlock, Routine}
+use Rattle.pod.specs.Written.{block-bytes}
+use Rattle.laws.proofs.At.{At}
+use Rattle.walk.specs.Ends.{blockEnd}
+use Rattle.machine.specs.Edits.{empty-block, block-at}
 use Rattle.machine.specs.Machine.{size}
-use Rattle.machine.specs.Book.{State, in-image}
-use Rattle.machine.proofs.Keeps.{instructions-few, weight-at}
-use Rattle.book.specs.Holding.{block-start, Sound}
-use Rattle.image.proofs.Inspects.{sound-holding}
-use Rattle.image.proofs.Stands.{block-holds}
-use Rattle.image.proofs.Parts.{stands-here, instruction-count}
-use Rattle.edits.proofs.Cuts.{before, behind, the-block, code-of, cut-here, here-size}
+use Rattle.machine.proofs.Keeps.{weight}
+use Rattle.book.specs.Holding.{block-start, Holding}
+use Rattle.image.proofs.Stands.{block-stands, block-holds, block-far}
+use Rattle.edits.proofs.Laid.{written, written-size, length-written, length-cons}
 
-module _ (s : State) (r : Routine) (o : Sound s r) (i : ℕ) (h : i < length (r .explored-blocks)) where
-  -- after the written form
-  abbrev pub unused : List ℕ
-  unused = zeros (length (s .image) - size r)
+module _ (r : Routine) (i : ℕ) (h : i < length (r .explored-blocks)) where
+  abbrev pub blocks : List BasicBlock
+  blocks = r .explored-blocks
 
-  pub image-cut : s .image ≡ before r i ++ (bytes 4 (length (the-block r i .instructions)) ++ (code-of (the-block r i .instructions) ++ (behind r i ++ unused)))
-  unfolding in-image
-  image-cut = o .image ∙ rw (cut-here r i h) (simp append-assoc)
+  abbrev pub here : BasicBlock
+  here = block-at i blocks
 
-  pub ends-within : block-start r i + 28 + length (code-of (the-block r i .instructions)) + length (behind r i) ≡ s .book .written
-  ends-within = sym (o .written ∙ here-size r i h)
+  pub split : blocks ≡ take i blocks ++ (here ∷ drop (suc i) blocks)
+  split = split-at blocks i (empty-block 0) h
 
-  -- the count of its instructions, each of which has 29 bytes at least
-  pub count-read : word 4 (s .image) (block-start r i + 24) ≡ length (the-block r i .instructions)
-  count-read = instruction-count _ (stands-here r i (sound-holding o) h refl) (block-holds (sound-holding o) i h)
+  -- the routine ends after it, by the blocks that follow
+  pub tail-size : block-start r i + weight here + length (written (drop (suc i) blocks)) ≡ size r
+  tail-size =
+      omega (arith, written-size r blocks, ap (λ (l : List BasicBlock). length (written l)) split, length-written (take i blocks) (here ∷ drop (suc i) blocks), length-cons here (drop (suc i) blocks))
 
-  pub count-few : 29 * length (the-block r i .instructions) ≤ s .book .written
-  count-few = omega (arith, instructions-few (the-block r i), weight-at r i (r .explored-blocks) h, o .written)
+  module _ (image : List ℕ) (held : Holding image r) where
+    stands : At image (block-start r i) (block-bytes here)
+    stands = block-stands held i h
+
+    -- the part that the code copies
+    pub part-here : (at end : ℕ) → at ≡ block-start r i → end ≡ at + weight here → take (end - at) (drop at image) ≡ block-bytes here
+    part-here at end a e =
+        let k : end - at ≡ weight here = omega arith in
+        rw (k, a) (ap (take (weight here)) (stands .is) ∙ take-at (block-bytes here) (stands .rest) (weight here) refl)
+
+    pub end-here : (at : ℕ) → at ≡ block-start r i → blockEnd image at ≡ at + weight here
+    end-here at e = rw e (block-far (block-start r i) here (block-holds held i h) stands)

@@ -52,6 +52,9 @@ pub fn inspect(book: Book, image: &[u8], journal: &[u8]) -> u64
     0
 }
 
+// In a block, where the count of its instructions stands.
+pub const COUNT_AT: usize = 24;
+
 // Where the blocks begin, and how many there are.
 pub struct Blocks {
     pub start: usize,
@@ -155,7 +158,7 @@ pub fn instruction_offset(image: &[u8], at: usize, k: u32) -> usize
 pub fn instructions_end(image: &[u8], at: usize) -> usize
     ensures { λ r. ⌜ ((x : Routine) (i : ℕ) → Holding (now (image .entry)) x → i < length (x .explored-blocks) → at ≡ block-start x i → r ≡ instruction-start x i (length (block-at i (x .explored-blocks) .instructions))) ⌝ }
 {
-    let a = walk::jump(image, at, 24);
+    let a = walk::jump(image, at, COUNT_AT);
     let count = walk::word32(image, a);
     let b = walk::jump(image, a, 4);
     walk::instructions_end(image, b, count)

@@ -170,6 +170,32 @@ found v (b ∷ bs) h = go (found v bs) (eqb (b .vip) v) refl h
     go r true q h = record { within = rw q (omega arith); vip = rw q (eqb-true (b .vip) v q) }
     go r false q h = let f = r h in record { within = rw q (omega (arith, f .within)); vip = rw q (f .vip) }
 
+-- a vip is present where its place is one of the blocks, and absent where it is the number of blocks
+place-absent : (v : ℕ) (bs : List BasicBlock) → present v bs ≡ false → place v bs ≡ length bs
+unfolding has place choose
+place-absent v [] h = refl
+place-absent v (b ∷ bs) h = go (place-absent v bs) (eqb (b .vip) v) refl h
+  where
+    go : (has v (vips bs) ≡ false → place v bs ≡ length bs) → (t : Bool) → eqb (b .vip) v ≡ t → choose t true (has v (vips bs)) ≡ false
+        → choose t 0 (suc (place v bs)) ≡ suc (length bs)
+    go f true q p = let z : _≡_ {A = ℕ} 0 1 = cc in absurd (omega arith)
+    go f false q p = ap suc (f p)
+
+module _ (v : ℕ) (bs : List BasicBlock) where
+  pub present-before : place v bs < length bs → present v bs ≡ true
+  present-before h = go (present v bs) refl
+    where
+      go : (t : Bool) → present v bs ≡ t → t ≡ true
+      go true q = refl
+      go false q = absurd (omega (arith, place-absent v bs q))
+
+  pub absent-after : length bs ≤ place v bs → present v bs ≡ false
+  absent-after h = go (present v bs) refl
+    where
+      go : (t : Bool) → present v bs ≡ t → t ≡ false
+      go true q = absurd (omega (arith, found v bs q .within))
+      go false q = refl
+
 pub absent-count : (v : ℕ) (bs : List BasicBlock) → present v bs ≡ false → total (one v) bs ≡ 0
 unfolding has total choose
 absent-count v [] h = refl

@@ -15,7 +15,7 @@ use Rattle.machine.specs.Edits.{with-blocks}
 use Rattle.machine.specs.Machine.{size}
 use Rattle.machine.specs.Book.{in-image}
 use Rattle.book.specs.Holding.{blocks-start}
-use Rattle.parts.proofs.Laid.{written, laid, upto, length-upto, laid-upto, in-laid, recount, written-size, written-parts, written-snoc, length-written, length-cons, length-one, zeros-join}
+use Rattle.edits.proofs.Laid.{written, laid, upto, length-upto, laid-upto, in-laid, recount, written-size, written-parts, written-snoc, length-written, length-cons, length-one, zeros-join}
 
 -- blocks p and then b, the last, in an image of N bytes: it is cleared, and the count lowered
 module _ (r : Routine) (N : ℕ) (p : List BasicBlock) (b : BasicBlock) where

@@ -17,13 +17,14 @@ use Rattle.machine.specs.Machine.{edit, size}
 use Rattle.machine.specs.Journal.{trailer-bytes, entry}
 use Rattle.machine.specs.Book.{in-image, step}
 use Rattle.machine.proofs.Keeps.{weight, removed-size}
+use Rattle.machine.proofs.Lists.{present-before, absent-after}
 use Rattle.machine.proofs.Undo.{trailer-size}
 use Rattle.book.specs.Says.{state, outcome}
 use Rattle.book.specs.Holding.{block-start, Sound}
 use Rattle.book.specs.declared.Book.{Book}
 use Rattle.book.specs.declared.Answer.{Answer}
 use Rattle.trailer.specs.Says.{named}
-use Rattle.edits.proofs.Steps.{present-before, absent-after, refused-step, journal-full-step, accepted-step}
+use Rattle.edits.proofs.Steps.{refused-step, journal-full-step, accepted-step}
 
 module _ (image journal : List ℕ) (book : Book) (r : Routine) (g : Sound (state image journal book) r) (v : ℕ) where
   abbrev blocks : List BasicBlock

@@ -18,10 +18,10 @@ use Rattle.machine.proofs.Keeps.{weight}
 use Rattle.machine.proofs.Lists.{total-least, many-total}
 use Rattle.book.specs.Holding.{blocks-start, block-start, Holding}
 use Rattle.remove.specs.Leaving.{Leaving}
-use Rattle.parts.proofs.Places.{remove-end, remove-mid, Between, between, but-end}
-use Rattle.parts.proofs.Laid.{written, written-size, length-written, length-cons}
+use Rattle.edits.proofs.Places.{remove-end, remove-mid, Between, between, but-end}
+use Rattle.edits.proofs.Laid.{written, written-size, length-written, length-cons}
 use Rattle.remove.proofs.Outs.{last-out, mid-out}
-use Rattle.parts.proofs.Stands.{split, tail-size}
+use Rattle.edits.proofs.Stands.{split, tail-size}
 
 module _ (r : Routine) (i : ℕ) (image : List ℕ) (at end w : ℕ) (l : Leaving r i image at end w) where
   abbrev blocks : List BasicBlock

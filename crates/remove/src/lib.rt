@@ -9,7 +9,7 @@ ghost use Rattle.machine.specs.Edits.{remove, remove-at, with-blocks};
 ghost use Rattle.machine.specs.Machine.{edit};
 ghost use Rattle.machine.specs.Book.{in-image, step};
 ghost use Rattle.book.specs.Says.{state, outcome};
-ghost use Rattle.edits.specs.Held.{Held};
+ghost use Rattle.book.specs.Holding.{Held};
 ghost use Rattle.remove.specs.Leaving.{Leaving, Leaves};
 use book::Answer;
 use book::Book;

@@ -1,12 +1,12 @@
-// The trailer, the 20 bytes that end a journal entry: written and read.
+// The trailer, the 20 bytes that end a journal entry: written, read and cleared.
 //
 // These functions have a `requires`: they are for the crates above, which call them only with numbers that they have tested against the journal's
 // length.
 ghost use mathlib.Core.Path.{_≡_};
-ghost use Prim.Native.Nat.{_+_, _≤_};
+ghost use Prim.Native.Nat.{_+_, _-_, _≤_};
 ghost use lib.ListN.{length};
 ghost use Rattle.fields.specs.Parse.{ok};
-ghost use Rattle.fields.specs.Bytes.{put};
+ghost use Rattle.fields.specs.Bytes.{put, zeros};
 ghost use Rattle.machine.specs.Journal.{trailer, trailer-bytes};
 ghost use Rattle.trailer.specs.Says.{named, trailer-of};
 use pod::Vip;
@@ -53,4 +53,14 @@ pub fn read_trailer(journal: &[u8], at: usize) -> Trailer
         length,
         kind,
     }
+}
+
+// The trailer at the end of the used part becomes zeros. Answers how much is used before it.
+pub fn clear_trailer(journal: &mut [u8], used: usize) -> usize
+    requires { ⌜ (20 ≤ used) × (used ≤ length (now journal)) ⌝ }
+    ensures { λ r. ⌜ (r ≡ used - 20) × (now (journal .exit) ≡ put (used - 20) (zeros 20) (now (journal .entry))) ⌝ }
+{
+    let before = used - TRAILER_SIZE;
+    buffer::clear(journal, before, used);
+    before
 }

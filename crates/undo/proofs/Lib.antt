@@ -1,4 +1,1 @@
-pub mod Restores
-pub mod Fresh
-pub mod Uncreates
-pub mod Unappends
+pub mod Entry

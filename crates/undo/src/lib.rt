@@ -1,153 +1,45 @@
-// Taking back a create and an append, from the trailer of the journal's last entry, which is all of that entry.
+// Taking back the last edit, of whichever kind it was.
 //
-// Each function has a `requires` that the state is sound, or that an image holds a block: they are for the crate above, whose call inspects the lent
-// image and the book first, and reads the trailer.
+// `undo` requires that the state is sound: it is for the crate above, whose call inspects the lent image and the book first.
 ghost use mathlib.Core.Path.{_≡_};
-ghost use Prim.Native.Nat.{_+_, _-_, _≤_};
-ghost use lib.ListN.{length};
-ghost use Rattle.fields.specs.Bytes.{put, zeros};
-ghost use Rattle.fields.specs.Outcome.{accepted};
-ghost use Rattle.pod.specs.Values.{BasicBlock, Routine};
-ghost use Rattle.pod.specs.Written.{block-bytes};
-ghost use Rattle.laws.specs.Holds.{Block-holds};
-ghost use Rattle.laws.proofs.At.{At};
-ghost use Rattle.machine.specs.Journal.{is-fresh, undo-create, undo-append};
-ghost use Rattle.machine.specs.Book.{held, restored};
+ghost use Rattle.machine.specs.Machine.{undo};
+ghost use Rattle.machine.specs.Book.{step};
 ghost use Rattle.book.specs.Says.{state, outcome};
-ghost use Rattle.trailer.specs.Says.{trailer-of};
-ghost use Rattle.edits.specs.Held.{Held};
+ghost use Rattle.book.specs.Holding.{Held};
 use book::Answer;
 use book::Book;
-use trailer::Trailer;
 
-// Whether the block at `at` is as create left it: no list has an element, and the fields before them but the vip are 0. Where a list is empty, the
-// count of the next follows its own.
-fn is_fresh(image: &[u8], at: usize) -> bool
-    requires { ⌜ at + 36 ≤ length (now image) ⌝ }
-    ensures { λ r. ⌜ ((b : BasicBlock) → Block-holds b → At (now (image .entry)) at (block-bytes b) → r ≡ is-fresh b) ⌝ }
+// The entry that ends the journal's used part says what to take back; 16 where nothing is used, and 13 where that is no entry.
+pub fn undo(book: Book, image: &mut [u8], journal: &mut [u8]) -> Answer
+    requires { ⌜ Held (state (now image) (now journal) book) ⌝ }
+    ensures { λ x. ⌜ outcome x (now (image .exit)) (now (journal .exit)) ≡ step undo (state (now (image .entry)) (now (journal .entry)) book) ⌝ }
 {
-    if walk::word64(image, at + 8) != 0 {
-        return false;
-    }
-    if walk::word32(image, at + 16) != 0 {
-        return false;
-    }
-    if walk::word32(image, at + 20) != 0 {
-        return false;
-    }
-    if walk::word32(image, at + 24) != 0 {
-        return false;
-    }
-    if walk::word32(image, at + 28) != 0 {
-        return false;
-    }
-    walk::word32(image, at + 32) == 0
-}
-
-// The last entry, which is a trailer alone, becomes zeros. Answers how much of the journal is used before it.
-fn clear_entry(journal: &mut [u8], used: usize) -> usize
-    requires { ⌜ (20 ≤ used) × (used ≤ length (now journal)) ⌝ }
-    ensures { λ r. ⌜ (r ≡ used - 20) × (now (journal .exit) ≡ put (used - 20) (zeros 20) (now (journal .entry))) ⌝ }
-{
-    let before = used - trailer::TRAILER_SIZE;
-    buffer::clear(journal, before, used);
-    before
-}
-
-// Taking back a create: the last block, which must be the one that was created and as it was then, becomes zeros.
-pub fn undo_create(book: Book, image: &mut [u8], journal: &mut [u8], last: Trailer) -> Answer
-    requires { ⌜ Held (state (now image) (now journal) book) × (20 ≤ book .used) ⌝ }
-    ensures { λ x. ⌜ ((r : Routine) → held (state (now (image .entry)) (now (journal .entry)) book) ≡ accepted r → outcome x (now (image .exit)) (now (journal .exit)) ≡ restored (state (now (image .entry)) (now (journal .entry)) book) (undo-create r (trailer-of last))) ⌝ }
-{
-    let written = book.written as usize;
     let used = book.used as usize;
-    let place = last.place;
-    if last.length != 0 {
+    if used == 0 {
+        return Answer {
+            refusal: book::NOTHING_TO_TAKE_BACK,
+            book,
+        };
+    }
+    if used < trailer::TRAILER_SIZE {
         return Answer {
             refusal: book::SPOILED_BOOK,
             book,
         };
     }
-    let blocks = image::blocks_of(image);
-    let start = blocks.start;
-    if place as usize + 1 != blocks.count as usize {
-        return Answer {
-            refusal: book::SPOILED_BOOK,
-            book,
-        };
+    let last = trailer::read_trailer(journal, used - trailer::TRAILER_SIZE);
+    let kind = last.kind;
+    if kind == trailer::CREATE {
+        return undo_create::undo_create(book, image, journal, last);
     }
-    let at = image::block_offset(image, place as usize);
-    if walk::word64(image, at) != last.vip.0 {
-        return Answer {
-            refusal: book::SPOILED_BOOK,
-            book,
-        };
+    if kind == trailer::REMOVE {
+        return undo_remove::undo_remove(book, image, journal, last);
     }
-    if !is_fresh(image, at) {
-        return Answer {
-            refusal: book::SPOILED_BOOK,
-            book,
-        };
+    if kind == trailer::APPEND {
+        return undo_append::undo_append(book, image, journal, last);
     }
-    buffer::clear(image, at, written);
-    buffer::put_u32(image, start - 4, place);
-    let before = clear_entry(journal, used);
     Answer {
-        refusal: 0,
-        book: Book {
-            written: at as u64,
-            used: before as u64,
-        },
-    }
-}
-
-// Taking back an append: the last instruction of the block, which must have the size that was appended, goes, and what stands after it moves down.
-pub fn undo_append(book: Book, image: &mut [u8], journal: &mut [u8], last: Trailer) -> Answer
-    requires { ⌜ Held (state (now image) (now journal) book) × (20 ≤ book .used) ⌝ }
-    ensures { λ x. ⌜ ((r : Routine) → held (state (now (image .entry)) (now (journal .entry)) book) ≡ accepted r → outcome x (now (image .exit)) (now (journal .exit)) ≡ restored (state (now (image .entry)) (now (journal .entry)) book) (undo-append r (trailer-of last))) ⌝ }
-{
-    let written = book.written as usize;
-    let used = book.used as usize;
-    let place = last.place;
-    let size = last.length as usize;
-    let blocks = image::blocks_of(image);
-    if blocks.count <= place {
-        return Answer {
-            refusal: book::SPOILED_BOOK,
-            book,
-        };
-    }
-    let at = image::block_offset(image, place as usize);
-    if walk::word64(image, at) != last.vip.0 {
-        return Answer {
-            refusal: book::SPOILED_BOOK,
-            book,
-        };
-    }
-    let count = walk::word32(image, at + edits::COUNT_AT);
-    if count == 0 {
-        return Answer {
-            refusal: book::SPOILED_BOOK,
-            book,
-        };
-    }
-    let from = image::instruction_offset(image, at, count - 1);
-    let end = image::instructions_end(image, at);
-    if end - from != size {
-        return Answer {
-            refusal: book::SPOILED_BOOK,
-            book,
-        };
-    }
-    buffer::move_within(image, end, from, written - end);
-    buffer::clear(image, written - size, written);
-    buffer::put_u32(image, at + edits::COUNT_AT, count - 1);
-    let before = clear_entry(journal, used);
-    Answer {
-        refusal: 0,
-        book: Book {
-            written: (written - size) as u64,
-            used: before as u64,
-        },
+        refusal: book::SPOILED_BOOK,
+        book,
     }
 }

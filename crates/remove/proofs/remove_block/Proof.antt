@@ -15,7 +15,7 @@ use Rattle.book.specs.Holding.{Holding}
 use Rattle.image.specs.Places.{Spotted}
 use Rattle.remove.specs.Leaving.{Leaving}
 use Rattle.image.proofs.Inspects.{sound-holding}
-use Rattle.parts.proofs.Stands as B
+use Rattle.edits.proofs.Stands as B
 use Rattle.remove.proofs.Steps as K
 use borrow.Author.Needs.{needs}
 use Rattle.remove.proofs.remove_block.Statement.{statement}

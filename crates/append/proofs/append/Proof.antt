@@ -1,0 +1,76 @@
+-- `append::append` meets its contract: each answer is one law of appending, with what `instruction_skip` tells of the bytes.
+-- Assumes nothing.
+use mathlib.Core.Path.{_≡_, sym, ap, _∙_}
+use mathlib.Core.Bool.{false}
+use Rattle.fields.specs.Parse.{ok, no, choose, span}
+use Rattle.fields.specs.Answers.{of-skip}
+use Rattle.pod.specs.Layout.{instruction}
+use Rattle.machine.specs.Book.{State}
+use Rattle.book.specs.Says.{state}
+use Rattle.append.proofs.Appends as A
+use borrow.Author.Needs.{needs}
+use Rattle.append.proofs.append.Statement.{statement}
+use Rattle.append.proofs.append.Tie as tie
+
+abbrev S : tie.Start → State
+S s = state (s .args .image .now) (s .args .journal .now) (s .args .book)
+
+-- what the skip told
+refused-with : (c : tie.After-e) → no (c .e .given .0 .0) ≡ span (instruction false (c .before .before .before .before .before .before .args .instruction .now) 0)
+refused-with c = sym (ap of-skip (c .e .given .1)) ∙ c .before .before .instruction-skip .ensures
+
+read-to : (c : tie.After-end) → ok tt (c .end .given .0 .0) ≡ span (instruction false (c .before .before .before .before .before .before .args .instruction .now) 0)
+read-to c = sym (ap of-skip (c .end .given .1)) ∙ c .before .before .instruction-skip .ensures
+
+instruction-skip-requires : tie.Need-instruction-skip-requires
+instruction-skip-requires c κs = search needs
+
+enum-known-e : tie.Need-enum-known-e
+enum-known-e c = search needs
+
+cast-t10 : tie.Need-cast-t10
+cast-t10 c = search needs
+
+enum-known-end : tie.Need-enum-known-end
+enum-known-end c = search needs
+
+returns : tie.Need-returns
+unfolding choose
+returns c =
+    let s = (c .before .before .before .before .before .before .before .before) in
+    A.append-leftover (S s) (s .pre .r) (s .pre .sound) (s .args .vip .0) (s .args .instruction .now) _ (read-to (c .before .before)) (c .if1 .taken)
+
+append-whole-requires : tie.Need-append-whole-requires
+append-whole-requires c κs =
+    let s = (c .before .before .before .before .before .before .before .before .before .before) in
+    let b = c .before .before .before .before .before .before .before .shared-slice-known .given in
+    (s .pre, A.all-read (S s) (s .pre .r) (s .pre .sound) (s .args .vip .0) (s .args .instruction .now) b _ (read-to (c .before .before .before .before)) (c .before .before .if1 .left))
+
+returns-2 : tie.Need-returns-2
+returns-2 c =
+    let s = (c .before .before .before .before .before .before .before) in
+    A.append-unread (S s) (s .pre .r) (s .pre .sound) (s .args .vip .0) (s .args .instruction .now) _ _ (refused-with (c .before))
+
+same-length : tie.Need-same-length
+same-length c = search needs
+
+same-length-2 : tie.Need-same-length-2
+same-length-2 c = search needs
+
+returns-3 : tie.Need-returns-3
+returns-3 c = search needs
+
+pub append-spec : {M : Type 1} → statement M
+append-spec =
+    tie.close
+    (tie.spec
+    instruction-skip-requires
+    enum-known-e
+    cast-t10
+    enum-known-end
+    returns
+    append-whole-requires
+    returns-2
+    same-length
+    same-length-2
+    returns-3)

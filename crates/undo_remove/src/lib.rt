@@ -1,0 +1,116 @@
+// Taking back a removal: the block that the journal's last entry holds goes back to its place in the image.
+//
+// `undo_remove` requires that the state is sound: it is for the crate above, whose call inspects the lent image and the book first.
+ghost use mathlib.Core.Path.{_≡_};
+ghost use Prim.Native.Nat.{_-_, _≤_};
+ghost use lib.ListN.{length, take};
+ghost use Rattle.fields.specs.Outcome.{accepted};
+ghost use Rattle.pod.specs.Values.{BasicBlock, Routine};
+ghost use Rattle.pod.specs.Written.{block-bytes};
+ghost use Rattle.machine.specs.Edits.{insert-at, with-blocks};
+ghost use Rattle.machine.specs.Machine.{size};
+ghost use Rattle.machine.specs.Journal.{undo-remove};
+ghost use Rattle.machine.specs.Book.{in-image, held, restored};
+ghost use Rattle.book.specs.Says.{state, outcome};
+ghost use Rattle.book.specs.Holding.{Holding};
+ghost use Rattle.trailer.specs.Says.{trailer-of};
+ghost use Rattle.book.specs.Holding.{Held};
+ghost use Rattle.undo_remove.specs.Blocks.{is-block, may-enter};
+ghost use Rattle.undo_remove.specs.Entering.{Entering, Enters};
+use book::Answer;
+use book::Book;
+use fields::Skip;
+use pod::Vip;
+use trailer::Trailer;
+
+// Whether `s` is exactly one block in written form, with the vip.
+fn is_block(s: &[u8], vip: Vip) -> bool
+    ensures { λ r. ⌜ r ≡ is-block (vip .0) (now (s .entry)) ⌝ }
+{
+    match block::block_skip(s, 0, true) {
+        Skip::Refused(_) => false,
+        Skip::Past(end) => {
+            if end == s.len() {
+                fields::eight(s, 0) == vip.0
+            } else {
+                false
+            }
+        }
+    }
+}
+
+// The block goes to its place, and the one standing there goes last: it is written after the last block, and then the two change places. Where its
+// place is the number of blocks, it stays there. The count of blocks stands in the 4 bytes before them.
+fn put_in(image: &mut [u8], place: usize, written: usize, block: &[u8])
+    requires { ⌜ Enters (now image) place written (now block) ⌝ }
+    ensures { λ _. ⌜ ((r : Routine) (b : BasicBlock) → Entering r (now (image .entry)) place written (now (block .entry)) → now (block .entry) ≡ block-bytes b → now (image .exit) ≡ in-image (length (now (image .entry))) (with-blocks (insert-at place b (r .explored-blocks)) r)) ⌝ }
+{
+    let blocks = image::blocks_of(image);
+    let start = blocks.start;
+    let count = blocks.count;
+    if count as usize <= place {
+        buffer::copy_at(image, written, block);
+        buffer::put_u32(image, start - 4, count + 1);
+        return;
+    }
+    let at = image::block_offset(image, place);
+    let next = walk::block_end(image, at);
+    buffer::copy_at(image, written, block);
+    buffer::exchange(image, at, next, written, written + block.len());
+    buffer::put_u32(image, start - 4, count + 1);
+}
+
+// Whether the bytes of the block may enter the routine that ends at `written`: they are one written block with the vip, no block has it, the place is
+// one of the blocks' or the next, and there is room.
+fn may_enter(image: &[u8], written: usize, block: &[u8], vip: Vip, place: u32) -> bool
+    requires { ⌜ written ≤ length (now image) ⌝ }
+    ensures { λ x. ⌜ ((r : Routine) → Holding (now (image .entry)) r → written ≡ size r → x ≡ may-enter (length (now (image .entry))) r (vip .0) place (now (block .entry))) ⌝ }
+{
+    if !is_block(block, vip) {
+        return false;
+    }
+    let spot = image::find(image, vip);
+    let count = spot.count;
+    if spot.place < count as usize {
+        return false;
+    }
+    if count < place {
+        return false;
+    }
+    block.len() <= image.len() - written
+}
+
+// The removal whose entry ends in the trailer `last` is taken back, or refused with 13 where the entry does not fit. What `last` says comes from the
+// journal, so it is compared before it is added or subtracted.
+pub fn undo_remove(book: Book, image: &mut [u8], journal: &mut [u8], last: Trailer) -> Answer
+    requires { ⌜ (Held (state (now image) (now journal) book)) × (20 ≤ book .used) ⌝ }
+    ensures { λ x. ⌜ ((r : Routine) → held (state (now (image .entry)) (now (journal .entry)) book) ≡ accepted r → outcome x (now (image .exit)) (now (journal .exit)) ≡ restored (state (now (image .entry)) (now (journal .entry)) book) (undo-remove (length (now (image .entry))) r (take (book .used - 20) (now (journal .entry))) (trailer-of last))) ⌝ }
+{
+    let written = book.written as usize;
+    let used = book.used as usize;
+    let before = used - trailer::TRAILER_SIZE;
+    let size = last.length as usize;
+    let place = last.place;
+    if before < size {
+        return Answer {
+            refusal: book::SPOILED_BOOK,
+            book,
+        };
+    }
+    let from = before - size;
+    if !may_enter(image, written, &journal[from..before], last.vip, place) {
+        return Answer {
+            refusal: book::SPOILED_BOOK,
+            book,
+        };
+    }
+    put_in(image, place as usize, written, &journal[from..before]);
+    buffer::clear(journal, from, used);
+    Answer {
+        refusal: 0,
+        book: Book {
+            written: (written + size) as u64,
+            used: from as u64,
+        },
+    }
+}
