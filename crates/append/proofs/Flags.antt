@@ -6,7 +6,7 @@ use mathlib.Core.List.{List, [], _∷_, _++_}
 use Prim.Native.Nat.{ℕ, suc, _+_, _-_, _≤_, _<_}
 use native.Mathlib.Omega.{arith}
 use lib.Dec.{eqb}
-use lib.ListN.{length, take, getD, length-append, drop-of-length-le}
+use lib.ListN.{length, take, getD, drop-of-length-le}
 use lib.Seq.{split-at, length-take-le, take-length}
 use borrow.Author.Tests.{ne-eqb}
 use Rattle.fields.specs.Bytes.{put}
@@ -47,9 +47,6 @@ module _ (t : List ℕ) (h : 0 < length t) where
   flagged-is : flagged t ≡ front ++ (bit (not (eqb end 0)) ∷ [])
   unfolding last-flag
   flagged-is = ap₂ (λ k l. normalise (keeps k ++ (flag ∷ [])) l) (sym front-size) is-snoc ∙ flagged-snoc front end
-
-  pub flagged-size : length (flagged t) ≡ length t
-  flagged-size = ap length flagged-is ∙ omega (arith, length-append front (bit (not (eqb end 0)) ∷ []), front-size)
 
   -- a last byte of 0 stays, and any other becomes 1
   pub flag-off : end ≡ 0 → t ≡ flagged t

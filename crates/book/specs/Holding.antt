@@ -1,10 +1,10 @@
 -- An image that holds a routine: what the functions over an inspected image speak of.
-use Prim.Native.Nat.{ℕ, _+_, _≤_, _<_}
+use Prim.Native.Nat.{ℕ, _+_}
 use mathlib.Core.Path.{_≡_}
 use mathlib.Core.List.{List, _++_}
 use lib.ListN.{length, take}
-use Rattle.pod.specs.Values.{RoutineConvention, BasicBlock, Routine}
-use Rattle.pod.specs.Written.{header-bytes, bytes, convention-bytes, block-bytes, many-bytes, routine-head-bytes, routine-bytes}
+use Rattle.pod.specs.Values.{Routine}
+use Rattle.pod.specs.Written.{block-bytes, many-bytes, routine-head-bytes, routine-bytes}
 use Rattle.laws.specs.Holds.{Routine-holds}
 use Rattle.machine.specs.Book.{State}
 pub use Rattle.machine.specs.Sound.{Sound}

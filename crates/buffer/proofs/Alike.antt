@@ -1,5 +1,5 @@
--- Two lists alike from one index to another, by bytes or by numbers of several bytes: numbers of as many bytes are equal where the bytes are, and
--- only there. A list of zeros is compared with [], since what stands past a list's end reads as 0.
+-- A list alike with [] from one index to another, by bytes or by numbers of several bytes: numbers of as many bytes are equal where the bytes are, and
+-- only there. Zeros are compared with [], since what stands past a list's end reads as 0.
 -- Assumes nothing.
 use mathlib.Core.Path.{_≡_, refl, sym, ap, ap₂, _∙_}
 use mathlib.Core.Bool.{Bool, true, false}
@@ -83,14 +83,3 @@ module _ (a : List ℕ) (f : ℕ) where
   -- a byte that is not 0
   pub zeros-no-byte : (i : ℕ) → f ≤ i → (getD a i 0 ≡ 0 → ⊥) → same (drop f a) (zeros (length a - f)) ≡ false
   zeros-no-byte i l n = same-no _ _ (λ z. n (only-zeros z i l))
-
--- two whole lists
-module _ (a b : List ℕ) where
-  pub same-alike : (n : ℕ) → length a ≡ length b → n ≡ length a → Alike a b 0 n → same a b ≡ true
-  same-alike n l e h = same-yes _ _ (ext-getD 0 a b l (λ j m. h .at j (omega arith) (omega arith)))
-
-  pub same-no-le : (k i : ℕ) → (le k a i ≡ le k b i → ⊥) → same a b ≡ false
-  same-no-le k i n = same-no _ _ (λ e. n (ap (λ (s : List ℕ). le k s i) e))
-
-  pub same-no-byte : (i : ℕ) → (getD a i 0 ≡ getD b i 0 → ⊥) → same a b ≡ false
-  same-no-byte i n = same-no _ _ (λ e. n (ap (λ (s : List ℕ). getD s i 0) e))

@@ -84,10 +84,6 @@ put-over n x y a h e =
     let d : drop (n + length x) (put n y a) ≡ drop (n + length x) a = drop-put-after n y a h (n + length x) (omega arith) in
     ap (λ (l : List ℕ). l ++ (x ++ drop (n + length x) (put n y a))) t ∙ ap (λ (l : List ℕ). take n a ++ (x ++ l)) d
 
--- what stood there, put back
-pub put-back : (n : ℕ) (x a : List ℕ) → n + length x ≤ length a → put n (take (length x) (drop n a)) (put n x a) ≡ a
-put-back n x a h = put-over n (take (length x) (drop n a)) x a (omega arith) (length-part n (length x) a h) ∙ put-own n (length x) a h
-
 -- two puts side by side are one: the second after the first, and before it
 module _ (n : ℕ) (x y a : List ℕ) (h : n + (length x + length y) ≤ length a) where
   far : n + length x + length y ≡ n + length (x ++ y)

@@ -130,10 +130,6 @@ module _ (a : List ℕ) (s b c e : ℕ) (hb : s ≤ b) (hc : b ≤ c) (he : c �
       ap (λ (l : List ℕ). reversed (e - (b - s)) e (reversed (s + (e - c)) (e - (b - s)) (reversed s (s + (e - c)) (reversed s e l)))) cut
       ∙ four-parts (take s a) (slice s b a) (slice b c a) (slice c e a) (drop e a) s b c e la (omega arith) (omega arith) (omega arith) _ _ refl refl
 
-  pub length-exchanged : length (exchanged s b c e a) ≡ length a
-  unfolding exchanged
-  length-exchanged = simp length-append (omega (arith, simp length-append at (ap length cut)))
-
 -- a turn of the loop that reverses from both ends: to reverse what is left is to reverse all
 pub reversed-turn : (a : List ℕ) (i j n : ℕ) → i ≤ j → n + n ≤ j - i → j ≤ length a → reversed (i + n) (j - n) (swapped-back i (j - n) n a) ≡ reversed i j a
 unfolding slice

@@ -188,27 +188,3 @@ pub fn is_zero(a: &[u8], from: usize) -> bool
     }
     true
 }
-
-// Whether `a` and `b` are the same bytes: eight at a time, and then the few that are left.
-pub fn is_same(a: &[u8], b: &[u8]) -> bool
-    ensures { λ r. ⌜ r ≡ same (now (a .entry)) (now (b .entry)) ⌝ }
-{
-    if a.len() != b.len() {
-        return false;
-    }
-    let n = a.len();
-    let mut i = 0;
-    while 8 <= n - i {
-        if fields::eight(a, i) != fields::eight(b, i) {
-            return false;
-        }
-        i += 8;
-    }
-    while i < n {
-        if a[i] != b[i] {
-            return false;
-        }
-        i += 1;
-    }
-    true
-}

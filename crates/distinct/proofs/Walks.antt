@@ -8,7 +8,6 @@ use Prim.Native.Nat.{ℕ, _+_, _≤_, _<_, _-_}
 use native.Mathlib.Omega.{arith}
 use lib.ListN.{length, getD, set, length-set}
 use lib.Seq.{getD-set-same, getD-set-other}
-use Rattle.pod.specs.Blocks.{repeats}
 use Rattle.sorting.specs.Counts.{count, hit}
 use Rattle.sorting.specs.Buffer.{TOP, Cleared, Heap, Under, Sifted}
 use Rattle.sorting.proofs.Order.{equal?, below?, false-true, true-false}

@@ -38,6 +38,9 @@ instances =
       taken-back = refl;
       taken-back-order = refl;
       library-created = refl;
+      library-created-order = refl;
       library-removed = refl;
+      library-removed-order = refl;
       library-taken-back = refl;
+      library-taken-back-order = refl;
     }

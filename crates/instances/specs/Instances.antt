@@ -1,23 +1,23 @@
 -- Document 01's starred instances, as one claim about the layouts and the machine.
 use Prim.Native.Nat.{ℕ, _+_}
 use mathlib.Core.Path.{_≡_}
-use mathlib.Core.Bool.{Bool, true, false}
-use mathlib.Core.List.{List, [], _∷_, _++_, map}
-use lib.ListN.{length, take, getD}
+use mathlib.Core.Bool.{false}
+use mathlib.Core.List.{List, [], _∷_, _++_}
+use lib.ListN.{length, take, getD, replicate}
 use lib.IntN.{pos}
-use Rattle.fields.specs.Parse.{Res, ok, no, span}
+use Rattle.fields.specs.Parse.{ok, no, span}
 use Rattle.fields.specs.Bytes.{zeros}
 use Rattle.fields.specs.Outcome.{Outcome, refused, accepted}
-use Rattle.pod.specs.Values.{Instruction, RoutineConvention, BasicBlock, Routine}
+use Rattle.pod.specs.Values.{Instruction, RoutineConvention, Routine}
 use Rattle.pod.specs.Blocks.{vips}
-use Rattle.pod.specs.Layout.{register, instruction, read-file, as-it-comes}
-use Rattle.pod.specs.Written.{bytes, instruction-bytes, routine-bytes}
+use Rattle.pod.specs.Layout.{instruction, read-file, as-it-comes}
+use Rattle.pod.specs.Written.{bytes, instruction-bytes}
 use Rattle.pod.specs.declared.RegisterDesc.{RegisterDesc}
 use Rattle.pod.specs.declared.Operand.{Operand}
 use Rattle.pod.specs.declared.Operand.the-variants.{Imm, Reg}
 use Rattle.machine.specs.Edits.{create, remove}
-use Rattle.machine.specs.Machine.{Call, edit, undo, Answer, Book, Machine, start, machine-run}
-use Rattle.machine.specs.Book.{State, open-book, run}
+use Rattle.machine.specs.Machine.{Call, edit, undo, Answer, start, machine-run}
+use Rattle.machine.specs.Book.{State, held, open-book, run}
 
 -- a header: its marks, machine and pad
 abbrev pub header-of : ℕ → ℕ → ℕ → ℕ → List ℕ
@@ -31,9 +31,13 @@ smallest = header-of 0x4c495456 2 0 0xdead ++ zeros 106
 abbrev pub odd : List ℕ
 odd = header-of 0x4c495456 2 255 0xdead ++ (zeros 52 ++ (7 ∷ zeros 53))
 
--- the image that an opening leaves, of n bytes
+-- the image that an opening leaves of n bytes that were 9
 abbrev pub image-of : ℕ → List ℕ → List ℕ
-image-of n file = open-book file (zeros n) [] .1 .image
+image-of n file = open-book file (replicate n 9) [] .1 .image
+
+-- a file up to the id of the routine convention's frame register
+abbrev pub up-to-id : ℕ → List ℕ
+up-to-id id = header-of 0x4c495456 2 0 0xdead ++ (zeros 28 ++ bytes 8 id)
 
 abbrev pub any-register : RegisterDesc
 any-register = record { flags = 0; «combined_id» = 0; «bit_count» = pos 64; «bit_offset» = pos 0 }
@@ -88,9 +92,19 @@ answer-to cs = last-answer (machine-run 222 116 cs (start smallest-routine) .0)
 abbrev pub vips-after : List Call → List ℕ
 vips-after cs = vips (machine-run 222 116 cs (start smallest-routine) .1 .now .explored-blocks)
 
--- the same of the library's step, from the opening of the smallest file
+-- the same of the library's steps, from the opening of the smallest file; the vips are those of the routine that the book then holds
+abbrev pub library-run : List Call → List Answer × State
+library-run cs = run cs (open-book smallest (replicate 222 9) (replicate 116 9) .1)
+
 abbrev pub library-answer-to : List Call → Answer
-library-answer-to cs = last-answer (run cs (open-book smallest (zeros 222) (zeros 116) .1) .0)
+library-answer-to cs = last-answer (library-run cs .0)
+
+abbrev pub vips-of : Outcome Routine → List ℕ
+vips-of (accepted r) = vips (r .explored-blocks)
+vips-of (refused e) = []
+
+abbrev pub library-vips-after : List Call → List ℕ
+library-vips-after cs = vips-of (held (library-run cs .1))
 
 abbrev pub answered : ℕ → ℕ → Answer
 answered written used = accepted (record { written = written; used = used })
@@ -108,8 +122,8 @@ pub record Instances : Type 0 where
   pub machine : read-file (header-of 0x4c495456 3 0 0) ≡ no 4
   pub mark : read-file (header-of 0 3 0 0) ≡ no 3
   -- Id 0x0200000000000000 accepted; 0x0300000000000000, file ending there: 5
-  pub own : span (register (bytes 8 0 ++ (bytes 8 0x0200000000000000 ++ bytes 8 0)) 0) ≡ ok tt 24
-  pub foreign : span (register (bytes 8 0 ++ bytes 8 0x0300000000000000) 0) ≡ no 5
+  pub own : span (read-file (up-to-id 0x0200000000000000 ++ zeros 70)) ≡ ok tt 114
+  pub foreign : read-file (up-to-id 0x0300000000000000) ≡ no 5
   -- nop is 32 bytes; mov register, immediate is 76
   pub nop : length (instruction-bytes (plain 41 [])) ≡ 32
   pub mov : length (instruction-bytes (plain 0 (Reg any-register ∷ Imm (record { value = 1; «bit_count» = 64 }) ∷ []))) ≡ 76
@@ -124,7 +138,10 @@ pub record Instances : Type 0 where
   -- Take back: 5, 6, 7, 222, 60
   pub taken-back : answer-to takes-back ≡ answered 222 60
   pub taken-back-order : vips-after takes-back ≡ 5 ∷ 6 ∷ 7 ∷ []
-  -- and the calls on a book answer the same
+  -- and the calls on a book answer the same, and leave the same order
   pub library-created : library-answer-to creates ≡ answered 222 60
+  pub library-created-order : library-vips-after creates ≡ 5 ∷ 6 ∷ 7 ∷ []
   pub library-removed : library-answer-to removes ≡ answered 186 116
+  pub library-removed-order : library-vips-after removes ≡ 7 ∷ 6 ∷ []
   pub library-taken-back : library-answer-to takes-back ≡ answered 222 60
+  pub library-taken-back-order : library-vips-after takes-back ≡ 5 ∷ 6 ∷ 7 ∷ []

@@ -1,10 +1,10 @@
 -- What a reader answers at o depends only on the bytes from o on: read from them alone, it answers the same, o bytes less far. The law of each
--- way to make a reader, and then of each layout.
+-- way to make a reader, and then of the layouts up to the block.
 -- Assumes nothing.
 use mathlib.Core.Path.{_≡_, refl, sym, ap, ap₂, _∙_}
 use mathlib.Core.List.{List, [], _∷_}
 use mathlib.Core.Bool.{Bool, true, false}
-use Prim.Native.Nat.{ℕ, zero, suc, _+_, _-_, _*_, _≤_, zero-le}
+use Prim.Native.Nat.{ℕ, zero, suc, _+_, _*_, _≤_, zero-le}
 use native.Mathlib.Nat.{add-zero, zero-add, add-assoc}
 use native.Mathlib.Omega.{arith}
 use lib.Dec.{leb}
@@ -12,9 +12,9 @@ use lib.ListN.{length, take, drop, length-drop}
 use lib.Seq.{getD-drop, drop-drop}
 use borrow.Author.Tests.{leb-true, leb-false, le-leb, lt-leb}
 use mir.Syntax.{Width}
-use Rattle.fields.specs.Parse.{Res, ok, no, Reader, bind, _>>=_, done, check, choose, le, uint, int, part, many, counted, pad, flag, u32}
+use Rattle.fields.specs.Parse.{Res, ok, no, Reader, bind, _>>=_, done, check, choose, le, uint, int, part, many, counted, flag, u32}
 use Rattle.fields.proofs.Le.{uint-ok, uint-no, uint-is}
-use Rattle.pod.specs.Layout.{header, register, immediate, operand, of-kind, named, opcode, after, instruction, convention, block, blocks, routine}
+use Rattle.pod.specs.Layout.{register, immediate, operand, of-kind, named, opcode, after, instruction, convention, block}
 use Rattle.laws.specs.Moved.{moved}
 use Rattle.fields.proofs.Invert.{inv}
 
@@ -27,30 +27,6 @@ moved-moved : {A : Type 0} (o n : ℕ) (r : Res A) → moved o (moved n r) ≡ m
 unfolding moved
 moved-moved o n (ok a m) = ap (ok a) (sym (add-assoc o n m))
 moved-moved o n (no e) = refl
-
--- from a value that was found further on, how far on it was found
-moved-ok : {A : Type 0} (o : ℕ) (r : Res A) {a : A} {n : ℕ} → moved o r ≡ ok a n → (k : ℕ) × (r ≡ ok a k) × (n ≡ o + k)
-unfolding moved
-moved-ok o (ok b k) e = (k, cc, cc)
-moved-ok o (no i) e = let z : _≡_ {A = ℕ} 0 1 = cc in absurd (omega arith)
-
-moved-no : {A : Type 0} (o : ℕ) (r : Res A) {e : ℕ} → moved o r ≡ no e → r ≡ no e
-unfolding moved
-moved-no o (ok b k) {e} q = let z : _≡_ {A = ℕ} 0 1 = cc in absurd (omega arith)
-moved-no o (no i) q = q
-
--- where the same bytes stand from o in s as from o′ in s′, the same is read
-module _ {A : Type 0} {p : Reader A} (k : Local p) (s s′ : List ℕ) (o o′ : ℕ) (h : o ≤ length s) (h′ : o′ ≤ length s′) (e : drop o s ≡ drop o′ s′) where
-  pub elsewhere : {a : A} {n : ℕ} → p s o ≡ ok a n → p s′ o′ ≡ ok a (o′ + (n - o))
-  unfolding moved
-  elsewhere {a} {n} q =
-      let i = moved-ok o (p (drop o s) 0) (sym (k .moves s o h) ∙ q) in
-      let z : i .0 ≡ n - o = omega (arith, i .2) in
-      k .moves s′ o′ h′ ∙ ap (λ l. moved o′ (p l 0)) (sym e) ∙ ap (moved o′) (i .1) ∙ ap (λ j. ok a (o′ + j)) z
-
-  pub elsewhere-no : {c : ℕ} → p s o ≡ no c → p s′ o′ ≡ no c
-  unfolding moved
-  elsewhere-no q = k .moves s′ o′ h′ ∙ ap (λ l. moved o′ (p l 0)) (sym e) ∙ ap (moved o′) (moved-no o (p (drop o s) 0) (sym (k .moves s o h) ∙ q))
 
 module _ {A B : Type 0} (p : Reader A) (f : A → Reader B) where
   pub local-bind : Local p → ((a : A) → Local (f a)) → Local (p >>= f)
@@ -129,10 +105,6 @@ local-part k =
 pub local-int : (w : Width) (k : ℕ) → Local (uint k >>= λ v. done (int w v))
 local-int w k = local-bind _ _ (local-uint k) λ v. local-done _
 
-pub local-pad : (exact : Bool) → Local (pad exact)
-unfolding pad
-local-pad exact = local-bind _ _ (local-uint 1) λ b. local-bind _ _ (local-check _ _) λ t. local-done _
-
 pub local-flag : (exact : Bool) → Local (flag exact)
 unfolding flag
 local-flag exact = local-bind _ _ (local-uint 1) λ b. local-bind _ _ (local-check _ _) λ t. local-done _
@@ -169,13 +141,6 @@ local-opcode =
     local-bind _ _ (local-uint 4) λ count. local-bind _ _ (local-check _ _) λ t. local-bind _ _ (local-check _ _) λ t. local-done _
 
 module _ (exact : Bool) where
-  pub local-header : Local (header exact)
-  unfolding header
-  local-header =
-      local-bind _ _ (local-uint 4) λ first. local-bind _ _ (local-check _ _) λ t. local-bind _ _ (local-uint 1) λ machine.
-      local-bind _ _ (local-check _ _) λ t. local-bind _ _ (local-pad exact) λ x. local-bind _ _ (local-uint 2) λ second.
-      local-bind _ _ (local-check _ _) λ t. local-done _
-
   pub local-instruction : Local (instruction exact)
   unfolding instruction after
   local-instruction =
@@ -195,14 +160,3 @@ module _ (exact : Bool) where
       local-bind _ _ (local-uint 8) λ vip. local-bind _ _ (local-int _ 8) λ sp. local-bind _ _ (local-uint 4) λ index.
       local-bind _ _ (local-uint 4) λ temporary. local-bind _ _ (local-counted (instruction exact) local-instruction) λ is.
       local-bind _ _ (local-counted (uint 8) (local-uint 8)) λ prev. local-bind _ _ (local-counted (uint 8) (local-uint 8)) λ next. local-done _
-
-  pub local-blocks : Local (blocks exact)
-  unfolding blocks
-  local-blocks = local-bind _ _ (local-counted (block exact) local-block) λ bs. local-bind _ _ (local-check _ _) λ t. local-done _
-
-  pub local-routine : Local (routine exact)
-  unfolding routine
-  local-routine =
-      local-bind _ _ local-header λ machine. local-bind _ _ (local-uint 8) λ entry. local-bind _ _ local-convention λ own.
-      local-bind _ _ local-convention λ sub. local-bind _ _ (local-counted (convention exact) local-convention) λ special.
-      local-bind _ _ local-blocks λ bs. local-done _

@@ -8,6 +8,7 @@ use Prim.Native.Nat.{ℕ, _-_, _≤_}
 use native.Mathlib.Omega.{arith}
 use lib.ListN.{length, take, drop, length-append, length-replicate, take-append-drop}
 use lib.Seq.{length-take-le, take-append-seam, drop-append-seam}
+use lib.Dec.{leb}
 use borrow.Author.Tests.{le-leb, leb-true}
 use Rattle.fields.specs.Parse.{Res, ok, no, choose}
 use Rattle.fields.specs.Bytes.{zeros}
@@ -66,22 +67,32 @@ whole-is s r (ok x n) q =
     let e : x ≡ r = cc in
     (n, ap (λ z. ok z n) e, same-eq _ _ (w .0) ∙ ap routine-bytes e, same-eq _ _ (w .1))
 
+module _ (s : State) (r : Routine) (q : held s ≡ accepted r) where
+  -- the book's written length is the routine's, which is within the image
+  pub held-size : (s .book .written ≡ size r) × (size r ≤ length (s .image))
+  unfolding held
+  held-size =
+      let m = through _ _ 13 (through _ _ 10 q .1) in
+      let w = whole-is s r _ (m .1) in
+      let h : s .book .written ≤ length (s .image) = leb-true _ _ (both _ _ (m .0) .0) in
+      let e : s .book .written ≡ size r = sym (length-take-le (s .book .written) (s .image) h) ∙ ap length (w .2) in
+      (e, rw (← e) h)
+
 pub held-sound : {s : State} {r : Routine} → Bytes (s .image) → held s ≡ accepted r → Sound s r
 unfolding held in-image
 held-sound {s} {r} b q =
     let l = through _ _ 10 q in
     let lent = both _ _ (l .0) in
     let m = through _ _ 13 (l .1) in
-    let within = both _ _ (m .0) in
+    let within = both (leb (s .book .written) (length (s .image))) (leb (s .book .used) (length (s .journal))) (m .0) in
     let w = whole-is s r _ (m .1) in
-    let h : s .book .written ≤ length (s .image) = leb-true _ _ (within .0) in
-    let e : s .book .written ≡ size r = sym (length-take-le (s .book .written) (s .image) h) ∙ ap length (w .2) in
+    let e : s .book .written ≡ size r = held-size s r q .0 in
     record {
       image-lent = leb-true _ _ (lent .0);
       journal-lent = leb-true _ _ (lent .1);
       used = leb-true _ _ (within .1);
       written = e;
-      room = rw (← e) h;
+      room = held-size s r q .1;
       image = sym (take-append-drop (s .book .written) (s .image)) ∙ ap₂ _++_ (w .2) (w .3 ∙ ap (λ n. zeros (length (s .image) - n)) e);
       holds = read-holds routine-layout false (bytes-take (s .book .written) (s .image) b) (w .1);
     }

@@ -16,12 +16,11 @@ use Rattle.fields.specs.Bytes.{zeros, put}
 use Rattle.fields.specs.Outcome.{Outcome, refused, accepted}
 use Rattle.pod.specs.Values.{Routine}
 use Rattle.pod.specs.Descs.{most-lent}
-use Rattle.laws.specs.Holds.{Routine-holds}
+use Rattle.laws.specs.Holds.{Each, Routine-holds}
 use Rattle.machine.specs.Edits.{Edit, create, remove, append, edited, cost}
-use Rattle.machine.specs.Machine.{Call, edit, undo, Answer, Pile, used-by, Machine, size, admitted, after-edit, after-undo, machine-step, machine-run}
+use Rattle.machine.specs.Machine.{Call, edit, undo, Sendable, Answer, Pile, used-by, Machine, size, admitted, after-edit, after-undo, machine-step, machine-run}
 use Rattle.machine.specs.Journal.{entry, undone}
 use Rattle.machine.specs.Book.{State, in-image, held, stored, edit-step, restored, undo-step, acted, step, run}
-use Rattle.machine.specs.Demand.{Sendable, Every}
 use Rattle.machine.proofs.Held.{length-image, sound-held}
 use Rattle.machine.proofs.Keeps.{Did, did, keeps}
 use Rattle.machine.proofs.Undo.{entry-cost, leads-back}
@@ -179,7 +178,7 @@ module _ (N J : ℕ) (small : N ≤ most-lent) (journal-small : J ≤ most-lent)
   pub step-sim : (c : Call) (m : Machine) (s : State) → Sendable c → Sim N J m s → Agree N J (step c s) (machine-step N J c m)
   step-sim c m s f i = rw (i .is) (of-sim c m (i .j) f (i .holds) (i .room) (i .journal-room) (i .link))
 
-  pub run-sim : (cs : List Call) (m : Machine) (s : State) → Every Sendable cs → Sim N J m s
+  pub run-sim : (cs : List Call) (m : Machine) (s : State) → Each Sendable cs → Sim N J m s
       → (run cs s .0 ≡ machine-run N J cs m .0) × Sim N J (machine-run N J cs m .1) (run cs s .1)
   unfolding run machine-run
   run-sim [] m s f i = (refl, i)

@@ -18,9 +18,8 @@ use Rattle.laws.specs.Holds.{Block-holds, Routine-holds}
 use Rattle.laws.proofs.Back.{Reads, seq, last, uint-reads, done-reads, length-bytes}
 use Rattle.laws.proofs.Layouts.{block-layout, read-all}
 use Rattle.machine.specs.Edits.{Edit, create, remove, append, present, place, empty-block, block-at, remove-at, insert-at, change-at, append-to, with-instructions, with-blocks, last-of, but-last, cost}
-use Rattle.machine.specs.Machine.{edit, size}
+use Rattle.machine.specs.Machine.{edit, Sendable, size}
 use Rattle.machine.specs.Journal.{Trailer, trailer-bytes, trailer, read-size, entry, is-fresh, undo-create, undo-remove-block, undo-remove, last-size-is, without-last, undo-append, undo-entry, undone}
-use Rattle.machine.specs.Demand.{Sendable}
 use Rattle.machine.proofs.Lists.{total-remove, each-at, length-remove, length-change, at-change, snoc-but-last, snoc-last, insert-remove, change-back, one, one-same, Found, found, once-count, count-absent}
 use Rattle.machine.proofs.Keeps.{Did, weight, blocks-few, weight-at, removed-size, appended-size}
 

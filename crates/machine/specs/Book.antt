@@ -1,11 +1,10 @@
 -- The calls on a book: what each does to the image's bytes, the journal's bytes and the book. A step reads the routine out of the image, edits the
 -- routine and writes it back; how the code moves bytes is the code's affair.
-use Prim.Native.Nat.{ℕ, zero, suc, _+_, _-_}
+use Prim.Native.Nat.{ℕ, _+_, _-_}
 use mathlib.Core.Bool.{Bool, true, false, _&&_}
 use mathlib.Core.List.{List, [], _∷_, _++_}
 use lib.ListN.{length, take, drop}
 use lib.Dec.{leb, eqb}
-use lib.IntN.{ℤ, pos, negℤ}
 use Rattle.fields.specs.Refusals.{lending-too-large, image-full, journal-full, spoiled-book, nothing-to-take-back}
 use Rattle.fields.specs.Parse.{Res, ok, no, choose}
 use Rattle.fields.specs.Bytes.{zeros, put}

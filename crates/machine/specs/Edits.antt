@@ -1,8 +1,8 @@
 -- The edits of a routine: create, remove and append, what each makes of the routine or why it is refused, and what it costs.
 use Prim.Native.Nat.{ℕ, zero, suc, _+_}
-use mathlib.Core.Bool.{Bool, true, false}
+use mathlib.Core.Bool.{Bool}
 use mathlib.Core.List.{List, [], _∷_, _++_}
-use lib.ListN.{length, getD, take}
+use lib.ListN.{length, getD}
 use lib.Dec.{eqb, ltb}
 use lib.IntN.{pos}
 use Rattle.fields.specs.Refusals.{block-present, no-such-block, leftover}

@@ -4,4 +4,3 @@ pub mod Journal
 pub mod Book
 pub mod Look
 pub mod Sound
-pub mod Demand

@@ -1,6 +1,5 @@
 -- Looking at a book, by place from 0. Order 10, 13, 15: a list or place that isn't there is 15.
 use Prim.Native.Nat.{ℕ, zero, suc}
-use mathlib.Core.Bool.{Bool, true, false}
 use mathlib.Core.List.{List, [], _∷_}
 use lib.Dec.{eqb}
 use Rattle.fields.specs.Refusals.{no-such-block}

@@ -1,19 +1,30 @@
 -- The routine machine: it is fed the file, the calls with their arguments and the lent lengths, never a book.
-use Prim.Native.Nat.{ℕ, zero, suc, _+_}
+use Prim.Native.Nat.{ℕ, _+_, _<_, _^_}
 use mathlib.Core.Bool.{Bool, true, false}
 use mathlib.Core.List.{List, [], _∷_}
-use lib.ListN.{length}
+use lib.ListN.{length, getD}
 use lib.Dec.{leb}
 use Rattle.fields.specs.Refusals.{image-full, journal-full, nothing-to-take-back}
 use Rattle.fields.specs.Outcome.{Outcome, refused, accepted}
 use Rattle.pod.specs.Values.{Routine}
 use Rattle.pod.specs.Written.{routine-bytes}
-use Rattle.machine.specs.Edits.{Edit, edited, cost}
+use Rattle.machine.specs.Edits.{Edit, create, remove, append, edited, cost}
 
--- the calls of demand 3's lists
+-- the calls of demand 3's lists: the edits, and undo, which is document 01's take back
 pub data Call : Type 0 where
   edit : Edit → Call
   undo : Call
+
+-- a list of bytes
+abbrev pub Bytes : List ℕ → Type 0
+Bytes s = (i : ℕ) → getD s i 0 < 256
+
+-- arguments that can be handed in: a vip of 64 bits, and bytes
+abbrev pub Sendable : Call → Type 0
+Sendable (edit (create v)) = v < 2 ^ 64
+Sendable (edit (remove v)) = v < 2 ^ 64
+Sendable (edit (append v s)) = (v < 2 ^ 64) × Bytes s
+Sendable undo = Unit
 
 -- what a call answers when it is accepted: the new written length, and the journal bytes used. It is also all that a book holds
 pub record Book : Type 0 where

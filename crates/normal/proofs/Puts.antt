@@ -4,7 +4,6 @@ use mathlib.Core.Path.{_≡_, refl, sym, ap, ap₂, _∙_}
 use mathlib.Core.List.{List, [], _∷_, _++_}
 use mathlib.Core.Bool.{Bool, false}
 use Prim.Native.Nat.{ℕ, zero, suc, _+_, _-_, _≤_, _<_}
-use native.Mathlib.Nat.{add-zero}
 use native.Mathlib.Omega.{arith}
 use lib.ListN.{length, getD, take, drop, set, length-append, length-set, length-replicate, take-append-drop}
 use lib.Seq.{set-getD, drop-at, drop-drop, getD-drop, take-at, set-append-left, take-set-le, drop-set-add}
@@ -18,12 +17,8 @@ use Rattle.laws.proofs.At.{At, Spans, fits}
 use Rattle.laws.proofs.Took.{Took, took-to}
 use Rattle.laws.proofs.Local.{Local}
 use Rattle.laws.proofs.Layouts.{Layout, read-to}
-use Rattle.buffer.proofs.Put.{put-own, put-nil, put-put, drop-put-after, length-put}
+use Rattle.buffer.proofs.Put.{put-own, put-put, drop-put-after, length-put}
 use Rattle.normal.specs.Over.{Over}
-
--- nothing was put
-pub over-none : {s : List ℕ} {o : ℕ} → o ≤ length s → Over s o [] o s
-over-none {s} {o} h = record { to = sym (add-zero o); within = h; is = sym (put-nil o s) }
 
 -- what stands there stays
 pub stays : {s : List ℕ} {o n : ℕ} {l : List ℕ} → Spans s o l n → Over s o l n s

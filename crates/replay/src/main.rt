@@ -1,4 +1,4 @@
-// Replays a fixed sample of the Rust's answers, data/answers.bin, which oracle/ made: the library's check has to give
+// Runs a fixed sample of the Rust's answers, data/answers.bin, which oracle/ made: the library's check has to give
 // each of them. A record is the file's length (u32), the file, and the consumed length or minus the refusal (i64), all
 // little-endian.
 ghost use Prim.Native.Nat.{_<_, _≤_};
@@ -88,7 +88,7 @@ fn replay_file(fd: i32, file: &mut [u8], counts: &mut [u64; 12]) -> bool {
     true
 }
 
-// Replays one record and answers whether to go on. A record that breaks off, or whose file is too long, counts as a
+// Runs one record and answers whether to go on. A record that breaks off, or whose file is too long, counts as a
 // difference: the sample has none.
 fn replay_one(fd: i32, counts: &mut [u64; 12]) -> bool {
     let mut head = [0u8; 4];

@@ -12,7 +12,7 @@ ghost use Rattle.book.specs.Says.{state, outcome};
 ghost use Rattle.look.specs.Answers.{routine-look, block-look, instruction-look, vip-look};
 ghost use Rattle.look_convention.specs.Answers.{convention-look, register-look};
 ghost use Rattle.writer.specs.Answers.{write-answer};
-ghost use Rattle.script.specs.Replays.{Replays};
+ghost use Rattle.call_list.specs.Runs.{Runs};
 ghost use Rattle.vtil.specs.Check.{check-file};
 use book::Answer;
 use book::Book;
@@ -186,17 +186,17 @@ pub extern "C" fn vtil_undo(book: Book, image: &mut [u8], journal: &mut [u8]) ->
     calls::undo(book, image, journal)
 }
 
-// Opens a file and runs a list of calls on it. By its contract what it leaves is what the routine machine says, of which demand 3 says the rest: which
-// books hold equal bytes, and what a take back returns to.
+// Opens a file and runs a list of calls on it. By its contract it leaves what the routine machine leaves; demand 3 adds which books hold equal bytes,
+// and what a take back returns to.
 #[no_mangle]
 pub extern "C" fn vtil_run(
     file: &[u8],
     image: &mut [u8],
     journal: &mut [u8],
     words: &[u64],
-    texts: &[u8],
+    bytes: &[u8],
 ) -> Answer
-    ensures { λ r. ⌜ Replays (now (file .entry)) (now (image .entry)) (now (journal .entry)) (now (words .entry)) (now (texts .entry)) (outcome r (now (image .exit)) (now (journal .exit))) ⌝ }
+    ensures { λ r. ⌜ Runs (now (file .entry)) (now (image .entry)) (now (journal .entry)) (now (words .entry)) (now (bytes .entry)) (outcome r (now (image .exit)) (now (journal .exit))) ⌝ }
 {
-    script::run(file, image, journal, words, texts)
+    call_list::run(file, image, journal, words, bytes)
 }

@@ -1,4 +1,0 @@
-pub mod Openings
-pub mod Piles
-pub mod Refusals
-pub mod Theorem

@@ -1,1 +1,0 @@
-// The third demand, proved of the fold of the steps. No code.

@@ -1,0 +1,67 @@
+-- Demand 1. That no call reads or writes outside lent memory, and that every call ends, is part of what a proof of a function means. What is left to say
+-- is what a refusal is: one of the numbers that document 01 has for the call, and all as it was.
+use Prim.Native.Nat.{ℕ}
+use mathlib.Core.Path.{_≡_}
+use mathlib.Core.Bool.{true}
+use mathlib.Core.List.{List, [], _∷_}
+use Rattle.fields.specs.Refusals.{short-file, name-not-text, wrong-mark, unknown-machine, foreign-register, unknown-operand-kind, unknown-operation, wrong-operand-count, repeated-block, lending-too-large, image-full, journal-full, spoiled-book, block-present, no-such-block, nothing-to-take-back, leftover}
+use Rattle.fields.specs.Parse.{no}
+use Rattle.fields.specs.Outcome.{Outcome, refused}
+use Rattle.pod.specs.Blocks.{has}
+use Rattle.pod.specs.Layout.{read-file}
+use Rattle.pod.specs.Descs.{writing, written-over}
+use Rattle.pod.specs.declared.InstructionDesc.{InstructionDesc}
+use Rattle.machine.specs.Edits.{create, remove, append}
+use Rattle.machine.specs.Machine.{Call, edit, undo, Answer}
+use Rattle.machine.specs.Book.{State, no-book, open-book, step}
+use Rattle.machine.specs.Look.{look-routine, look-block, look-instruction, look-vip, look-convention, look-register}
+
+-- of reading an instruction, and a file
+abbrev pub instruction-refusals : List ℕ
+instruction-refusals = short-file ∷ name-not-text ∷ unknown-operation ∷ wrong-operand-count ∷ unknown-operand-kind ∷ foreign-register ∷ []
+
+abbrev pub file-refusals : List ℕ
+file-refusals = wrong-mark ∷ unknown-machine ∷ repeated-block ∷ instruction-refusals
+
+-- of opening: 10, 1 to 9, 11
+abbrev pub opening-refusals : List ℕ
+opening-refusals = lending-too-large ∷ image-full ∷ file-refusals
+
+-- of looking: 10, 13, 15
+abbrev pub look-refusals : List ℕ
+look-refusals = lending-too-large ∷ spoiled-book ∷ no-such-block ∷ []
+
+-- of the writer: 10, 7, 8, 5, 6, 11
+abbrev pub writer-refusals : List ℕ
+writer-refusals = lending-too-large ∷ unknown-operation ∷ wrong-operand-count ∷ foreign-register ∷ unknown-operand-kind ∷ image-full ∷ []
+
+-- of each call on a book, after 10 and 13: create 14, 11, 12; remove 15, 12; append the instruction's, 17, 15, 11, 12; take back 16
+abbrev pub call-refusals : Call → List ℕ
+call-refusals (edit (create v)) = lending-too-large ∷ spoiled-book ∷ block-present ∷ image-full ∷ journal-full ∷ []
+call-refusals (edit (remove v)) = lending-too-large ∷ spoiled-book ∷ no-such-block ∷ journal-full ∷ []
+call-refusals (edit (append v s)) = lending-too-large ∷ spoiled-book ∷ leftover ∷ no-such-block ∷ image-full ∷ journal-full ∷ instruction-refusals
+call-refusals undo = lending-too-large ∷ spoiled-book ∷ nothing-to-take-back ∷ []
+
+-- a refusal is one of the numbers
+pub record Numbered (es : List ℕ) {A : Type 0} (q : Outcome A) : Type 0 where
+  pub one-of : (e : ℕ) → q ≡ refused e → has e es ≡ true
+
+-- and leaves this state
+pub record Refuses (es : List ℕ) (kept : State) (x : Answer × State) : Type 0 where
+  pub number : Numbered es (x .0)
+  pub unaltered : (e : ℕ) → x .0 ≡ refused e → x .1 ≡ kept
+
+pub record Demand-1 : Type 0 where
+  pub checking : (file : List ℕ) (e : ℕ) → read-file file ≡ no e → has e file-refusals ≡ true
+  -- image and journal stay, and the book is one of zeros
+  pub opening : (file image journal : List ℕ) → Refuses opening-refusals (record { image = image; journal = journal; book = no-book }) (open-book file image journal)
+  pub calling : (c : Call) (s : State) → Refuses (call-refusals c) s (step c s)
+  -- a look leaves nothing
+  pub at-routine : (s : State) → Numbered look-refusals (look-routine s)
+  pub at-block : (i : ℕ) (s : State) → Numbered look-refusals (look-block i s)
+  pub at-instruction : (i j : ℕ) (s : State) → Numbered look-refusals (look-instruction i j s)
+  pub at-vip : (i k j : ℕ) (s : State) → Numbered look-refusals (look-vip i k j s)
+  pub at-convention : (i : ℕ) (s : State) → Numbered look-refusals (look-convention i s)
+  pub at-register : (i k j : ℕ) (s : State) → Numbered look-refusals (look-register i k j s)
+  pub writer : (n : ℕ) (d : InstructionDesc) → Numbered writer-refusals (writing n d)
+  pub writer-unaltered : (image : List ℕ) (e : ℕ) → written-over image (refused e) ≡ image
