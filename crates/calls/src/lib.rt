@@ -13,9 +13,12 @@ use pod::Vip;
 pub fn create_block(book: Book, image: &mut [u8], journal: &mut [u8], vip: Vip) -> Answer
     ensures { λ r. ⌜ outcome r (now (image .exit)) (now (journal .exit)) ≡ step (edit (create (vip .0))) (state (now (image .entry)) (now (journal .entry)) book) ⌝ }
 {
-    let refusal = image::inspect(book, image, journal);
-    if refusal != 0 {
-        return Answer { refusal, book };
+    let first = image::inspect(book, image, journal);
+    if first != 0 {
+        return Answer {
+            refusal: first,
+            book,
+        };
     }
     create::create_block(book, image, journal, vip)
 }

@@ -30,7 +30,7 @@ same-length c =
     let special = blocks .before .before .before .before in
     let sub = special .before .before .before .before in
     let own = sub .before .before .before .before in
-    blocks .normalise-blocks .kept .0 ∙ special .normalise-conventions .kept .0 ∙ sub .normalise-convention2 .kept .0 ∙ own .normalise-convention .kept .0 ∙ length-set (own .before .before .before .before .args .a .now) 5 0
+    blocks .normalise-blocks .kept .0 ∙ special .normalise-conventions .kept .0 ∙ sub .normalise-convention2 .kept .0 ∙ own .normalise-convention .kept .0 ∙ length-set (own .before .before .before .before .args .a .now) _ _
 
 returns-2 : tie.Need-returns-2
 returns-2 c =
