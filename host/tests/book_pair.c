@@ -1,4 +1,4 @@
-#include "shelf.h"
+#include "book_pair.h"
 
 #include <string.h>
 
@@ -11,7 +11,7 @@ struct ref_book twin;
 static struct room file_room, image_room, journal_room;
 static uint8_t twin_image[BYTES_MAX], twin_journal[BYTES_MAX];
 
-void set_up_shelf(void)
+void set_up_book_pair(void)
 {
     file_room = make_room(BYTES_MAX);
     image_room = make_room(BYTES_MAX);
@@ -75,7 +75,7 @@ static void hold_number(const char *what, uint64_t got, uint64_t want)
     hold(what, image.len, (int64_t)got, (int64_t)want);
 }
 
-void hold_register(const vtil_register_desc *got, const vtil_register_desc *want)
+static void hold_register(const vtil_register_desc *got, const vtil_register_desc *want)
 {
     hold_number("register flags", got->flags, want->flags);
     hold_number("register id", got->combined_id, want->combined_id);
@@ -91,7 +91,7 @@ static void hold_operand(const vtil_operand_desc *got, const vtil_operand_desc *
     hold_register(&got->register_desc, &want->register_desc);
 }
 
-void hold_instruction(const vtil_instruction_desc *got, const vtil_instruction_desc *want)
+static void hold_instruction(const vtil_instruction_desc *got, const vtil_instruction_desc *want)
 {
     hold_number("operation", got->op, want->op);
     hold_number("operand count", got->count, want->count);

@@ -224,8 +224,10 @@ static void load_sample(const char *path, struct bytes *out)
     if (from == NULL)
         stop(path);
     out->len = fread(out->at, 1, BYTES_MAX, from);
-    if (ferror(from) || out->len == 0 || out->len == BYTES_MAX)
+    if (ferror(from))
         stop(path);
+    if (out->len == 0 || out->len == BYTES_MAX)
+        stop_because(path, "empty, or too long for these tests");
     fclose(from);
 }
 

@@ -61,12 +61,12 @@ output_fails() {
     hold "$1" 2
 }
 
-# little_memory WORDS..: runs the command with 64 MB of address space: enough for the largest routine, not for any file.
+# little_memory COMMAND..: runs `routine COMMAND..` with 64 MB of address space: enough for the largest routine, not for any file.
 little_memory() {
     (ulimit -v 65536 && exec "$routine" "$@")
 }
 
-# closed_pipe NAME WORDS..: as expect, for a pipe as standard output whose only reader is gone.
+# closed_pipe NAME COMMAND..: as expect, for a pipe as standard output whose only reader is gone.
 closed_pipe() {
     local name=$1
     shift
