@@ -7,7 +7,7 @@ script=must_fail
 
 # misfits EDIT: the texts that don't stand on exactly one line.
 misfits() {
-    local line file= text
+    local line file='' text
     while IFS= read -r line; do
         case $line in
         'file: '*) file=${1%/must-fail/*}/${line#file: } ;;

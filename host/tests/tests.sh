@@ -53,6 +53,7 @@ mkdir "$scratch/header" "$scratch/scripts" "$scratch/command" "$scratch/command_
 build_guard() {
     local name=$1
     shift
+    # shellcheck disable=SC2046 # one word for each file
     "$CC" "${HOST_FLAGS[@]}" -pedantic $(printf 'host/tests/%s.c ' "$name" "$@" cases group lent reference) "$LIB" \
         -o "$scratch/$name"
 }
