@@ -34,6 +34,19 @@ void lend_book(size_t image_len, size_t journal_len)
     copy_twin();
 }
 
+void change_lengths(size_t image_len, size_t journal_len)
+{
+    if (image_len > twin.image_len)
+        memset(twin_image + twin.image_len, 0, image_len - twin.image_len);
+    if (journal_len > twin.journal_len)
+        leave_bytes(twin_journal + twin.journal_len, journal_len - twin.journal_len);
+    twin.image_len = image_len;
+    twin.journal_len = journal_len;
+    image = lend(&image_room, image_len, below(2) == 0);
+    journal = lend(&journal_room, journal_len, below(2) == 0);
+    copy_twin();
+}
+
 void copy_twin(void)
 {
     memcpy(image.plain, twin.image, image.len);

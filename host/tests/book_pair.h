@@ -20,6 +20,12 @@ void set_up_book_pair(void);
 /* Image and journal of these lengths, at most BYTES_MAX, full of bytes that were left there, in both. */
 void lend_book(size_t image_len, size_t journal_len);
 
+/*
+ * The same book at other lengths, not below what counts of image and journal: the image cut or lengthened by zeros, the
+ * journal cut or lengthened by any bytes.
+ */
+void change_lengths(size_t image_len, size_t journal_len);
+
 /* Lends `file` and opens it in both; holds the answers and what is left behind. Answers whether it was accepted. */
 bool open_both(const struct bytes *file);
 

@@ -243,6 +243,31 @@ static void lists(void)
     end_of_random(10, answers);
 }
 
+/* An undo that a cut image has no room for is refused 13; all else is as it is at lengths that stay. */
+static void changed_lengths(void)
+{
+    static const int answers[] = {0, 11, 12, 13, 14, 15, 16, -1};
+    static struct bytes b;
+    begin("lists of calls between which image and journal are lengthened or cut");
+    seed(12);
+    for (int i = 0; i < LISTS; i++) {
+        make_good_routine(&b);
+        lend_book((size_t)reference_check(b.at, b.len) + below(100), below(200));
+        open_both(&b);
+        for (size_t left = CALLS; left > 0; left--) {
+            make_call(0);
+            vtil_answer answer = call_both(&calls[0]);
+            if (answer.refusal == 13)
+                hold("only an undo is refused 13", image.len, calls[0].kind, VTIL_UNDO);
+            ref_forget();
+            if (below(3) == 0)
+                change_lengths((size_t)twin.numbers.written + below(3) * below(100),
+                               (size_t)twin.numbers.used + below(3) * below(150));
+        }
+    }
+    end_of_random(10, answers);
+}
+
 /* vtil_run at its edges: files that are refused, lists of no calls, words that stand for no part of the bytes. */
 static void odd_runs(void)
 {
@@ -588,6 +613,7 @@ int main(int argc, char **argv)
 
     instances();
     lists();
+    changed_lengths();
     odd_runs();
     odd_words();
     hand_made_books();

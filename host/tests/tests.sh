@@ -19,6 +19,7 @@ limit=60
 run() {
     local status=0 name=$1 last
     if [ "$name" = bash ]; then name=$2; fi
+    name=${name##*/}
     timeout $limit "$@" 2>&1 | tee "$scratch/report" || status=$?
     if [ "$status" = 124 ]; then
         echo "host tests: $name took over $limit seconds and was stopped: FAILED"
