@@ -2,7 +2,7 @@
 
 use std::time::{Duration, Instant};
 
-const RUNS: usize = 9;
+pub const RUNS: usize = 9;
 
 /// No more runs are begun once they took this long together.
 const TIME_LIMIT: Duration = Duration::from_secs(4);

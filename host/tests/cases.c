@@ -236,6 +236,8 @@ size_t load_samples(char **paths, struct bytes **out)
     size_t count = 0;
     while (paths[count] != NULL)
         count++;
+    if (count == 0)
+        stop_because("samples", "no files are given");
     *out = calloc(count, sizeof **out);
     if (*out == NULL)
         stop("samples");

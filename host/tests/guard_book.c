@@ -356,8 +356,7 @@ static void write_values(void)
 
 int main(int argc, char **argv)
 {
-    if (argc < 2)
-        return 2;
+    (void)argc;
     set_up_groups("guard_book");
     sample_count = load_samples(argv + 1, &samples);
     set_up_book_pair();

@@ -603,8 +603,7 @@ static void at_the_limit(void)
 
 int main(int argc, char **argv)
 {
-    if (argc < 2)
-        return 2;
+    (void)argc;
     set_up_groups("guard_edits");
     sample_count = load_samples(argv + 1, &samples);
     set_up_book_pair();
