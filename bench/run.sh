@@ -4,6 +4,7 @@
 # Exit status: 0 measured, 2 bad words, 3 something is missing.
 set -euo pipefail
 
+# shellcheck source=oracle/archive.sh
 . "$(dirname "$0")/../oracle/archive.sh"
 
 build bench

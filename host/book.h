@@ -8,9 +8,6 @@
 #include "commands.h"
 #include "vtil.h"
 
-/* The library takes no image and no journal that is longer. */
-#define MOST_LENT ((size_t)16777216)
-
 struct book {
     uint8_t *image, *journal;
     size_t image_len, journal_len;

@@ -24,7 +24,8 @@ need_compiler() {
     command -v "$CC" >/dev/null || stop "gcc was installed, but there is still no cc"
 }
 
-# Proves and builds the archive. What vtil names is proved by rt check, which takes crates side by side; rt staticlib takes one after the other.
+# Proves and builds the archive. What vtil names is proved by rt check, which takes crates side by side;
+# rt staticlib takes one after the other.
 build_archive() {
     # shellcheck disable=SC2046
     rt check $(sed -n 's/^vtil: *//p' crates.txt) && rt staticlib vtil

@@ -3,14 +3,15 @@
 #define ROUTINE_COMMANDS_H
 
 #include <stdbool.h>
+#include <stddef.h>
 #include <stdint.h>
 #include <stdio.h>
 
 /* Exit statuses. Where several apply, the largest is given. */
 enum status {
     ALL_ACCEPTED = 0,
-    SOME_REFUSED = 1,
-    TROUBLE = 2 /* not read, not written, or bad usage */
+    SOME_REFUSED = 1, /* of `same`: the two files hold two routines */
+    TROUBLE = 2       /* not read, not written, or bad usage */
 };
 
 static inline enum status worse(enum status a, enum status b)
@@ -38,6 +39,7 @@ void print_name(FILE *to, const char *name);
 
 /* These say on standard error what is wrong with `name`, after all that was printed before it. */
 void say_unread(const char *name, const char *problem);
+void say_bad_line(const char *name, size_t number, const char *problem);
 void say_unwritten(const char *name, const char *problem);
 void say_unsafe(const char *name, const char *problem);
 void say_refused(const char *name, uint64_t refusal);

@@ -6,29 +6,28 @@
 
 #include "book.h"
 #include "output.h"
+#include "parts.h"
 #include "printed.h"
 #include "script.h"
 #include "words.h"
-
-#define EMPTY_BLOCK 36
 
 /* How many bytes the routine can grow by. The library's limit makes more than that useless. */
 static size_t growth(const struct script *script)
 {
     size_t room = 0;
-    for (size_t i = 0; i < script->count && room < MOST_LENT; i++)
-        room += script->lines[i].call == CREATE ? EMPTY_BLOCK : script->lines[i].len;
+    for (size_t i = 0; i < script->count && room < VTIL_MOST_LENT; i++)
+        room += script->lines[i].call == VTIL_CREATE ? EMPTY_BLOCK : script->lines[i].len;
     return room;
 }
 
 static vtil_answer run_line(const struct line *line, struct book *book)
 {
     switch (line->call) {
-    case CREATE:
+    case VTIL_CREATE:
         return vtil_create_block(book->numbers, book->image, book->image_len, book->journal, book->journal_len, line->vip);
-    case REMOVE:
+    case VTIL_REMOVE:
         return vtil_remove_block(book->numbers, book->image, book->image_len, book->journal, book->journal_len, line->vip);
-    case APPEND:
+    case VTIL_APPEND:
         return vtil_append(book->numbers, book->image, book->image_len, book->journal, book->journal_len, line->vip,
                            line->bytes, line->len);
     default:
@@ -40,9 +39,9 @@ static void print_line(FILE *to, const struct line *line)
 {
     fprintf(to, "line %zu: ", line->number);
     switch (line->call) {
-    case CREATE: fprintf(to, "create 0x%" PRIx64, line->vip); break;
-    case REMOVE: fprintf(to, "remove 0x%" PRIx64, line->vip); break;
-    case APPEND: fprintf(to, "append 0x%" PRIx64 ", %zu byte%s", line->vip, line->len, plural(line->len)); break;
+    case VTIL_CREATE: fprintf(to, "create 0x%" PRIx64, line->vip); break;
+    case VTIL_REMOVE: fprintf(to, "remove 0x%" PRIx64, line->vip); break;
+    case VTIL_APPEND: fprintf(to, "append 0x%" PRIx64 ", %zu byte%s", line->vip, line->len, plural(line->len)); break;
     default: fprintf(to, "undo"); break;
     }
 }
@@ -99,7 +98,7 @@ enum status edit_command(const struct request *request)
     enum status status = script_read(request->script, &script);
     if (status != ALL_ACCEPTED)
         return status;
-    status = book_open(request->files[0], growth(&script), MOST_LENT, &book);
+    status = book_open(request->files[0], growth(&script), VTIL_MOST_LENT, &book);
     if (status == ALL_ACCEPTED) {
         status = edit_book(request, &script, &book);
         book_free(&book);

@@ -16,7 +16,7 @@ static const char too_large[] = "too large for memory";
 /* Room at the start where the size is not known: pipes, devices and the files of /proc. */
 #define UNKNOWN_SIZE ((size_t)64 * 1024)
 
-/* A single read() of more than this many bytes is undefined by POSIX on some hosts. */
+/* POSIX leaves it to the host what a read of more than SSIZE_MAX bytes does; Linux gives at most 2^31 - 4096 at a time. */
 #define READ_AT_ONCE ((size_t)1 << 30)
 
 static bool is_standard_input(const char *path)

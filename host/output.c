@@ -137,12 +137,15 @@ static struct outcome write_and_rename(char *temporary, const char *path, const 
     return outcome;
 }
 
-/* The new name is safe on the disk when its folder is. Some file systems can't sync a folder: they say EINVAL. */
+/*
+ * The new name is safe on the disk when its folder is. Two folders are passed over, since nothing can be done about
+ * them: one that this user may write but not read (EACCES), and one whose file system syncs no folders (EINVAL).
+ */
 static struct outcome sync_folder(const char *folder)
 {
     int fd = open(folder, O_RDONLY | O_DIRECTORY);
     if (fd < 0 && errno == EACCES)
-        return fine; /* a folder that can be written but not read: nothing to be done */
+        return fine;
     if (fd < 0)
         return (struct outcome){true, strerror(errno)};
     struct outcome outcome = fine;

@@ -12,8 +12,10 @@
  * same folder first, which takes the path's name when it is safe on the disk: so
  * whatever fails, the path holds either what it held or all of the bytes. A path
  * that is no regular file, such as a pipe or a device, and standard output are
- * written to directly. ALL_ACCEPTED when it is written and safe; otherwise it was
- * said what is so.
+ * written to directly. ALL_ACCEPTED when it is written, and its new name is safe on
+ * the disk as well, as far as that can be had: a folder that this user may not read,
+ * or whose file system syncs no folders, is passed over. Otherwise it was said what
+ * is so.
  */
 enum status output_write(const char *path, const uint8_t *bytes, size_t len);
 

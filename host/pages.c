@@ -5,14 +5,12 @@
 
 #include "parts.h"
 
-#define EMPTY_CONVENTION 45
-
 bool pages_start(struct pages *pages, size_t len)
 {
-    /* A page has at most the part, an empty routine and an empty block. */
-    pages->room = len + 200;
-    pages->file = malloc(pages->room);
-    pages->book = (struct book){.image = malloc(pages->room)};
+    /* The longest pages have an empty routine, an empty block in it, and in that block a part of the routine's bytes. */
+    size_t room = EMPTY_ROUTINE + EMPTY_BLOCK + len;
+    pages->file = malloc(room);
+    pages->book = (struct book){.image = malloc(room)};
     return pages->file != NULL && pages->book.image != NULL;
 }
 

@@ -16,7 +16,7 @@
 
 struct pages {
     uint8_t *file; /* the page before it is opened */
-    size_t len, room;
+    size_t len;
     struct book book; /* the page that is open */
 };
 

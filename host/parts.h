@@ -14,16 +14,17 @@
 #define COUNT_SIZE ((size_t)4)
 #define BLOCK_HEAD ((size_t)24) /* a block's four numbers, before its lists */
 
-/* The count of the list at `at`. */
-size_t list_count(const uint8_t *bytes, size_t at);
+/* Of parts whose lists are empty. */
+#define EMPTY_CONVENTION (3 * COUNT_SIZE + REGISTER_SIZE + 8 + 1)
+#define EMPTY_BLOCK (BLOCK_HEAD + 3 * COUNT_SIZE)
+#define EMPTY_ROUTINE (CONVENTIONS_BEGIN + 2 * EMPTY_CONVENTION + 2 * COUNT_SIZE)
 
 /* Each answers the offset after the part that begins at `at`. */
 size_t convention_end(const uint8_t *bytes, size_t at);
 size_t instruction_end(const uint8_t *bytes, size_t at);
 size_t block_end(const uint8_t *bytes, size_t at);
 
-/* Where the list of special conventions and that of blocks begin, with their counts. */
-size_t special_conventions_begin(const uint8_t *bytes);
+/* Where the list of blocks begins, with its count. */
 size_t blocks_begin(const uint8_t *bytes);
 
 #endif

@@ -85,6 +85,12 @@ void say_unread(const char *name, const char *problem)
     fprintf(stderr, ": not read: %s\n", problem);
 }
 
+void say_bad_line(const char *name, size_t number, const char *problem)
+{
+    begin_complaint(name);
+    fprintf(stderr, ": line %zu: %s\n", number, problem);
+}
+
 void say_unwritten(const char *name, const char *problem)
 {
     begin_complaint(name);
@@ -103,7 +109,7 @@ void say_refused(const char *name, uint64_t refusal)
     fprintf(stderr, ": refused %" PRIu64 ": %s\n", refusal, refusal_words((int64_t)refusal));
 }
 
-static const char conventions[] =
+static const char dash_help[] =
     "A FILE of - is standard input, an OUT of - standard output. After -- nothing is an option.\n";
 
 static void print_help(FILE *to)
@@ -121,12 +127,12 @@ static void print_help(FILE *to)
             "Exit status: 0 all was accepted; 1 something was refused, or two routines differ;\n"
             "2 something could not be read or written, the usage is wrong, or a file of same was refused.\n"
             "Where both 1 and 2 apply it is 2.\n",
-            conventions);
+            dash_help);
 }
 
 static void print_command_help(const struct command *command)
 {
-    printf("usage: routine %s %s\n\n%s.\n%s\n%s", command->name, command->operands, command->does, command->more, conventions);
+    printf("usage: routine %s %s\n\n%s.\n%s\n%s", command->name, command->operands, command->does, command->more, dash_help);
     printf("Exit status 2, also where 1 applies: something could not be read or written, or the usage is wrong.\n");
 }
 

@@ -1,14 +1,13 @@
 #include "script.h"
 
 #include <stdbool.h>
-#include <stdio.h>
 #include <stdlib.h>
 #include <string.h>
 
 #include "file.h"
 
 /* A part of the script's text: a line, a word. */
-struct part {
+struct span {
     const char *at, *end;
 };
 
@@ -18,28 +17,28 @@ static bool is_blank(char c)
 }
 
 /* Takes the next word from the front of `line`; it is empty at the line's end, and where a comment begins. */
-static struct part next_word(struct part *line)
+static struct span next_word(struct span *line)
 {
     while (line->at < line->end && is_blank(*line->at))
         line->at++;
     if (line->at < line->end && *line->at == '#')
         line->at = line->end;
-    struct part word = {line->at, line->at};
+    struct span word = {line->at, line->at};
     while (word.end < line->end && !is_blank(*word.end))
         word.end++;
     line->at = word.end;
     return word;
 }
 
-static bool is_empty(struct part part)
+static bool is_empty(struct span span)
 {
-    return part.at == part.end;
+    return span.at == span.end;
 }
 
-static bool is_word(struct part part, const char *word)
+static bool is_word(struct span span, const char *word)
 {
     size_t len = strlen(word);
-    return (size_t)(part.end - part.at) == len && memcmp(part.at, word, len) == 0;
+    return (size_t)(span.end - span.at) == len && memcmp(span.at, word, len) == 0;
 }
 
 /* The value of a digit, 16 where it is none. */
@@ -55,7 +54,7 @@ static unsigned digit_value(char c)
 }
 
 /* Decimal, or hexadecimal after 0x, of at most 64 bits. */
-static bool read_number(struct part word, uint64_t *value)
+static bool read_number(struct span word, uint64_t *value)
 {
     unsigned base = 10;
     if (word.end - word.at > 2 && word.at[0] == '0' && (word.at[1] == 'x' || word.at[1] == 'X')) {
@@ -73,7 +72,7 @@ static bool read_number(struct part word, uint64_t *value)
 }
 
 /* Pairs of hexadecimal digits, onto the end of the line's bytes. */
-static bool read_bytes(struct part word, struct line *line)
+static bool read_bytes(struct span word, struct line *line)
 {
     if ((word.end - word.at) % 2 != 0)
         return false;
@@ -87,9 +86,9 @@ static bool read_bytes(struct part word, struct line *line)
 }
 
 /* What is wrong with the words after `append VIP`; NULL when nothing is. */
-static const char *read_instruction(struct part rest, struct line *line)
+static const char *read_instruction(struct span rest, struct line *line)
 {
-    struct part word = next_word(&rest);
+    struct span word = next_word(&rest);
     if (is_empty(word))
         return "append wants the instruction's bytes";
     for (; !is_empty(word); word = next_word(&rest))
@@ -98,11 +97,11 @@ static const char *read_instruction(struct part rest, struct line *line)
     return NULL;
 }
 
-static bool find_call(struct part word, enum call *call)
+static bool find_call(struct span word, enum vtil_call *call)
 {
-    static const char *const words[] = {[CREATE] = "create", [REMOVE] = "remove", [APPEND] = "append", [UNDO] = "undo"};
-    for (int i = CREATE; i <= UNDO; i++) {
-        *call = (enum call)i;
+    static const char *const words[] = {[VTIL_CREATE] = "create", [VTIL_REMOVE] = "remove", [VTIL_APPEND] = "append", [VTIL_UNDO] = "undo"};
+    for (int i = VTIL_CREATE; i <= VTIL_UNDO; i++) {
+        *call = (enum vtil_call)i;
         if (is_word(word, words[i]))
             return true;
     }
@@ -110,18 +109,18 @@ static bool find_call(struct part word, enum call *call)
 }
 
 /* What is wrong with a line that has words; NULL when nothing is. */
-static const char *read_line(struct part rest, struct line *line)
+static const char *read_line(struct span rest, struct line *line)
 {
     if (!find_call(next_word(&rest), &line->call))
         return "a line begins with create, remove, append or undo";
-    if (line->call != UNDO && !read_number(next_word(&rest), &line->vip))
+    if (line->call != VTIL_UNDO && !read_number(next_word(&rest), &line->vip))
         return "a vip is a number of at most 64 bits, decimal, or hexadecimal after 0x";
-    if (line->call == APPEND)
+    if (line->call == VTIL_APPEND)
         return read_instruction(rest, line);
     return is_empty(next_word(&rest)) ? NULL : "there are words after its end";
 }
 
-static bool has_words(struct part line)
+static bool has_words(struct span line)
 {
     return !is_empty(next_word(&line));
 }
@@ -144,14 +143,6 @@ static bool make_room(const struct file *file, struct script *out)
     return out->lines != NULL && out->bytes != NULL;
 }
 
-static void say_bad_line(const char *name, size_t number, const char *problem)
-{
-    fflush(stdout);
-    fprintf(stderr, "routine: ");
-    print_name(stderr, name);
-    fprintf(stderr, ": line %zu: %s\n", number, problem);
-}
-
 /* Some editors put a byte order mark before a text in UTF-8. */
 static size_t mark_len(const struct file *file)
 {
@@ -165,7 +156,7 @@ static enum status read_lines(const char *name, const struct file *file, struct 
     uint8_t *room = out->bytes;
     for (size_t number = 1; at < end; number++) {
         const char *feed = memchr(at, '\n', (size_t)(end - at));
-        struct part rest = {at, feed == NULL ? end : feed};
+        struct span rest = {at, feed == NULL ? end : feed};
         at = feed == NULL ? end : feed + 1;
         if (!has_words(rest))
             continue;

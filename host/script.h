@@ -6,12 +6,11 @@
 #include <stdint.h>
 
 #include "commands.h"
-
-enum call { CREATE, REMOVE, APPEND, UNDO };
+#include "vtil.h"
 
 struct line {
     size_t number; /* in the script, from 1 */
-    enum call call;
+    enum vtil_call call;
     uint64_t vip;
     uint8_t *bytes; /* append: the instruction's bytes */
     size_t len;

@@ -9,11 +9,11 @@
  * several threads at once, as long as nobody writes the memory that is lent to
  * it while it runs.
  *
- * A call takes up to 66,000 bytes of stack, for the search for repeated blocks,
- * and time that grows with the file or the image. Where the vips of the blocks do
- * not rise, the blocks are passed over once more for each 8,000 of them: the
- * 466,000 that a file of 16 MB can hold take half a second in the worst order
- * known.
+ * A call takes up to 67,000 bytes of stack (host/tests/stack.c measures it), for
+ * the search for repeated blocks, and time that grows with the file or the image.
+ * Where the vips of the blocks do not rise, the blocks are passed over once more
+ * for each 8,000 of them: the 466,000 that a file of 16 MB can hold take half a
+ * second in the worst order known.
  */
 #ifndef VTIL_H
 #define VTIL_H
@@ -24,6 +24,12 @@
 #ifdef __cplusplus
 extern "C" {
 #endif
+
+/* An image or a journal has at most so many bytes. */
+#define VTIL_MOST_LENT 16777216
+
+/* An instruction has at most so many bytes: a name of six, and three registers. */
+#define VTIL_LONGEST_INSTRUCTION 119
 
 /*
  * The refusals. The numbers are fixed. Reading a file can give 1 to 9; the
@@ -86,8 +92,13 @@ int64_t vtil_check(const uint8_t *file, size_t file_len);
  *
  * Keep the three together: hand to each call the book that the call before it
  * answered, with the same image and journal at the same lengths, unchanged in
- * between. A book is not trusted: no call touches a byte outside what it was lent,
- * whatever the numbers in the book and the bytes in image and journal are.
+ * between. An image may also be lengthened by zeros or cut after `written`, and a
+ * journal lengthened by any bytes or cut after `used`: what is said of each call
+ * holds at the lengths that it is lent, but what is proved of whole lists of calls
+ * is proved for lengths that stay. (A removed block comes back only into an image
+ * that has room for it.) A book is not trusted: no call touches a byte outside what
+ * it was lent, whatever the numbers in the book and the bytes in image and journal
+ * are.
  *
  * A book is spoiled, and every call on it is refused 13, when `written` is over
  * the image's length, `used` is over the journal's length, the first `written`
@@ -99,8 +110,8 @@ int64_t vtil_check(const uint8_t *file, size_t file_len);
  *   be NULL when that length is 0. Image, journal and whatever else is lent to one
  *   call do not overlap. Nothing is kept after the call.
  * Of every call here but vtil_run, which runs several of the others:
- *   Image and journal have at most 16,777,216 bytes each; a longer one is refused
- *   10 before anything else.
+ *   Image and journal have at most 16,777,216 bytes each (VTIL_MOST_LENT); a longer
+ *   one is refused 10 before anything else.
  *   A refused call changes no byte of image and journal. Where it answers a book,
  *   it is the one that was handed in (vtil_open: a book of zeros).
  *   Every call on a book reads the whole image first, to see that it is not
@@ -169,7 +180,7 @@ typedef struct {
 /*
  * vtil_write_instruction writes an instruction at the start of the lent bytes, as
  * vtil_append takes it; the bytes after it are not touched. No book is involved:
- * `image` is any memory; 119 bytes are always enough.
+ * `image` is any memory; 119 bytes (VTIL_LONGEST_INSTRUCTION) are always enough.
  *
  * Refusals, in this order: 10; 7 when the operation's number is over 48; 8 when
  * the count is not the operation's; 5 when some used operand of kind 1 has a
@@ -251,11 +262,11 @@ vtil_register_look vtil_convention_register(vtil_book book, const uint8_t *image
 
 /*
  * Each accepted edit changes the routine in the image, writes an entry into the
- * journal after the part that is used, and answers the new book. The links between blocks (prev and next vips)
- * are never adjusted. Every edit is refused 10 and then 13 as any call on a book;
- * its own refusals come next; last come 11, when the new written form is longer
- * than the image, and then 12, when the entry does not fit what is left of the
- * journal.
+ * journal after the part that is used, and answers the new book. The links between
+ * blocks (prev and next vips) are never adjusted. Every edit is refused 10 and then
+ * 13 as any call on a book; its own refusals come next; last come 11, when the new
+ * written form is longer than the image, and then 12, when the entry does not fit
+ * what is left of the journal.
  */
 
 /*
@@ -296,33 +307,40 @@ vtil_answer vtil_append(vtil_book book, uint8_t *image, size_t image_len, uint8_
  *
  * Refusals, in this order: 10, 13; 16 when nothing of the journal is used; 13 when
  * its used part does not end in an entry that fits the image, which never happens
- * to a book from vtil_open whose image and journal nobody else wrote.
+ * to a book from vtil_open whose image and journal nobody else wrote or cut.
  */
 vtil_answer vtil_undo(vtil_book book, uint8_t *image, size_t image_len, uint8_t *journal, size_t journal_len);
+
+/* The kinds of calls in a list. The numbers are fixed. */
+enum vtil_call {
+    VTIL_CREATE = 0, /* vtil_create_block */
+    VTIL_REMOVE = 1, /* vtil_remove_block */
+    VTIL_APPEND = 2, /* vtil_append */
+    VTIL_UNDO = 3    /* vtil_undo */
+};
 
 /*
  * vtil_run opens a file as vtil_open does and runs a list of calls on the book,
  * each as the calls above would, a refused one changing nothing and the next one
  * following all the same. After a refused opening no call is run.
  *
- *   words      four for each call: its kind (0 create, 1 remove, 2 append, 3
- *              undo), its vip, and where its bytes begin and end in `texts`. A
- *              kind that has no use for the vip or the bytes ignores them; all
- *              the same the bytes have to lie within `texts`, as 0 and 0 do,
- *              else the list is refused 15.
+ *   words      four for each call: its kind (enum vtil_call), its vip, and where
+ *              its part of `bytes` begins and ends. A kind that has no use for the
+ *              vip or the part ignores them; all the same the part has to lie
+ *              within `bytes`, as 0 and 0 do, else the list is refused 15.
  *   words_len  the number of words, not of bytes: four times the number of calls.
- *   texts      the bytes of the instructions to append.
+ *   bytes      the instructions to append, as vtil_append takes them.
  *
  * Answers what the last call answers; where the list is empty or the opening is
  * refused, what the opening answers. So a refusal is of the last call alone: those
  * before it have changed image and journal where they were accepted. Words that
- * are no list of calls (not four for each, a kind over 3, or bytes that do not
- * begin at or before their end within the texts) are refused 15 before all else:
+ * are no list of calls (not four for each, a kind over 3, or a part that does not
+ * begin at or before its end within `bytes`) are refused 15 before all else:
  * nothing is opened or changed, and the book answered is one of zeros.
  */
 vtil_answer vtil_run(const uint8_t *file, size_t file_len, uint8_t *image, size_t image_len, uint8_t *journal,
-                     size_t journal_len, const uint64_t *words, size_t words_len, const uint8_t *texts,
-                     size_t texts_len);
+                     size_t journal_len, const uint64_t *words, size_t words_len, const uint8_t *bytes,
+                     size_t bytes_len);
 
 /* ==== The end ===================================================================== */
 

@@ -4,6 +4,7 @@
 # Exit status: 0 nothing differs, 1 something does, 2 bad words, 3 something is missing.
 set -euo pipefail
 
+# shellcheck source=oracle/archive.sh
 . "$(dirname "$0")/archive.sh"
 
 build compare

@@ -7,8 +7,8 @@
 # They land in /usr/share/cargo/registry, which .cargo/config.toml names as the only source of crates.
 # It needs Debian 12 (bookworm), root for the installing, and cargo, which it does not install.
 #
-# It then compares original/src/{lib,pod,serialize}.rs with the published files, where those are there:
-# in ../shared/docs/src/src beside the repository, or in the folder that VTIL_RUST_SRC names.
+# Where VTIL_RUST_SRC names a folder with the published lib.rs, pod.rs and serialize.rs, it compares them with
+# those of original/src.
 set -euo pipefail
 
 packages="librust-scroll-dev librust-indexmap-dev librust-bitflags-dev librust-memmap-dev"
@@ -41,12 +41,12 @@ install_packages() {
 
 # The three listed files have to be the published ones, byte for byte.
 compare_originals() {
-    published=${VTIL_RUST_SRC:-$here/../../shared/docs/src/src}
-    if [ ! -d "$published" ]; then
-        [ -z "${VTIL_RUST_SRC:-}" ] || fail "VTIL_RUST_SRC names no folder: $published"
-        echo "originals: the published files are not beside the repository, so they were not compared"
+    published=${VTIL_RUST_SRC:-}
+    if [ -z "$published" ]; then
+        echo "originals: not compared: VTIL_RUST_SRC does not name a folder with the published files"
         return
     fi
+    [ -d "$published" ] || fail "VTIL_RUST_SRC names no folder: $published"
     for file in lib.rs pod.rs serialize.rs; do
         cmp "$published/$file" "$here/original/src/$file" || fail "original/src/$file is not the published file"
     done

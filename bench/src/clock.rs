@@ -2,10 +2,10 @@
 
 use std::time::{Duration, Instant};
 
-const RUNS: usize = 9;
+pub const RUNS: usize = 9;
 
 /// No more runs are begun once they took this long together.
-const PATIENCE: Duration = Duration::from_secs(4);
+const TIME_LIMIT: Duration = Duration::from_secs(4);
 
 /// How long `work` takes. What it hands back is dropped after the clock has stopped.
 pub fn time<T>(work: impl FnOnce() -> T) -> Duration {
@@ -16,17 +16,17 @@ pub fn time<T>(work: impl FnOnce() -> T) -> Duration {
     took
 }
 
-pub fn best_of_both(mut rust: impl FnMut() -> Duration, mut library: impl FnMut() -> Duration) -> (Duration, Duration) {
+pub fn best_of_both(mut left: impl FnMut() -> Duration, mut right: impl FnMut() -> Duration) -> (Duration, Duration) {
     let start = Instant::now();
-    let (mut best_rust, mut best_library) = (rust(), library());
+    let (mut best_left, mut best_right) = (left(), right());
     for _ in 1..RUNS {
-        if start.elapsed() > PATIENCE {
+        if start.elapsed() > TIME_LIMIT {
             break;
         }
-        best_rust = best_rust.min(rust());
-        best_library = best_library.min(library());
+        best_left = best_left.min(left());
+        best_right = best_right.min(right());
     }
-    (best_rust, best_library)
+    (best_left, best_right)
 }
 
 fn shown(time: Duration) -> String {

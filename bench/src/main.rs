@@ -28,7 +28,7 @@ fn main() -> ExitCode {
             return ExitCode::from(2);
         }
     };
-    println!("best of up to 9 runs, the two sides in turn; ratio: left time by right time");
+    println!("best of up to {} runs, the two sides in turn; ratio: left time by right time", clock::RUNS);
     println!("file, image and journal are in memory and were touched before; the Rust gets its memory from malloc in");
     println!("each run, and what it made is dropped after the clock has stopped");
     reading::checks(most_blocks);

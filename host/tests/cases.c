@@ -224,8 +224,10 @@ static void load_sample(const char *path, struct bytes *out)
     if (from == NULL)
         stop(path);
     out->len = fread(out->at, 1, BYTES_MAX, from);
-    if (ferror(from) || out->len == 0 || out->len == BYTES_MAX)
+    if (ferror(from))
         stop(path);
+    if (out->len == 0 || out->len == BYTES_MAX)
+        stop_because(path, "empty, or too long for these tests");
     fclose(from);
 }
 
@@ -234,6 +236,8 @@ size_t load_samples(char **paths, struct bytes **out)
     size_t count = 0;
     while (paths[count] != NULL)
         count++;
+    if (count == 0)
+        stop_because("samples", "no files are given");
     *out = calloc(count, sizeof **out);
     if (*out == NULL)
         stop("samples");

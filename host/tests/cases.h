@@ -42,7 +42,7 @@ void make_good_routine(struct bytes *b);
 /* One instruction by the layouts; now and then there is a fault in it, or it is cut off, or bytes follow. */
 void make_appended(struct bytes *b);
 
-/* The files at these paths, which NULL ends; answers how many they are. */
+/* The files at these paths, at least one, which NULL ends; answers how many they are. */
 size_t load_samples(char **paths, struct bytes **out);
 
 /* Damages `b` in one place; `other` is a second file to take pieces from. */

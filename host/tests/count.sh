@@ -1,5 +1,6 @@
 # shellcheck shell=bash
-# Counting for the test scripts. Sourced by them.
+# Counting for the test scripts. Sourced by them; $script is their name.
+# shellcheck disable=SC2154
 passed=0 failed=0 skipped=0
 
 pass() {

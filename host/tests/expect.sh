@@ -1,6 +1,7 @@
 # shellcheck shell=bash
 # Running a command and holding what it gave. Sourced by the tests of the command, which get the words
 # ROUTINE SCRATCH. The current folder is the repository root, SCRATCH an empty folder.
+# shellcheck disable=SC2034 # some names are for the scripts that source this
 . host/tests/count.sh
 export LC_ALL=C
 routine=$(realpath "$1")
@@ -8,7 +9,6 @@ scratch=$(realpath "$2")
 samples=$(realpath samples)
 refused_1="refused 1: short file: a field or name passes the end"
 refused_3="refused 3: wrong mark: either header mark differs"
-# shellcheck disable=SC2034 # for the scripts that source this
 try="routine: try routine --help"
 
 # hold NAME STATUS: what was just run gave this status, and out and err hold what is wanted.
@@ -61,12 +61,12 @@ output_fails() {
     hold "$1" 2
 }
 
-# little_memory WORDS..: runs the command with 64 MB of address space: enough for the largest routine, not for any file.
+# little_memory COMMAND..: runs `routine COMMAND..` with 64 MB of address space: enough for the largest routine, not for any file.
 little_memory() {
     (ulimit -v 65536 && exec "$routine" "$@")
 }
 
-# closed_pipe NAME WORDS..: as expect, for a pipe as standard output whose only reader is gone.
+# closed_pipe NAME COMMAND..: as expect, for a pipe as standard output whose only reader is gone.
 closed_pipe() {
     local name=$1
     shift

@@ -3,6 +3,7 @@
  * that don't fail on the disk of a test. The variable FAILING says which:
  *
  *   folder      fsync of a folder
+ *   no syncing  fsync of a folder, as on a file system that can't do that
  *   fchmod      every fchmod, as on a file system without modes
  *   owner       every fchown that gives a file another owner, as for a user who isn't root
  *   fchown      every fchown
@@ -46,6 +47,8 @@ int fsync(int fd)
         send_signal();
     else if (fails("folder"))
         return failed(EIO);
+    else if (fails("no syncing"))
+        return failed(EINVAL);
     return (int)syscall(SYS_fsync, fd);
 }
 

@@ -31,8 +31,9 @@ void next_case(void);
 /* Counts a difference and prints the first few. `about` is a number that tells the case apart. */
 void hold(const char *what, size_t about, int64_t got, int64_t want);
 
-/* Something that is needed is missing: ends the program. */
+/* Something that is needed is missing: these say so, with errno's reason or another, and end the program. */
 void stop(const char *what);
+void stop_because(const char *what, const char *reason);
 
 /* Prints the last line, and answers the exit status. */
 int finish(void);

@@ -393,10 +393,7 @@ static void huge_lengths(void)
 
 int main(int argc, char **argv)
 {
-    if (argc < 2) {
-        fprintf(stderr, "usage: guard FILE..\n");
-        return 2;
-    }
+    (void)argc;
     set_up_groups("guard");
     sample_count = load_samples(argv + 1, &samples);
     memory = make_room(114 + 36 * MANY_BLOCKS > BYTES_MAX ? 114 + 36 * MANY_BLOCKS : BYTES_MAX);

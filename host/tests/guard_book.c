@@ -11,12 +11,11 @@
 #include "lent.h"
 #include "reference.h"
 #include "reference_book.h"
-#include "shelf.h"
+#include "book_pair.h"
 
 #define OPENINGS 30000
 #define LOOKED_AT 60
 #define VALUES 100000
-#define MOST_LENT ((size_t)16777216)
 
 static struct bytes *samples;
 static size_t sample_count;
@@ -172,7 +171,7 @@ static void hold_too_large(const uint8_t *at, size_t image_len, const uint8_t *t
 /* Nothing of a lending over the limit is touched, and 10 comes before a file's refusal. */
 static void over_the_limit(const struct room *room)
 {
-    static const size_t lengths[] = {16777217, (size_t)1 << 32, (size_t)1 << 63, SIZE_MAX};
+    static const size_t lengths[] = {VTIL_MOST_LENT + 1, (size_t)1 << 32, (size_t)1 << 63, SIZE_MAX};
     static struct bytes wrong;
     begin("lendings over the limit, without access: refused 10 before all else");
     put(&wrong, 8, 0);
@@ -191,8 +190,8 @@ static void over_the_limit(const struct room *room)
 /* Exactly the limit is within it. */
 static void at_the_limit(void)
 {
-    struct room large = make_room(MOST_LENT), other = make_room(MOST_LENT);
-    struct lent at = lend(&large, MOST_LENT, true), to = lend(&other, MOST_LENT, true);
+    struct room large = make_room(VTIL_MOST_LENT), other = make_room(VTIL_MOST_LENT);
+    struct lent at = lend(&large, VTIL_MOST_LENT, true), to = lend(&other, VTIL_MOST_LENT, true);
     static struct bytes smallest;
     begin("lendings of 16,777,216 bytes");
     put_front(&smallest);
@@ -333,12 +332,16 @@ static vtil_instruction_desc any_instruction(void)
 static void write_values(void)
 {
     static const int answers[] = {0, 5, 6, 7, 8, 11, -1};
+    static const vtil_instruction_desc longest = {.op = 47, .count = 3, .operands = {{.kind = 1}, {.kind = 1}, {.kind = 1}}};
     begin("writing instruction values, at tight lengths");
+    lend_book(VTIL_LONGEST_INSTRUCTION, 0);
+    hold("the longest", image.len, (int64_t)vtil_write_instruction(longest, image.writable, image.len).size, (int64_t)image.len);
     seed(6);
     for (int i = 0; i < VALUES; i++) {
         vtil_instruction_desc value = any_instruction();
         uint8_t scrap[200];
         vtil_written size = ref_write_instruction(&value, scrap, sizeof scrap);
+        hold("none is longer", (size_t)size.size, size.size <= VTIL_LONGEST_INSTRUCTION, 1);
         lend_book(size.refusal == 0 ? (size_t)size.size + 1 - below(3) : below(120), 0);
         next_case();
         vtil_written want = ref_write_instruction(&value, twin.image, image.len);
@@ -353,11 +356,10 @@ static void write_values(void)
 
 int main(int argc, char **argv)
 {
-    if (argc < 2)
-        return 2;
+    (void)argc;
     set_up_groups("guard_book");
     sample_count = load_samples(argv + 1, &samples);
-    set_up_shelf();
+    set_up_book_pair();
     struct room untouched = make_room(1);
 
     instances();

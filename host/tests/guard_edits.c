@@ -11,12 +11,11 @@
 #include "lent.h"
 #include "reference.h"
 #include "reference_book.h"
-#include "shelf.h"
+#include "book_pair.h"
 
 #define LISTS 350
 #define CALLS 60 /* in a list */
 #define DAMAGED_JOURNALS 6000
-#define MOST_LENT ((size_t)16777216)
 
 static struct bytes *samples;
 static size_t sample_count;
@@ -29,11 +28,11 @@ static vtil_answer library_call(vtil_book numbers, const struct ref_call *call)
     struct lent bytes = lend(&instruction_room, call->len, below(2) == 0);
     memcpy(bytes.plain, call->bytes, call->len);
     switch (call->kind) {
-    case REF_CREATE:
+    case VTIL_CREATE:
         return vtil_create_block(numbers, image.writable, image.len, journal.writable, journal.len, call->vip);
-    case REF_REMOVE:
+    case VTIL_REMOVE:
         return vtil_remove_block(numbers, image.writable, image.len, journal.writable, journal.len, call->vip);
-    case REF_APPEND:
+    case VTIL_APPEND:
         return vtil_append(numbers, image.writable, image.len, journal.writable, journal.len, call->vip, bytes.readable,
                            bytes.len);
     default:
@@ -56,16 +55,14 @@ static vtil_answer call_both(const struct ref_call *call)
 
 static uint8_t no_bytes_at[1];
 
-static struct ref_call call_of(int kind, uint64_t vip)
+static struct ref_call call_of(enum vtil_call kind, uint64_t vip)
 {
-    struct ref_call call = {REF_UNDO, vip, no_bytes_at, 0};
-    call.kind = kind;
-    return call;
+    return (struct ref_call){kind, vip, no_bytes_at, 0};
 }
 
 /* Document 01's instances -------------------------------------------------------------------- */
 
-static void due(int kind, uint64_t vip, uint64_t refusal, uint64_t written, uint64_t used)
+static void due(enum vtil_call kind, uint64_t vip, uint64_t refusal, uint64_t written, uint64_t used)
 {
     struct ref_call call = call_of(kind, vip);
     vtil_answer answer = call_both(&call);
@@ -96,23 +93,23 @@ static void instances(void)
 {
     begin("document 01's instances of editing");
     open_smallest(222, 116);
-    due(REF_UNDO, 0, 16, 114, 0);
-    due(REF_CREATE, 5, 0, 150, 20);
-    due(REF_CREATE, 6, 0, 186, 40);
-    due(REF_CREATE, 7, 0, 222, 60);
+    due(VTIL_UNDO, 0, 16, 114, 0);
+    due(VTIL_CREATE, 5, 0, 150, 20);
+    due(VTIL_CREATE, 6, 0, 186, 40);
+    due(VTIL_CREATE, 7, 0, 222, 60);
     hold_vips(3, (const uint64_t[]){5, 6, 7});
-    due(REF_REMOVE, 5, 0, 186, 116);
+    due(VTIL_REMOVE, 5, 0, 186, 116);
     hold_vips(2, (const uint64_t[]){7, 6});
-    due(REF_UNDO, 0, 0, 222, 60);
+    due(VTIL_UNDO, 0, 0, 222, 60);
     hold_vips(3, (const uint64_t[]){5, 6, 7});
 
     open_smallest(150, 40);
-    due(REF_CREATE, 1, 0, 150, 20);
-    due(REF_CREATE, 2, 11, 150, 20);
+    due(VTIL_CREATE, 1, 0, 150, 20);
+    due(VTIL_CREATE, 2, 11, 150, 20);
     open_smallest(149, 19);
-    due(REF_CREATE, 1, 11, 114, 0);
+    due(VTIL_CREATE, 1, 11, 114, 0);
     open_smallest(150, 19);
-    due(REF_CREATE, 1, 12, 114, 0);
+    due(VTIL_CREATE, 1, 12, 114, 0);
     end();
 }
 
@@ -133,11 +130,12 @@ static uint64_t some_vip(void)
 static void make_call(size_t which)
 {
     struct ref_call *call = &calls[which];
-    static const int kinds[] = {REF_CREATE, REF_CREATE, REF_REMOVE, REF_APPEND, REF_APPEND, REF_APPEND, REF_UNDO, REF_UNDO};
+    static const enum vtil_call kinds[] = {VTIL_CREATE, VTIL_CREATE, VTIL_REMOVE, VTIL_APPEND,
+                                           VTIL_APPEND, VTIL_APPEND, VTIL_UNDO,   VTIL_UNDO};
     *call = call_of(kinds[below(8)], some_vip());
-    if (call->kind == REF_CREATE && below(3) != 0)
+    if (call->kind == VTIL_CREATE && below(3) != 0)
         call->vip = below(UINT64_MAX);
-    if (call->kind != REF_APPEND)
+    if (call->kind != VTIL_APPEND)
         return;
     make_appended(&instructions[which]);
     call->bytes = instructions[which].at;
@@ -157,37 +155,37 @@ static void hold_machine(struct ref_machine *machine, const struct ref_call *cal
 /* Undo until nothing stands: the file's routine again, and a journal of zeros. */
 static void take_all_back(const uint8_t *opened, uint64_t written)
 {
-    struct ref_call undo = call_of(REF_UNDO, 0);
+    struct ref_call undo = call_of(VTIL_UNDO, 0);
     while (call_both(&undo).refusal == 0)
         continue;
     hold("all taken back", image.len, (int64_t)twin.numbers.written, (int64_t)written);
     hold("the routine of the file", image.len, memcmp(image.plain, opened, image.len) == 0, 1);
 }
 
-/* The same list by vtil_run: each call's words, and the bytes in one text. */
+/* The same list by vtil_run: each call's words, and the bytes of all. */
 static void run_list(const struct bytes *file, size_t count)
 {
     static uint64_t words[4 * CALLS];
-    static struct bytes texts;
-    static struct room words_room, texts_room, file_room;
+    static struct bytes bytes;
+    static struct room words_room, bytes_room, file_room;
     if (words_room.len == 0) {
         words_room = make_room(sizeof words);
-        texts_room = make_room(BYTES_MAX);
+        bytes_room = make_room(BYTES_MAX);
         file_room = make_room(BYTES_MAX);
     }
-    texts.len = 0;
+    bytes.len = 0;
     for (size_t i = 0; i < count; i++) {
         words[4 * i] = calls[i].kind;
         words[4 * i + 1] = calls[i].vip;
-        words[4 * i + 2] = texts.len;
-        put_bytes(&texts, calls[i].bytes, calls[i].len);
-        words[4 * i + 3] = texts.len;
+        words[4 * i + 2] = bytes.len;
+        put_bytes(&bytes, calls[i].bytes, calls[i].len);
+        words[4 * i + 3] = bytes.len;
     }
     struct lent lent_words = lend(&words_room, 32 * count, true);
-    struct lent lent_texts = lend(&texts_room, texts.len, below(2) == 0);
+    struct lent lent_bytes = lend(&bytes_room, bytes.len, below(2) == 0);
     struct lent lent_file = lend(&file_room, file->len, below(2) == 0);
     memcpy(lent_words.plain, words, 32 * count);
-    memcpy(lent_texts.plain, texts.at, texts.len);
+    memcpy(lent_bytes.plain, bytes.at, bytes.len);
     memcpy(lent_file.plain, file->at, file->len);
 
     lend_book(image.len, journal.len);
@@ -199,7 +197,7 @@ static void run_list(const struct bytes *file, size_t count)
     }
     next_case();
     hold_answer(vtil_run(lent_file.readable, lent_file.len, image.writable, image.len, journal.writable, journal.len,
-                         (const uint64_t *)(const void *)lent_words.readable, 4 * count, lent_texts.readable, lent_texts.len),
+                         (const uint64_t *)(const void *)lent_words.readable, 4 * count, lent_bytes.readable, lent_bytes.len),
                 want);
     hold_bytes();
 }
@@ -245,7 +243,32 @@ static void lists(void)
     end_of_random(10, answers);
 }
 
-/* vtil_run at its edges: files that are refused, lists of no calls, words that stand for no part of the texts. */
+/* An undo that a cut image has no room for is refused 13; all else is as it is at lengths that stay. */
+static void changed_lengths(void)
+{
+    static const int answers[] = {0, 11, 12, 13, 14, 15, 16, -1};
+    static struct bytes b;
+    begin("lists of calls between which image and journal are lengthened or cut");
+    seed(12);
+    for (int i = 0; i < LISTS; i++) {
+        make_good_routine(&b);
+        lend_book((size_t)reference_check(b.at, b.len) + below(100), below(200));
+        open_both(&b);
+        for (size_t left = CALLS; left > 0; left--) {
+            make_call(0);
+            vtil_answer answer = call_both(&calls[0]);
+            if (answer.refusal == 13)
+                hold("only an undo is refused 13", image.len, calls[0].kind, VTIL_UNDO);
+            ref_forget();
+            if (below(3) == 0)
+                change_lengths((size_t)twin.numbers.written + below(3) * below(100),
+                               (size_t)twin.numbers.used + below(3) * below(150));
+        }
+    }
+    end_of_random(10, answers);
+}
+
+/* vtil_run at its edges: files that are refused, lists of no calls, words that stand for no part of the bytes. */
 static void odd_runs(void)
 {
     begin("vtil_run: refused openings and empty lists");
@@ -253,7 +276,7 @@ static void odd_runs(void)
     for (size_t i = 0; i < sample_count; i++) {
         int64_t size = reference_check(samples[i].at, samples[i].len);
         lend_book(size < 0 ? 100 : (size_t)size + 40, 60);
-        calls[0] = call_of(REF_CREATE, 77);
+        calls[0] = call_of(VTIL_CREATE, 77);
         run_list(&samples[i], 0);
         run_list(&samples[i], 1);
         lend_book(size < 1 ? 0 : (size_t)size - 1, 60);
@@ -266,7 +289,7 @@ static void odd_runs(void)
 static void hold_words(const uint64_t *words, size_t count, const struct ref_call *call)
 {
     static struct bytes smallest;
-    static const uint8_t texts[4] = {1, 0, 0, 0};
+    static const uint8_t bytes[4] = {1, 0, 0, 0};
     vtil_answer want = {VTIL_NO_SUCH_BLOCK, {0, 0}};
     smallest.len = 0;
     put_front(&smallest);
@@ -279,34 +302,34 @@ static void hold_words(const uint64_t *words, size_t count, const struct ref_cal
         want = ref_step(&twin, call);
     next_case();
     hold_answer(vtil_run(smallest.at, smallest.len, image.writable, image.len, journal.writable, journal.len, words, count,
-                         texts, sizeof texts),
+                         bytes, sizeof bytes),
                 want);
     hold_bytes();
 }
 
-/* Words that are no list of calls are refused before anything is opened, and nothing is read outside the texts. */
+/* Words that are no list of calls are refused before anything is opened, and nothing is read outside the bytes. */
 static void odd_words(void)
 {
     uint64_t odd[EXTREMES];
-    begin("vtil_run: parts outside the texts, other kinds and words that do not come in fours are refused 15, and nothing changes");
+    begin("vtil_run: parts outside the bytes, other kinds and words that do not come in fours are refused 15, and nothing changes");
     extremes(4, odd);
     for (int i = 0; i < EXTREMES; i++) {
         for (int j = 0; j < EXTREMES; j++) {
-            uint64_t words[4] = {REF_APPEND, 5, odd[i], odd[j]};
+            uint64_t words[4] = {VTIL_APPEND, 5, odd[i], odd[j]};
             if (odd[i] <= odd[j] && odd[j] <= 4)
                 continue;
             hold_words(words, 4, NULL);
-            words[0] = REF_CREATE;
+            words[0] = VTIL_CREATE;
             hold_words(words, 4, NULL);
         }
         uint64_t words[4] = {odd[i], 5, 0, 0};
         if (odd[i] > 3)
             hold_words(words, 4, NULL);
-        uint64_t create[4] = {REF_CREATE, 5, 0, 0};
+        uint64_t create[4] = {VTIL_CREATE, 5, 0, 0};
         hold_words(create, (size_t)i % 4, NULL);
     }
-    uint64_t undo_words[4] = {REF_UNDO, 5, 4, 4};
-    struct ref_call undo = call_of(REF_UNDO, 5);
+    uint64_t undo_words[4] = {VTIL_UNDO, 5, 4, 4};
+    struct ref_call undo = call_of(VTIL_UNDO, 5);
     hold_words(undo_words, 4, &undo);
     end();
 }
@@ -333,9 +356,9 @@ static void call_each(vtil_book numbers)
     twin.numbers = numbers;
     ref_forget();
     uint64_t there = some_vip();
-    for (int kind = REF_CREATE; kind <= REF_UNDO; kind++) {
-        struct ref_call call = call_of(kind, kind == REF_CREATE ? 0x1234567 : there);
-        if (kind == REF_APPEND)
+    for (int kind = VTIL_CREATE; kind <= VTIL_UNDO; kind++) {
+        struct ref_call call = call_of((enum vtil_call)kind, kind == VTIL_CREATE ? 0x1234567 : there);
+        if (kind == VTIL_APPEND)
             make_instruction_call(&call);
         twin.numbers = numbers;
         call_both(&call);
@@ -438,7 +461,7 @@ static void one_journal(const struct bytes *file)
     for (uint64_t left = 1 + below(2); left > 0; left--)
         damage_entry();
     copy_twin();
-    struct ref_call undo = call_of(REF_UNDO, 0);
+    struct ref_call undo = call_of(VTIL_UNDO, 0);
     for (int i = 0; i < 4; i++)
         call_both(&undo);
 }
@@ -455,7 +478,7 @@ static void stale_entry(const struct bytes *file)
     memcpy(twin.journal, entries, journal.len);
     twin.numbers.used = below(2) ? twin.numbers.used : used;
     copy_twin();
-    struct ref_call undo = call_of(REF_UNDO, 0);
+    struct ref_call undo = call_of(VTIL_UNDO, 0);
     call_both(&undo);
 }
 
@@ -492,7 +515,7 @@ static void noise_journals(void)
         if (twin.numbers.used >= 20)
             put_at(twin.journal + twin.numbers.used - 4, 4, below(5));
         copy_twin();
-        struct ref_call undo = call_of(REF_UNDO, 0);
+        struct ref_call undo = call_of(VTIL_UNDO, 0);
         call_both(&undo);
     }
     end();
@@ -518,7 +541,7 @@ static void hold_each(uint8_t *at, size_t image_len, uint8_t *to, size_t journal
 
 static void odd_lendings(const struct room *room)
 {
-    static const size_t lengths[] = {16777217, (size_t)1 << 32, (size_t)1 << 63, SIZE_MAX};
+    static const size_t lengths[] = {VTIL_MOST_LENT + 1, (size_t)1 << 32, (size_t)1 << 63, SIZE_MAX};
     static const vtil_book books[] = {{114, 0}, {0, 0}, {UINT64_MAX, UINT64_MAX}};
     begin("lendings over the limit, without access (10), and of no bytes (13)");
     for (size_t b = 0; b < 3; b++) {
@@ -530,7 +553,7 @@ static void odd_lendings(const struct room *room)
         hold_each(no_access(room), 0, no_access(room), 0, books[b], 13);
     }
     next_case();
-    vtil_answer run = vtil_run(samples[0].at, samples[0].len, no_access(room), 16777217, NULL, 0, NULL, 0, NULL, 0);
+    vtil_answer run = vtil_run(samples[0].at, samples[0].len, no_access(room), VTIL_MOST_LENT + 1, NULL, 0, NULL, 0, NULL, 0);
     hold("run", 0, (int64_t)run.refusal, 10);
     end();
 }
@@ -546,9 +569,9 @@ static void hold_one(const char *what, vtil_answer got, uint64_t refusal, uint64
 /* As many empty blocks as an image at the limit has room for; the reference would take too long, but the answers are plain. */
 static void at_the_limit(void)
 {
-    const size_t blocks = (MOST_LENT - 114) / 36, len = 114 + 36 * blocks;
-    struct room large = make_room(MOST_LENT), other = make_room(MOST_LENT);
-    struct lent at = lend(&large, MOST_LENT, true), to = lend(&other, 76, true);
+    const size_t blocks = (VTIL_MOST_LENT - 114) / 36, len = 114 + 36 * blocks;
+    struct room large = make_room(VTIL_MOST_LENT), other = make_room(VTIL_MOST_LENT);
+    struct lent at = lend(&large, VTIL_MOST_LENT, true), to = lend(&other, 76, true);
     struct bytes front = {0};
     uint8_t *file = calloc(len, 1);
     if (file == NULL)
@@ -580,16 +603,16 @@ static void at_the_limit(void)
 
 int main(int argc, char **argv)
 {
-    if (argc < 2)
-        return 2;
+    (void)argc;
     set_up_groups("guard_edits");
     sample_count = load_samples(argv + 1, &samples);
-    set_up_shelf();
+    set_up_book_pair();
     instruction_room = make_room(BYTES_MAX);
     struct room untouched = make_room(1);
 
     instances();
     lists();
+    changed_lengths();
     odd_runs();
     odd_words();
     hand_made_books();

@@ -17,7 +17,7 @@ try() {
     if "$@"; then pass "$name"; else fail "$name"; fi
 }
 
-# The numbers of document 01's refusals, in their order.
+# The numbers of document 01's refusals, in their order, and those of the kinds of calls.
 number_asserts() {
     local number=0 word
     for word in SHORT_FILE NAME_NOT_TEXT WRONG_MARK UNKNOWN_MACHINE FOREIGN_REGISTER UNKNOWN_OPERAND_KIND \
@@ -25,6 +25,11 @@ number_asserts() {
         SPOILED_BOOK BLOCK_PRESENT NO_SUCH_BLOCK NOTHING_TO_TAKE_BACK LEFTOVER; do
         number=$((number + 1))
         printf 'static_assert(VTIL_%s == %d, "%s");\n' "$word" "$number" "$word"
+    done
+    number=0
+    for word in CREATE REMOVE APPEND UNDO; do
+        printf 'static_assert(VTIL_%s == %d, "%s");\n' "$word" "$number" "$word"
+        number=$((number + 1))
     done
 }
 
@@ -86,7 +91,7 @@ readme_example_long() {
 
 write_sources
 try "alone as C11, included twice" "$CC" -std=c11 "${strict[@]}" -fsyntax-only "$scratch/alone.c"
-try "the numbers of the 17 refusals" "$CC" -std=c11 "${strict[@]}" -fsyntax-only "$scratch/numbers.c"
+try "the numbers of the 17 refusals and the 4 kinds of calls" "$CC" -std=c11 "${strict[@]}" -fsyntax-only "$scratch/numbers.c"
 try "the sizes of the structs" "$CC" -std=c11 "${strict[@]}" -fsyntax-only "$scratch/sizes.c"
 if command -v "$CXX" >/dev/null; then
     try "alone as C++17, included twice" "$CXX" -x c++ -std=c++17 "${strict[@]}" -fsyntax-only "$scratch/alone.c"

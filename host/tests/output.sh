@@ -145,6 +145,12 @@ other_users() {
     chown 65534:12345 "$to/a" && chmod 640 "$to/a"
     expect "root keeps owner and group" 0 "" "" "$routine" normalize "$odd" -o "$to/a"
     passes "they are the old ones" [ "$(about "$to/a")" = "65534 12345 640" ]
+    # It can't be opened, so it can't be synced either.
+    old_file 666
+    chmod 733 "$to"
+    expect "a folder that one may write but not read" 0 "" "" \
+        as_nobody --clear-groups "$public/routine" normalize "$public/odd-flags.vtil" -o "$to/a"
+    passes "the file in it is replaced" replaced
 }
 
 special_bits() {
@@ -220,6 +226,9 @@ folder_not_synced() {
     old_file 644
     expect "a folder that can't be synced" 2 "" "routine: $to/a: $say" with folder
     passes "the file is replaced all the same" replaced
+    old_file 644
+    expect "a folder on a file system that syncs none" 0 "" "" with "no syncing"
+    passes "the file is replaced there too" replaced
 }
 
 # A signal that ends the command ends it when the file is whole, and nothing else is left.

@@ -6,7 +6,6 @@
 
 #include "reference.h"
 
-#define MOST_LENT 16777216
 #define TRAILER 20
 
 static void *checked(void *got)
@@ -315,7 +314,7 @@ static uint64_t unwritable(const vtil_instruction_desc *value)
 
 vtil_written ref_write_instruction(const vtil_instruction_desc *value, uint8_t *image, size_t image_len)
 {
-    if (image_len > MOST_LENT)
+    if (image_len > VTIL_MOST_LENT)
         return (vtil_written){10, 0};
     uint64_t refusal = unwritable(value);
     if (refusal != 0)
@@ -332,7 +331,7 @@ vtil_written ref_write_instruction(const vtil_instruction_desc *value, uint8_t *
 
 static bool too_large(const struct ref_book *book)
 {
-    return book->image_len > MOST_LENT || book->journal_len > MOST_LENT;
+    return book->image_len > VTIL_MOST_LENT || book->journal_len > VTIL_MOST_LENT;
 }
 
 vtil_answer ref_open(struct ref_book *book, const uint8_t *file, size_t len)
@@ -405,7 +404,7 @@ vtil_routine_look ref_routine(const struct ref_book *book)
     return (vtil_routine_look){0, routine.machine, routine.entry, routine.conventions - 2, routine.blocks};
 }
 
-static uint64_t find_place(const struct ref_book *book, uint64_t place, struct ref_block *out)
+static uint64_t find_block(const struct ref_book *book, uint64_t place, struct ref_block *out)
 {
     struct ref_routine routine;
     uint64_t refusal = ref_held(book, &routine);
@@ -420,32 +419,32 @@ static uint64_t find_place(const struct ref_book *book, uint64_t place, struct r
 vtil_block_look ref_block(const struct ref_book *book, uint64_t place)
 {
     struct ref_block block;
-    vtil_block_look look = {.refusal = find_place(book, place, &block)};
+    vtil_block_look look = {.refusal = find_block(book, place, &block)};
     if (look.refusal != 0)
         return look;
     return (vtil_block_look){0, block.vip, block.sp_offset, block.sp_index, block.last_temporary, block.count,
                              block.vip_counts[0], block.vip_counts[1]};
 }
 
-vtil_instruction_look ref_instruction(const struct ref_book *book, uint64_t place, uint64_t which)
+vtil_instruction_look ref_instruction(const struct ref_book *book, uint64_t block, uint64_t place)
 {
-    struct ref_block block;
-    vtil_instruction_look look = {.refusal = find_place(book, place, &block)};
-    if (look.refusal == 0 && which >= block.count)
+    struct ref_block found;
+    vtil_instruction_look look = {.refusal = find_block(book, block, &found)};
+    if (look.refusal == 0 && place >= found.count)
         look.refusal = 15;
     if (look.refusal == 0)
-        look.instruction = block.instructions[which];
+        look.instruction = found.instructions[place];
     return look;
 }
 
-vtil_vip_look ref_block_vip(const struct ref_book *book, uint64_t place, uint64_t list, uint64_t which)
+vtil_vip_look ref_block_vip(const struct ref_book *book, uint64_t block, uint64_t list, uint64_t place)
 {
-    struct ref_block block;
-    vtil_vip_look look = {.refusal = find_place(book, place, &block)};
-    if (look.refusal == 0 && (list > 1 || which >= block.vip_counts[list]))
+    struct ref_block found;
+    vtil_vip_look look = {.refusal = find_block(book, block, &found)};
+    if (look.refusal == 0 && (list > 1 || place >= found.vip_counts[list]))
         look.refusal = 15;
     if (look.refusal == 0)
-        look.vip = block.vips[list][which];
+        look.vip = found.vips[list][place];
     return look;
 }
 
@@ -471,14 +470,14 @@ vtil_convention_look ref_convention(const struct ref_book *book, uint64_t place)
                                   convention.counts[1], convention.counts[2]};
 }
 
-vtil_register_look ref_convention_register(const struct ref_book *book, uint64_t place, uint64_t list, uint64_t which)
+vtil_register_look ref_convention_register(const struct ref_book *book, uint64_t convention, uint64_t list, uint64_t place)
 {
-    struct ref_convention convention;
-    vtil_register_look look = {.refusal = find_convention(book, place, &convention)};
-    if (look.refusal == 0 && (list > 2 || which >= convention.counts[list]))
+    struct ref_convention found;
+    vtil_register_look look = {.refusal = find_convention(book, convention, &found)};
+    if (look.refusal == 0 && (list > 2 || place >= found.counts[list]))
         look.refusal = 15;
     if (look.refusal == 0)
-        look.register_desc = convention.registers[list][which];
+        look.register_desc = found.registers[list][place];
     return look;
 }
 
@@ -569,9 +568,9 @@ static uint64_t append(const struct ref_routine *routine, const struct ref_call 
 
 static uint64_t edit(const struct ref_routine *routine, const struct ref_call *call, struct edited *out)
 {
-    if (call->kind == REF_CREATE)
+    if (call->kind == VTIL_CREATE)
         return create(routine, call->vip, out);
-    if (call->kind == REF_REMOVE)
+    if (call->kind == VTIL_REMOVE)
         return remove_block(routine, call->vip, out);
     return append(routine, call, out);
 }
@@ -702,7 +701,7 @@ vtil_answer ref_step(struct ref_book *book, const struct ref_call *call)
     uint64_t refusal = ref_held(book, &routine);
     if (refusal != 0)
         return refused(book, refusal);
-    if (call->kind == REF_UNDO)
+    if (call->kind == VTIL_UNDO)
         return undo_step(book, &routine);
     refusal = edit(&routine, call, &after);
     if (refusal != 0)
@@ -756,7 +755,7 @@ static vtil_answer machine_back(struct ref_machine *machine)
 vtil_answer ref_machine_step(struct ref_machine *machine, const struct ref_call *call)
 {
     struct edited after;
-    if (call->kind == REF_UNDO)
+    if (call->kind == VTIL_UNDO)
         return machine_back(machine);
     struct ref_routine routine = take_routine(machine->now.bytes);
     uint64_t refusal = edit(&routine, call, &after);

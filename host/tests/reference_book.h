@@ -46,7 +46,7 @@ struct ref_book {
 };
 
 struct ref_call {
-    enum { REF_CREATE, REF_REMOVE, REF_APPEND, REF_UNDO } kind;
+    enum vtil_call kind;
     uint64_t vip;
     const uint8_t *bytes; /* of the appended instruction */
     size_t len;

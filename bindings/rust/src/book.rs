@@ -6,13 +6,13 @@ use crate::value::{Instruction, Register, Vip};
 
 /// An open routine in an image and a journal whose lengths stay as they are: memory that the caller lends
 /// (`Book<&mut [u8]>`) or hands over (`Book<Vec<u8>>`). The image holds the routine's written form and then zeros,
-/// the journal what [`Book::undo`] needs. Image and journal have at most 16,777,216 bytes each.
+/// the journal what [`Book::undo`] needs. Image and journal have at most [`MOST_LENT`](crate::MOST_LENT) bytes each.
 ///
 /// Every call is the library's call of that name, on the memory as it is lent: nothing is copied or allocated, but
-/// for the operands of an [`Instruction`] that is looked at and the list that [`Book::run`] encodes. Refusals come in the order in which they are listed. Before those
-/// of the call itself there are two more: 10, the image or the journal is too long; 13, the lengths, the image and
-/// the journal do not fit each other, which happens only to a book from [`Book::resume`] and after a refused
-/// [`Book::reopen`].
+/// for the operands of an [`Instruction`] that is looked at and the list that [`Book::run`] encodes. Refusals come in
+/// the order in which they are listed. Before those of the call itself there are two more: 10, the image or the
+/// journal is too long; 13, the lengths, the image and the journal do not fit each other, which happens only to a book
+/// from [`Book::resume`], and after a [`Book::reopen`] or a [`Book::run`] whose opening was refused.
 ///
 /// A refused edit leaves the book as it was. Every call reads the whole image: its time grows with the image.
 #[derive(Clone, Debug)]
@@ -253,9 +253,10 @@ impl<M: AsMut<[u8]>> Book<M> {
     /// allocates.
     ///
     /// Answers what the last call of the list answers; where the list is empty or the opening is refused, what the
-    /// opening answers. No call is run after a refused opening.
+    /// opening answers. No call is run after a refused opening, which leaves the book as a refused [`Book::reopen`]
+    /// does.
     pub fn run(&mut self, file: &[u8], calls: &[Call]) -> Result<(), Refusal> {
-        let Encoded { words, texts } = Encoded::of(calls);
+        let Encoded { words, bytes } = Encoded::of(calls);
         // SAFETY: as in `reopen`.
         self.call(|_, image, journal| unsafe {
             c::vtil_run(
@@ -267,8 +268,8 @@ impl<M: AsMut<[u8]>> Book<M> {
                 journal.len(),
                 words.as_ptr(),
                 words.len(),
-                texts.as_ptr(),
-                texts.len(),
+                bytes.as_ptr(),
+                bytes.len(),
             )
         })
     }

@@ -110,10 +110,19 @@ pub struct Written {
     pub size: u64,
 }
 
+// The kinds of calls in a list, as enum vtil_call has them.
+pub const CREATE: u64 = 0;
+pub const REMOVE: u64 = 1;
+pub const APPEND: u64 = 2;
+pub const UNDO: u64 = 3;
+
 // The sizes that host/tests/header.sh holds the header to.
 const _: () = {
     assert!(size_of::<Lengths>() == 16);
     assert!(size_of::<Answer>() == 24);
+    assert!(size_of::<ImmediateDesc>() == 16);
+    assert!(size_of::<RegisterDesc>() == 24);
+    assert!(size_of::<OperandDesc>() == 48);
     assert!(size_of::<InstructionDesc>() == 176);
     assert!(size_of::<RoutineLook>() == 40);
     assert!(size_of::<BlockLook>() == 56);
@@ -223,7 +232,7 @@ extern "C" {
         journal_len: usize,
         words: *const u64,
         words_len: usize,
-        texts: *const u8,
-        texts_len: usize,
+        bytes: *const u8,
+        bytes_len: usize,
     ) -> Answer;
 }

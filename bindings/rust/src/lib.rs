@@ -1,4 +1,4 @@
-//! VTIL routine files: reading, checking, editing and writing them. A safe face of libvtil.a.
+//! VTIL routine files: reading, checking, editing and writing them. A safe wrapper of libvtil.a.
 //!
 //! A [`Routine`] owns its memory:
 //!
@@ -16,7 +16,7 @@
 //! # }
 //! ```
 //!
-//! A [`Book`] is the same in memory of fixed lengths that the caller lends, and allocates nothing:
+//! A [`Book`] is the same in memory of fixed lengths that the caller lends:
 //!
 //! ```
 //! use vtil::{Book, Refusal, Vip};
@@ -46,7 +46,10 @@ pub use list::Call;
 pub use look::{Block, Convention, Links, Overview, Registers};
 pub use refusal::Refusal;
 pub use routine::Routine;
-pub use value::{operation, Immediate, Instruction, Operand, Register, Vip, OPERATIONS};
+pub use value::{operation, Immediate, Instruction, Operand, Register, Vip, LONGEST_INSTRUCTION, OPERATIONS};
+
+/// The library takes no image and no journal that is longer.
+pub const MOST_LENT: usize = 16_777_216;
 
 /// How many bytes the routine at the start of `file` has; bytes after it are ignored. The file is read where it lies.
 ///

@@ -1,3 +1,4 @@
+use crate::c;
 use crate::value::Vip;
 
 /// A call of a list that [`Book::run`](crate::Book::run) runs.
@@ -10,11 +11,11 @@ pub enum Call<'a> {
     Undo,
 }
 
-/// A list of calls as the library takes it: four words for each call, and the bytes that they point to.
+/// A list of calls as the library takes it: four words for each call, and the instructions of all of them.
 #[derive(Default)]
 pub(crate) struct Encoded {
     pub words: Vec<u64>,
-    pub texts: Vec<u8>,
+    pub bytes: Vec<u8>,
 }
 
 impl Encoded {
@@ -26,13 +27,13 @@ impl Encoded {
 
     fn push(&mut self, call: &Call) {
         let (kind, vip, bytes): (u64, Vip, &[u8]) = match *call {
-            Call::Create(vip) => (0, vip, &[]),
-            Call::Remove(vip) => (1, vip, &[]),
-            Call::Append(vip, bytes) => (2, vip, bytes),
-            Call::Undo => (3, Vip(0), &[]),
+            Call::Create(vip) => (c::CREATE, vip, &[]),
+            Call::Remove(vip) => (c::REMOVE, vip, &[]),
+            Call::Append(vip, bytes) => (c::APPEND, vip, bytes),
+            Call::Undo => (c::UNDO, Vip(0), &[]),
         };
-        let begin = self.texts.len();
-        self.texts.extend(bytes);
-        self.words.extend([kind, vip.0, begin as u64, self.texts.len() as u64]);
+        let begin = self.bytes.len();
+        self.bytes.extend(bytes);
+        self.words.extend([kind, vip.0, begin as u64, self.bytes.len() as u64]);
     }
 }

@@ -2,14 +2,14 @@ use crate::book::Book;
 use crate::look::{Block, Convention, Links, Overview, Registers};
 use crate::refusal::Refusal;
 use crate::value::{Instruction, Register, Vip};
+use crate::MOST_LENT;
 
-/// The library takes no image and no journal that is longer.
-const MOST_LENT: usize = 16_777_216;
-
-/// An open routine: a [`Book`] that owns its image and journal. Both grow as they have to, up to 16,777,216 bytes each;
-/// so [`Refusal::ImageFull`] and [`Refusal::JournalFull`] come only there.
+/// An open routine: a [`Book`] that owns its image and journal. Both grow as they have to, up to [`MOST_LENT`] bytes
+/// each; so [`Refusal::ImageFull`] and [`Refusal::JournalFull`] come only there.
 ///
 /// A refused call leaves the routine as it was. Every call reads the whole image: its time grows with the routine.
+/// What the library proves of each call holds here; what it proves of whole lists of calls is for an image and a
+/// journal whose lengths stay, as a [`Book`]'s do.
 #[derive(Clone, Debug)]
 pub struct Routine {
     book: Book<Vec<u8>>,

@@ -93,6 +93,9 @@ pub const OPERATIONS: [(&str, usize); 49] = [
     ("vpinwm", 3),
 ];
 
+/// An instruction has at most so many bytes: a name of six, and three registers.
+pub const LONGEST_INSTRUCTION: usize = 119;
+
 /// The number of the operation with this name.
 pub fn operation(name: &str) -> Option<u32> {
     OPERATIONS.iter().position(|(listed, _)| *listed == name).map(|place| place as u32)
@@ -149,7 +152,7 @@ impl Instruction {
     /// Refusals, in this order: 7, the number is over 48; 8, so many operands are not the operation's; 5, a foreign
     /// register.
     pub fn to_bytes(&self) -> Result<Vec<u8>, Refusal> {
-        let mut bytes = vec![0; LONGEST];
+        let mut bytes = vec![0; LONGEST_INSTRUCTION];
         let size = self.write_to(&mut bytes)?;
         bytes.truncate(size);
         Ok(bytes)
@@ -158,7 +161,7 @@ impl Instruction {
     /// Writes the instruction, as a file holds it, at the start of the lent bytes, and answers its size. The bytes
     /// after it are not touched.
     ///
-    /// Refusals, in this order: 10, over 16,777,216 bytes are lent; those of [`Instruction::to_bytes`]; 11, the
+    /// Refusals, in this order: 10, over [`MOST_LENT`](crate::MOST_LENT) bytes are lent; those of [`Instruction::to_bytes`]; 11, the
     /// instruction is longer than the lent bytes. No byte is then touched.
     pub fn write_to(&self, lent: &mut [u8]) -> Result<usize, Refusal> {
         // SAFETY: the pointer and the length are a slice's.
@@ -195,6 +198,3 @@ impl Instruction {
         desc
     }
 }
-
-/// A name of six bytes and three registers: no instruction is longer.
-const LONGEST: usize = 29 + 6 + 3 * 28;

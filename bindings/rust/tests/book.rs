@@ -1,8 +1,7 @@
 //! Books over lent memory: what each call leaves in it, and every refusal at exact lengths.
 
-use vtil::{check, check_raw, operation, Book, Call, Instruction, Lengths, Refusal, Routine, Vip};
+use vtil::{check, check_raw, operation, Book, Call, Instruction, Lengths, Refusal, Routine, Vip, MOST_LENT};
 
-const MOST_LENT: usize = 16_777_216;
 const MINIMAL: usize = 114;
 
 fn sample(name: &str) -> Vec<u8> {

@@ -2,6 +2,7 @@
 
 use vtil::{
     check, operation, Immediate, Instruction, Links, Operand, Overview, Refusal, Register, Registers, Routine, Vip,
+    LONGEST_INSTRUCTION,
 };
 
 fn sample(name: &str) -> Vec<u8> {
@@ -127,13 +128,18 @@ fn every_operation_is_written_and_read() {
     let mut routine = Routine::open(&sample("minimal")).unwrap();
     routine.create_block(Vip(0)).unwrap();
     let zero = Operand::Immediate(Immediate::default());
+    let register = Operand::Register(Register::default());
+    let mut longest = 0;
     for (op, (name, count)) in vtil::OPERATIONS.into_iter().enumerate() {
         let instruction = Instruction { op: op as u32, operands: vec![zero; count], ..Default::default() };
         assert_eq!(instruction.name(), Some(name));
         assert_eq!(&instruction.to_bytes().unwrap()[4..4 + name.len()], name.as_bytes());
         routine.append_instruction(Vip(0), &instruction).unwrap();
         assert_eq!(routine.instruction(0, op as u64), Ok(instruction));
+        let longer = Instruction { op: op as u32, operands: vec![register; count], ..Default::default() };
+        longest = longest.max(longer.to_bytes().unwrap().len());
     }
+    assert_eq!(longest, LONGEST_INSTRUCTION);
 }
 
 #[test]

@@ -19,8 +19,9 @@ pub enum Field {
     BlockVip,
 }
 
+/// A field that a fault can be put into, and the bytes that it has.
 #[derive(Clone, Copy, Debug)]
-pub struct Mark {
+pub struct FieldAt {
     pub field: Field,
     pub at: usize,
     pub size: usize,
@@ -29,7 +30,7 @@ pub struct Mark {
 #[derive(Clone, Default)]
 pub struct Draft {
     pub bytes: Vec<u8>,
-    pub marks: Vec<Mark>,
+    pub fields: Vec<FieldAt>,
 }
 
 /// The most items that a list of each kind gets.
@@ -87,32 +88,32 @@ fn distinct_vips(rng: &mut Rng, count: usize) -> Vec<u64> {
 }
 
 impl Draft {
-    fn mark(&mut self, field: Field, bytes: &[u8]) {
-        self.marks.push(Mark { field, at: self.bytes.len(), size: bytes.len() });
+    fn field(&mut self, field: Field, bytes: &[u8]) {
+        self.fields.push(FieldAt { field, at: self.bytes.len(), size: bytes.len() });
         self.bytes.extend(bytes);
     }
 
     fn count(&mut self, count: usize) {
-        self.mark(Field::ListCount, &(count as u32).to_le_bytes());
+        self.field(Field::ListCount, &(count as u32).to_le_bytes());
     }
 
     fn header(&mut self, rng: &mut Rng) {
-        self.mark(Field::FirstMark, &0x4c49_5456u32.to_le_bytes());
+        self.field(Field::FirstMark, &0x4c49_5456u32.to_le_bytes());
         let machine = rng.below(3) as u8;
-        self.mark(Field::Machine, &[machine]);
+        self.field(Field::Machine, &[machine]);
         self.bytes.push(flag(rng));
-        self.mark(Field::SecondMark, &0xdeadu16.to_le_bytes());
+        self.field(Field::SecondMark, &0xdeadu16.to_le_bytes());
     }
 
     fn register(&mut self, rng: &mut Rng) {
         self.bytes.extend(rng.edgy().to_le_bytes());
-        self.mark(Field::RegisterId, &known_id(rng).to_le_bytes());
+        self.field(Field::RegisterId, &known_id(rng).to_le_bytes());
         self.bytes.extend(rng.edgy().to_le_bytes());
     }
 
     fn operand(&mut self, rng: &mut Rng) {
         let kind = rng.below(2) as u32;
-        self.mark(Field::OperandKind, &kind.to_le_bytes());
+        self.field(Field::OperandKind, &kind.to_le_bytes());
         if kind == 1 {
             return self.register(rng);
         }
@@ -122,9 +123,9 @@ impl Draft {
 
     /// The name with its size, and a count of operands.
     pub fn operation(&mut self, name: &[u8], operands: u32) {
-        self.mark(Field::NameSize, &(name.len() as u32).to_le_bytes());
-        self.mark(Field::Name, name);
-        self.mark(Field::OperandCount, &operands.to_le_bytes());
+        self.field(Field::NameSize, &(name.len() as u32).to_le_bytes());
+        self.field(Field::Name, name);
+        self.field(Field::OperandCount, &operands.to_le_bytes());
     }
 
     /// The operands, and what follows them in an instruction.
@@ -171,7 +172,7 @@ impl Draft {
 
     /// A block's four numbers.
     fn block_start(&mut self, rng: &mut Rng, vip: u64) {
-        self.mark(Field::BlockVip, &vip.to_le_bytes());
+        self.field(Field::BlockVip, &vip.to_le_bytes());
         self.bytes.extend(rng.edgy().to_le_bytes());
         self.bytes.extend(rng.u32().to_le_bytes());
         self.bytes.extend(rng.u32().to_le_bytes());
@@ -220,14 +221,14 @@ impl Draft {
 
     /// The smallest routine with one block, up to and with its count of instructions, which is 1.
     pub fn up_to_an_instruction() -> Draft {
-        let mut draft = Draft { bytes: minimal_routine(), marks: vec![] };
+        let mut draft = Draft { bytes: minimal_routine(), fields: vec![] };
         draft.bytes[110] = 1;
         draft.bytes.extend([0; 24]);
         draft.bytes.extend(1u32.to_le_bytes());
         draft
     }
 
-    pub fn marks_of(&self, field: Field) -> Vec<Mark> {
-        self.marks.iter().copied().filter(|mark| mark.field == field).collect()
+    pub fn fields_of(&self, field: Field) -> Vec<FieldAt> {
+        self.fields.iter().copied().filter(|place| place.field == field).collect()
     }
 }

@@ -1,6 +1,6 @@
 //! Files from a seed, in classes.
 
-use crate::draft::{minimal_routine, Draft, Field, Mark, MANY_BLOCKS, MIDDLING, SMALL};
+use crate::draft::{minimal_routine, Draft, Field, FieldAt, FOREIGN, MANY_BLOCKS, MIDDLING, SMALL};
 use crate::faults::{apply, change, foreign_id, places, Fault, FAULTS};
 use crate::names;
 use crate::ops::OPS;
@@ -121,7 +121,7 @@ impl Generator {
         let other = self.rng.pick(&FAULTS);
         let places_of_one = places(&draft, one);
         let places_of_other = places(&draft, other);
-        let couples: Vec<(Mark, Mark)> =
+        let couples: Vec<(FieldAt, FieldAt)> =
             places_of_one.iter().flat_map(|&a| places_of_other.iter().map(move |&b| (a, b))).collect();
         let (first, second): (Vec<_>, Vec<_>) = couples.into_iter().partition(|(a, b)| a.at <= b.at);
         [first, second]
@@ -134,7 +134,7 @@ impl Generator {
             .collect()
     }
 
-    fn with_two(&mut self, draft: &Draft, one: (Fault, Mark), other: (Fault, Mark)) -> Vec<u8> {
+    fn with_two(&mut self, draft: &Draft, one: (Fault, FieldAt), other: (Fault, FieldAt)) -> Vec<u8> {
         let mut draft = draft.clone();
         let (early, late) = if one.0 == Fault::Cut { (other, one) } else { (one, other) };
         // Of two cuts the second may lie behind the end by now; the first says all.
@@ -168,24 +168,24 @@ impl Generator {
     /// One id changed to each side of the border; once with the file ending there.
     fn ids(&mut self) -> Vec<Vec<u8>> {
         let draft = self.small();
-        let mark = self.rng.pick(&draft.marks_of(Field::RegisterId));
+        let place = self.rng.pick(&draft.fields_of(Field::RegisterId));
         let id = foreign_id(&mut self.rng);
         let with = |id: u64| {
             let mut bytes = draft.bytes.clone();
-            bytes[mark.at..mark.at + 8].copy_from_slice(&id.to_le_bytes());
+            bytes[place.at..place.at + 8].copy_from_slice(&id.to_le_bytes());
             bytes
         };
         let foreign = with(id);
-        let ending = foreign[..mark.at + 8].to_vec();
-        vec![with((3 << 56) - 1), with(3 << 56), foreign, ending]
+        let ending = foreign[..place.at + 8].to_vec();
+        vec![with(FOREIGN - 1), with(FOREIGN), foreign, ending]
     }
 
     fn repeated(&mut self) -> Vec<u8> {
         let shape = if self.rng.one_in(20) { MANY_BLOCKS } else { SMALL };
         let blocks = 2 + self.rng.below(shape.blocks);
         let mut draft = Draft::routine_of(&mut self.rng, shape, blocks);
-        let mark = self.rng.pick(&places(&draft, Fault::RepeatedVip));
-        apply(&mut draft, Fault::RepeatedVip, mark, &mut self.rng);
+        let place = self.rng.pick(&places(&draft, Fault::RepeatedVip));
+        apply(&mut draft, Fault::RepeatedVip, place, &mut self.rng);
         if self.rng.one_in(3) {
             let at = self.rng.below(draft.bytes.len());
             change(&mut draft.bytes, at, &mut self.rng);
@@ -197,8 +197,9 @@ impl Generator {
     fn counts(&mut self) -> Vec<u8> {
         const COUNTED: [Field; 3] = [Field::ListCount, Field::NameSize, Field::OperandCount];
         let mut draft = self.small();
-        let marks: Vec<Mark> = draft.marks.iter().copied().filter(|mark| COUNTED.contains(&mark.field)).collect();
-        let at = self.rng.pick(&marks).at;
+        let counts: Vec<FieldAt> =
+            draft.fields.iter().copied().filter(|place| COUNTED.contains(&place.field)).collect();
+        let at = self.rng.pick(&counts).at;
         let old = u32::from_le_bytes(draft.bytes[at..at + 4].try_into().expect("a count has four bytes"));
         let new = match self.rng.below(4) {
             0 => old.wrapping_add(1),

@@ -15,7 +15,7 @@ pub struct List {
 /// The blocks' vips and a few more, so that calls meet blocks that are there as often as ones that are not.
 fn vips_of(draft: &Draft) -> Vec<u64> {
     let read = |at: usize| u64::from_le_bytes(draft.bytes[at..at + 8].try_into().expect("a vip has eight bytes"));
-    let there = draft.marks_of(Field::BlockVip).into_iter().map(|mark| read(mark.at));
+    let there = draft.fields_of(Field::BlockVip).into_iter().map(|place| read(place.at));
     there.chain([5, 6, u64::MAX]).collect()
 }
 
@@ -33,9 +33,9 @@ fn instruction(rng: &mut Rng) -> Vec<u8> {
 
 fn spoil(draft: &mut Draft, rng: &mut Rng) {
     let fault = rng.pick(&FAULTS);
-    let marks = places(draft, fault);
-    if !marks.is_empty() {
-        apply(draft, fault, rng.pick(&marks), rng);
+    let places = places(draft, fault);
+    if !places.is_empty() {
+        apply(draft, fault, rng.pick(&places), rng);
     }
 }
 
@@ -45,7 +45,7 @@ fn call(rng: &mut Rng, vips: &[u64]) -> Call {
         0 => Call::Create(vip),
         1 => Call::Remove(vip),
         2 => Call::Append(vip, instruction(rng)),
-        _ => Call::TakeBack,
+        _ => Call::Undo,
     }
 }
 
@@ -53,7 +53,7 @@ fn call(rng: &mut Rng, vips: &[u64]) -> Call {
 fn calls(rng: &mut Rng, vips: &[u64]) -> Vec<Call> {
     let mut calls: Vec<Call> = (0..1 + rng.below(40)).map(|_| call(rng, vips)).collect();
     if rng.one_in(4) {
-        calls.extend(vec![Call::TakeBack; calls.len() + 1]);
+        calls.extend(vec![Call::Undo; calls.len() + 1]);
     }
     calls
 }

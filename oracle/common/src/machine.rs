@@ -7,7 +7,7 @@ use crate::routine::{Block, Routine};
 pub const IMAGE_FULL: Refusal = 11;
 pub const JOURNAL_FULL: Refusal = 12;
 pub const BLOCK_PRESENT: Refusal = 14;
-pub const NOT_THERE: Refusal = 15;
+pub const NO_SUCH_BLOCK: Refusal = 15;
 pub const NOTHING_TO_TAKE_BACK: Refusal = 16;
 pub const LEFTOVER: Refusal = 17;
 
@@ -16,7 +16,7 @@ pub enum Call {
     Create(u64),
     Remove(u64),
     Append(u64, Vec<u8>),
-    TakeBack,
+    Undo,
 }
 
 /// An earlier routine, and the journal entry of the edit that left it, whose size is the edit's cost.
@@ -66,7 +66,7 @@ fn create(routine: &Routine, vip: u64) -> Read<Edited> {
 }
 
 fn remove(routine: &Routine, vip: u64) -> Read<Edited> {
-    let place = routine.place_of(vip).ok_or(NOT_THERE)?;
+    let place = routine.place_of(vip).ok_or(NO_SUCH_BLOCK)?;
     let mut edited = routine.clone();
     let mut removed = vec![];
     edited.blocks.swap_remove(place).put(&mut removed);
@@ -79,7 +79,7 @@ fn append(routine: &Routine, vip: u64, bytes: &[u8]) -> Read<Edited> {
     if size != bytes.len() {
         return Err(LEFTOVER);
     }
-    let place = routine.place_of(vip).ok_or(NOT_THERE)?;
+    let place = routine.place_of(vip).ok_or(NO_SUCH_BLOCK)?;
     let mut edited = routine.clone();
     edited.blocks[place].instructions.push(instruction);
     Ok((edited, entry(vec![], vip, place, size, APPENDED)))
@@ -103,13 +103,13 @@ impl Machine {
             Call::Create(vip) => Some(create(&self.routine, *vip)),
             Call::Remove(vip) => Some(remove(&self.routine, *vip)),
             Call::Append(vip, bytes) => Some(append(&self.routine, *vip, bytes)),
-            Call::TakeBack => None,
+            Call::Undo => None,
         }
     }
 
     pub fn step(&mut self, call: &Call) -> Read<Lengths> {
         let Some(edited) = self.edit(call) else {
-            return self.take_back();
+            return self.undo();
         };
         let (routine, entry) = edited?;
         if routine.written().len() > self.image_length {
@@ -123,7 +123,7 @@ impl Machine {
         Ok(self.lengths())
     }
 
-    fn take_back(&mut self) -> Read<Lengths> {
+    fn undo(&mut self) -> Read<Lengths> {
         let top = self.pile.pop().ok_or(NOTHING_TO_TAKE_BACK)?;
         self.routine = top.routine;
         Ok(self.lengths())
@@ -160,7 +160,7 @@ mod tests {
     }
 
     #[test]
-    fn create_remove_and_take_back_of_document_01() {
+    fn create_remove_and_undo_of_document_01() {
         let mut machine = on_the_minimal_routine(222, 116);
         for vip in [5, 6, 7] {
             machine.step(&Call::Create(vip)).unwrap();
@@ -169,7 +169,7 @@ mod tests {
         machine.step(&Call::Remove(5)).unwrap();
         assert_eq!(vips(&machine), [7, 6]);
         assert_eq!(machine.lengths(), Lengths { written: 186, used: 116 });
-        machine.step(&Call::TakeBack).unwrap();
+        machine.step(&Call::Undo).unwrap();
         assert_eq!(vips(&machine), [5, 6, 7]);
         assert_eq!(machine.lengths(), Lengths { written: 222, used: 60 });
     }

@@ -116,7 +116,7 @@ pub fn ask(file: &[u8]) -> Answer {
 mod tests {
     use super::*;
     use crate::blocks::empty_blocks;
-    use crate::draft::{minimal_routine, Draft};
+    use crate::draft::{minimal_routine, Draft, FOREIGN};
     use crate::reader::read_file;
     use vtil_parser::{Op, Operand, RegisterFlags};
 
@@ -147,7 +147,7 @@ mod tests {
     #[test]
     fn a_foreign_register_is_written_unchecked() {
         let register =
-            RegisterDesc { flags: RegisterFlags::VIRTUAL, combined_id: 3 << 56, bit_count: 0, bit_offset: 0 };
+            RegisterDesc { flags: RegisterFlags::VIRTUAL, combined_id: FOREIGN, bit_count: 0, bit_offset: 0 };
         let op = Op::Neg(Operand::RegisterDesc(register));
         let instruction = Instruction { op, vip: Vip(0), sp_offset: 0, sp_index: 0, sp_reset: false };
         let mut routine = Routine::from_vec(&minimal_routine()).unwrap();

@@ -244,23 +244,14 @@ impl<'a> Reader<'a> {
 #[cfg(test)]
 mod tests {
     use super::read_file;
-    use crate::draft::minimal_routine;
+    use crate::draft::{minimal_routine, Draft};
 
     fn number(file: &[u8]) -> i64 {
         read_file(file).number()
     }
 
-    /// The minimal routine with one block, up to and with the count of its instructions, which is 1.
-    fn up_to_an_instruction() -> Vec<u8> {
-        let mut file = minimal_routine();
-        file[110] = 1;
-        file.extend([0; 24]);
-        file.extend(1u32.to_le_bytes());
-        file
-    }
-
     fn with_name(name: &[u8], rest: &[u8]) -> Vec<u8> {
-        let mut file = up_to_an_instruction();
+        let mut file = Draft::up_to_an_instruction().bytes;
         file.extend((name.len() as u32).to_le_bytes());
         file.extend(name);
         file.extend(rest);

@@ -4,7 +4,7 @@
 use crate::report::{hex, Report};
 use oracle::original::RESERVED_LIMIT;
 use std::fmt;
-use std::io::{Read, Write};
+use std::io::{ErrorKind, Read, Write};
 use std::os::unix::process::ExitStatusExt;
 use std::process::{Command, ExitStatus, Stdio};
 
@@ -42,7 +42,12 @@ fn status_of_child(file: &[u8]) -> std::io::Result<ExitStatus> {
         .stdin(Stdio::piped())
         .stderr(Stdio::null())
         .spawn()?;
-    child.stdin.take().expect("standard input is piped").write_all(file)?;
+    let given = child.stdin.take().expect("standard input is piped").write_all(file);
+    match given {
+        // The child ended before it read all of it: its status says how.
+        Err(error) if error.kind() == ErrorKind::BrokenPipe => {}
+        given => given?,
+    }
     child.wait()
 }
 
@@ -52,7 +57,7 @@ impl Aborts {
             return;
         }
         self.asked += 1;
-        let status = status_of_child(file).expect("a child process can be started");
+        let status = status_of_child(file).expect("a child process can be started and given a file");
         if status.signal() == Some(SIGABRT) {
             self.aborted += 1;
             return;

@@ -4,7 +4,7 @@
 
 use crate::report::{hex, number, shrink, Report};
 use oracle::lists::{self, List};
-use oracle::machine::{Call, Machine, BLOCK_PRESENT, NOT_THERE};
+use oracle::machine::{Call, Machine, BLOCK_PRESENT, NO_SUCH_BLOCK};
 use oracle::reader::{read_file, Read};
 use oracle::rng::Rng;
 use scroll::Pread;
@@ -17,7 +17,7 @@ fn edit(routine: &mut Routine, call: &Call) -> bool {
         Call::Create(vip) => routine.create_block(Vip(*vip)).is_some(),
         Call::Remove(vip) => routine.remove_block(Vip(*vip)).is_some(),
         Call::Append(vip, bytes) => push(routine, *vip, bytes),
-        Call::TakeBack => unreachable!("the history holds edits only"),
+        Call::Undo => unreachable!("the history holds edits only"),
     }
 }
 
@@ -48,7 +48,7 @@ fn library_call(book: &mut Book<Vec<u8>>, call: &Call) -> Answer {
         Call::Create(vip) => book.create_block(vtil::Vip(*vip)),
         Call::Remove(vip) => book.remove_block(vtil::Vip(*vip)),
         Call::Append(vip, bytes) => book.append(vtil::Vip(*vip), bytes),
-        Call::TakeBack => book.undo(),
+        Call::Undo => book.undo(),
     };
     (number(answer), book.lengths())
 }
@@ -64,7 +64,7 @@ fn due_answer(step: Read<oracle::machine::Lengths>, before: Lengths) -> Answer {
 /// Keeps the edits that none has taken back.
 fn note(history: &mut Vec<Call>, call: &Call) {
     match call {
-        Call::TakeBack => {
+        Call::Undo => {
             history.pop();
         }
         edit => history.push(edit.clone()),
@@ -103,7 +103,7 @@ impl Run<'_> {
 
     fn difference_after(&mut self, call: &Call) -> Option<String> {
         let step = self.machine.step(call);
-        if let Err(BLOCK_PRESENT | NOT_THERE) = step {
+        if let Err(BLOCK_PRESENT | NO_SUCH_BLOCK) = step {
             if !rust_refuses(&self.list.file, &self.history, call) {
                 return Some("document 01 refuses what the Rust does".to_string());
             }
@@ -140,7 +140,7 @@ fn as_library_call(call: &Call) -> vtil::Call<'_> {
         Call::Create(vip) => vtil::Call::Create(vtil::Vip(*vip)),
         Call::Remove(vip) => vtil::Call::Remove(vtil::Vip(*vip)),
         Call::Append(vip, bytes) => vtil::Call::Append(vtil::Vip(*vip), bytes),
-        Call::TakeBack => vtil::Call::Undo,
+        Call::Undo => vtil::Call::Undo,
     }
 }
 

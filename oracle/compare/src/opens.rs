@@ -4,10 +4,9 @@ use crate::report::{number, Report};
 use oracle::draft::minimal_routine;
 use oracle::machine::IMAGE_FULL;
 use oracle::reader::{read_file, Document, Refusal};
-use vtil::{Book, Lengths};
+use vtil::{Book, Lengths, MOST_LENT};
 
 const LENDING_TOO_LARGE: Refusal = 10;
-const LARGEST_LENDING: usize = 16_777_216;
 
 /// What the lent memory holds before the opening, to see what it touches.
 const IMAGE_BEFORE: u8 = 0xa5;
@@ -36,7 +35,7 @@ fn refused(refusal: Refusal, image_length: usize, journal_length: usize) -> Open
 
 /// By document 01: 10, then 1 to 9, then 11.
 fn expected(document: &Document, image_length: usize, journal_length: usize) -> Opened {
-    if image_length > LARGEST_LENDING || journal_length > LARGEST_LENDING {
+    if image_length > MOST_LENT || journal_length > MOST_LENT {
         return refused(LENDING_TOO_LARGE, image_length, journal_length);
     }
     let routine = match &document.answer {
@@ -93,10 +92,10 @@ pub fn difference(file: &[u8], document: &Document) -> Option<String> {
 
 /// The limit on what is lent, beside an accepted file and a refused one.
 pub fn limits(report: &mut Report) {
-    const OVER: usize = LARGEST_LENDING + 1;
+    const OVER: usize = MOST_LENT + 1;
     for file in [minimal_routine(), vec![]] {
         let document = read_file(&file);
-        for (image, journal) in [(LARGEST_LENDING, 20), (OVER, 20), (200, LARGEST_LENDING), (200, OVER), (OVER, OVER)] {
+        for (image, journal) in [(MOST_LENT, 20), (OVER, 20), (200, MOST_LENT), (200, OVER), (OVER, OVER)] {
             if let Some(text) = difference_at(&file, &document, image, journal) {
                 report.difference(|| text);
             }

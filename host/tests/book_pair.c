@@ -1,4 +1,4 @@
-#include "shelf.h"
+#include "book_pair.h"
 
 #include <string.h>
 
@@ -11,7 +11,7 @@ struct ref_book twin;
 static struct room file_room, image_room, journal_room;
 static uint8_t twin_image[BYTES_MAX], twin_journal[BYTES_MAX];
 
-void set_up_shelf(void)
+void set_up_book_pair(void)
 {
     file_room = make_room(BYTES_MAX);
     image_room = make_room(BYTES_MAX);
@@ -31,6 +31,19 @@ void lend_book(size_t image_len, size_t journal_len)
     twin = (struct ref_book){twin_image, twin_journal, image_len, journal_len, {0, 0}};
     leave_bytes(twin_image, image_len);
     leave_bytes(twin_journal, journal_len);
+    copy_twin();
+}
+
+void change_lengths(size_t image_len, size_t journal_len)
+{
+    if (image_len > twin.image_len)
+        memset(twin_image + twin.image_len, 0, image_len - twin.image_len);
+    if (journal_len > twin.journal_len)
+        leave_bytes(twin_journal + twin.journal_len, journal_len - twin.journal_len);
+    twin.image_len = image_len;
+    twin.journal_len = journal_len;
+    image = lend(&image_room, image_len, below(2) == 0);
+    journal = lend(&journal_room, journal_len, below(2) == 0);
     copy_twin();
 }
 
@@ -75,7 +88,7 @@ static void hold_number(const char *what, uint64_t got, uint64_t want)
     hold(what, image.len, (int64_t)got, (int64_t)want);
 }
 
-void hold_register(const vtil_register_desc *got, const vtil_register_desc *want)
+static void hold_register(const vtil_register_desc *got, const vtil_register_desc *want)
 {
     hold_number("register flags", got->flags, want->flags);
     hold_number("register id", got->combined_id, want->combined_id);
@@ -91,7 +104,7 @@ static void hold_operand(const vtil_operand_desc *got, const vtil_operand_desc *
     hold_register(&got->register_desc, &want->register_desc);
 }
 
-void hold_instruction(const vtil_instruction_desc *got, const vtil_instruction_desc *want)
+static void hold_instruction(const vtil_instruction_desc *got, const vtil_instruction_desc *want)
 {
     hold_number("operation", got->op, want->op);
     hold_number("operand count", got->count, want->count);

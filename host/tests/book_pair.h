@@ -3,8 +3,8 @@
  * memory for the reference. What a call has to answer and to leave behind is what
  * the reference does.
  */
-#ifndef SHELF_H
-#define SHELF_H
+#ifndef BOOK_PAIR_H
+#define BOOK_PAIR_H
 
 #include "cases.h"
 #include "lent.h"
@@ -15,10 +15,16 @@ extern struct lent image, journal; /* what the library is lent */
 extern struct ref_book twin;       /* the reference's, of the same lengths */
 
 /* Once, before all else. */
-void set_up_shelf(void);
+void set_up_book_pair(void);
 
 /* Image and journal of these lengths, at most BYTES_MAX, full of bytes that were left there, in both. */
 void lend_book(size_t image_len, size_t journal_len);
+
+/*
+ * The same book at other lengths, not below what counts of image and journal: the image cut or lengthened by zeros, the
+ * journal cut or lengthened by any bytes.
+ */
+void change_lengths(size_t image_len, size_t journal_len);
 
 /* Lends `file` and opens it in both; holds the answers and what is left behind. Answers whether it was accepted. */
 bool open_both(const struct bytes *file);
@@ -30,9 +36,6 @@ void hold_answer(vtil_answer got, vtil_answer want);
 
 /* Image and journal are what the reference's are. */
 void hold_bytes(void);
-
-void hold_register(const vtil_register_desc *got, const vtil_register_desc *want);
-void hold_instruction(const vtil_instruction_desc *got, const vtil_instruction_desc *want);
 
 /* Looks at every part of the book, at the places after the last, and at places that no book has. */
 void look_everywhere(vtil_book numbers);
