@@ -10,7 +10,7 @@ ghost use Rattle.machine.specs.Edits.{append};
 ghost use Rattle.machine.specs.Machine.{edit};
 ghost use Rattle.machine.specs.Book.{step};
 ghost use Rattle.book.specs.Says.{state, outcome};
-ghost use Rattle.book.specs.Holding.{Held};
+ghost use Rattle.book.specs.Holding.{Is-sound};
 ghost use Rattle.append.specs.Whole.{Whole};
 use book::Answer;
 use book::Book;
@@ -38,7 +38,7 @@ fn append_whole(
     vip: Vip,
     instruction: &[u8],
 ) -> Answer
-    requires { ⌜ Held (state (now image) (now journal) book) × Whole (now instruction) ⌝ }
+    requires { ⌜ Is-sound (state (now image) (now journal) book) × Whole (now instruction) ⌝ }
     ensures { λ r. ⌜ outcome r (now (image .exit)) (now (journal .exit)) ≡ step (edit (append (vip .0) (now (instruction .entry)))) (state (now (image .entry)) (now (journal .entry)) book) ⌝ }
 {
     let written = book.written as usize;
@@ -96,7 +96,7 @@ pub fn append(
     vip: Vip,
     instruction: &[u8],
 ) -> Answer
-    requires { ⌜ Held (state (now image) (now journal) book) ⌝ }
+    requires { ⌜ Is-sound (state (now image) (now journal) book) ⌝ }
     ensures { λ r. ⌜ outcome r (now (image .exit)) (now (journal .exit)) ≡ step (edit (append (vip .0) (now (instruction .entry)))) (state (now (image .entry)) (now (journal .entry)) book) ⌝ }
 {
     match instruction::instruction_skip(instruction, 0, false) {

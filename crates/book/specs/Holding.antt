@@ -10,7 +10,7 @@ use Rattle.machine.specs.Book.{State}
 pub use Rattle.machine.specs.Sound.{Sound}
 
 -- the state is sound: what the functions over an inspected state ask
-pub record Held (s : State) : Type 0 where
+pub record Is-sound (s : State) : Type 0 where
   pub r : Routine
   pub sound : Sound s r
 

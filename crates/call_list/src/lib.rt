@@ -9,7 +9,7 @@ ghost use Rattle.call_list.specs.Encoding.{is-call-list, call-of, call-a
 ghost use Rattle.call_list.specs.Runs.{Runs};
 
 // Whether the words and bytes encode a list of calls.
-pub fn is_call_list(words: &[u64], bytes: &[u8]) -> bool
+fn is_call_list(words: &[u64], bytes: &[u8]) -> bool
     ensures { λ r. ⌜ r ≡ is-call-list (now (words .entry)) (now (bytes .entry)) ⌝ }
 {
     let n = words.len();

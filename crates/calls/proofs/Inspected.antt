@@ -12,10 +12,10 @@ use Rattle.machine.proofs.Calls.{step-refused}
 use Rattle.book.specs.declared.Book.{Book}
 use Rattle.book.specs.Says.{state, outcome, refusal-of}
 use Rattle.image.proofs.Inspects.{refused-by, ready}
-use Rattle.book.specs.Holding.{Held}
+use Rattle.book.specs.Holding.{Is-sound}
 
 module _ (image journal : List ℕ) (b : Book) (n : ℕ) (is : n ≡ refusal-of (held (state image journal b))) where
-  pub sound : Bytes image → n ≡ 0 → Held (state image journal b)
+  pub sound : Bytes image → n ≡ 0 → Is-sound (state image journal b)
   sound bytes z = let h = ready (state image journal b) bytes is z in record { r = h .routine; sound = h .sound }
 
   pub spoiled : (c : Call) → (n ≡ 0 → ⊥) → outcome (record { refusal = n; book = b }) image journal ≡ step c (state image journal b)

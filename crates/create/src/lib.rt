@@ -6,7 +6,7 @@ ghost use Rattle.machine.specs.Edits.{create};
 ghost use Rattle.machine.specs.Machine.{edit};
 ghost use Rattle.machine.specs.Book.{step};
 ghost use Rattle.book.specs.Says.{state, outcome};
-ghost use Rattle.book.specs.Holding.{Held};
+ghost use Rattle.book.specs.Holding.{Is-sound};
 use book::Answer;
 use book::Book;
 use pod::Vip;
@@ -16,7 +16,7 @@ const EMPTY_BLOCK_SIZE: usize = 36;
 
 // A block with the vip goes last. The image is zeros after the blocks, so of the new block only its vip is stored.
 pub fn create_block(book: Book, image: &mut [u8], journal: &mut [u8], vip: Vip) -> Answer
-    requires { ⌜ Held (state (now image) (now journal) book) ⌝ }
+    requires { ⌜ Is-sound (state (now image) (now journal) book) ⌝ }
     ensures { λ r. ⌜ outcome r (now (image .exit)) (now (journal .exit)) ≡ step (edit (create (vip .0))) (state (now (image .entry)) (now (journal .entry)) book) ⌝ }
 {
     let v = vip.0;

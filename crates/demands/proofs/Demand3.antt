@@ -51,9 +51,9 @@ module _ (o : Opening) (cs : List Call) (f : Each Sendable cs) where
 pub told-apart : (o p : Opening) (cs ds : List Call) → Each Sendable cs → Each Sendable ds → Told-apart o p cs ds
 told-apart o p cs ds f g =
     record {
-      equal = λ e. injective routine-layout (machine-after o cs .now) (machine-after p ds .now) (simulated o cs f .1 .holds) (simulated p ds g .1 .holds)
+      routines-equal = λ e. injective routine-layout (machine-after o cs .now) (machine-after p ds .now) (simulated o cs f .1 .holds) (simulated p ds g .1 .holds)
           (sym (written-is o cs f) ∙ e ∙ written-is p ds g);
-      unequal = λ e. written-is o cs f ∙ ap routine-bytes e ∙ sym (written-is p ds g);
+      bytes-equal = λ e. written-is o cs f ∙ ap routine-bytes e ∙ sym (written-is p ds g);
     }
 
 -- parts of a list

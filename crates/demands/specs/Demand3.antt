@@ -80,8 +80,8 @@ pub record Follows (o : Opening) (cs : List Call) : Type 0 where
 
 -- two books hold equal written bytes exactly when the machine ends in equal routines
 pub record Told-apart (o p : Opening) (cs ds : List Call) : Type 0 where
-  pub equal : written-bytes (after-calls o cs) ≡ written-bytes (after-calls p ds) → machine-after o cs .now ≡ machine-after p ds .now
-  pub unequal : machine-after o cs .now ≡ machine-after p ds .now → written-bytes (after-calls o cs) ≡ written-bytes (after-calls p ds)
+  pub routines-equal : written-bytes (after-calls o cs) ≡ written-bytes (after-calls p ds) → machine-after o cs .now ≡ machine-after p ds .now
+  pub bytes-equal : machine-after o cs .now ≡ machine-after p ds .now → written-bytes (after-calls o cs) ≡ written-bytes (after-calls p ds)
 
 -- the last accepted edit of a list that is not taken back: it was accepted after the calls before it, and of the calls after it all accepted edits
 -- were taken back

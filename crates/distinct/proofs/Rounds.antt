@@ -1,5 +1,5 @@
 -- What the passes have shown: below lo no vip stands twice. A pass adds the vips up to where its own end, for the buffer has them all, and sorted
--- it has no twins.
+-- no number stands twice in it.
 use mathlib.Core.Path.{_≡_, refl, ap}
 use mathlib.Core.Logic.{⊎-elim}
 use mathlib.Core.List.{List}
@@ -10,7 +10,7 @@ use lib.ListN.{length}
 use Rattle.fields.proofs.Le.{Bytes}
 use Rattle.pod.specs.Blocks.{repeats}
 use Rattle.sorting.specs.Counts.{count}
-use Rattle.sorting.specs.Buffer.{TOP, Sorted, Twins}
+use Rattle.sorting.specs.Buffer.{TOP, Sorted, Has-repeat}
 use Rattle.sorting.proofs.Order.{equal?, below?, lt-of}
 use Rattle.distinct.specs.Walked.{vipsFrom, TopTwice, Gathered}
 use Rattle.distinct.proofs.Repeats.{rep-true, rep-false}
@@ -26,12 +26,12 @@ pub pass-start : (xs b : List ℕ) → Passing xs (length b) b 0
 pass-start xs b = record { len = refl; within = omega arith; once = λ v l. absurd (omega arith) }
 
 module _ (xs : List ℕ) (lo r : ℕ) (b b′ : List ℕ) (g : Gathered xs lo r b) (s : Sorted b b′) where
-  pub pass-twice : (t : Bool) → t ≡ true → Twins b′ t → repeats xs ≡ true
+  pub pass-twice : (t : Bool) → t ≡ true → Has-repeat b′ t → repeats xs ≡ true
   pass-twice t e w =
       let k = w .twice e in
       rep-true xs (k .0) (omega (arith, k .1, k .2, s .same (k .0), g .only (k .0) (k .1)))
 
-  pub pass-more : (size : ℕ) (b₀ : List ℕ) (t : Bool) → (r ≡ 0 → ⊥) → t ≡ false → Twins b′ t → Passing xs size b₀ lo → length b′ ≡ size → Passing xs size b′ r
+  pub pass-more : (size : ℕ) (b₀ : List ℕ) (t : Bool) → (r ≡ 0 → ⊥) → t ≡ false → Has-repeat b′ t → Passing xs size b₀ lo → length b′ ≡ size → Passing xs size b′ r
   pass-more size b₀ t n e w p l =
       let in-top : r ≤ TOP = g .within in
       let pos : 0 < r = lt-of (omega arith) n in

@@ -80,7 +80,7 @@ fn passes(s: &[u8], start: usize, count: usize, b: &mut [u64]) -> bool
             return true;
         }
         sorting::sort(b);
-        if sorting::twins(b) {
+        if sorting::has_repeat_sorted(b) {
             return true;
         }
         lo = hi;

@@ -8,9 +8,9 @@ use lib.ListN.{length, length-append, length-replicate}
 use Rattle.fields.specs.Bytes.{zeros, put}
 use Rattle.pod.specs.Values.{BasicBlock, Routine}
 use Rattle.pod.specs.Written.{bytes, block-bytes, routine-head-bytes}
-use Rattle.buffer.specs.Parts.{exchanged}
+use Rattle.exchange.specs.Parts.{exchanged}
 use Rattle.buffer.proofs.Put.{put-parts}
-use Rattle.buffer.proofs.Reversals.{exchanged-parts}
+use Rattle.exchange.proofs.Reversals.{exchanged-parts}
 use Rattle.machine.specs.Edits.{with-blocks}
 use Rattle.machine.specs.Machine.{size}
 use Rattle.machine.specs.Book.{in-image}

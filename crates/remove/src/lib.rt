@@ -9,7 +9,7 @@ ghost use Rattle.machine.specs.Edits.{remove, remove-at, with-blocks};
 ghost use Rattle.machine.specs.Machine.{edit};
 ghost use Rattle.machine.specs.Book.{in-image, step};
 ghost use Rattle.book.specs.Says.{state, outcome};
-ghost use Rattle.book.specs.Holding.{Held};
+ghost use Rattle.book.specs.Holding.{Is-sound};
 ghost use Rattle.remove.specs.Leaving.{Leaving, Leaves};
 use book::Answer;
 use book::Book;
@@ -32,14 +32,14 @@ fn take_out(image: &mut [u8], at: usize, end: usize, written: usize)
     }
     let last = image::block_offset(image, count as usize - 1);
     let left = written - (end - at);
-    buffer::exchange(image, at, end, last, written);
+    exchange::exchange(image, at, end, last, written);
     buffer::clear(image, left, written);
     buffer::put_u32(image, start - 4, count - 1);
 }
 
 // The block with the vip goes, into the journal: its bytes, and then the trailer. A removal never grows the routine, so it is never refused with 11.
 pub fn remove_block(book: Book, image: &mut [u8], journal: &mut [u8], vip: Vip) -> Answer
-    requires { ⌜ Held (state (now image) (now journal) book) ⌝ }
+    requires { ⌜ Is-sound (state (now image) (now journal) book) ⌝ }
     ensures { λ r. ⌜ outcome r (now (image .exit)) (now (journal .exit)) ≡ step (edit (remove (vip .0))) (state (now (image .entry)) (now (journal .entry)) book) ⌝ }
 {
     let written = book.written as usize;

@@ -5,13 +5,13 @@ ghost use mathlib.Core.Path.{_≡_};
 ghost use Rattle.machine.specs.Machine.{undo};
 ghost use Rattle.machine.specs.Book.{step};
 ghost use Rattle.book.specs.Says.{state, outcome};
-ghost use Rattle.book.specs.Holding.{Held};
+ghost use Rattle.book.specs.Holding.{Is-sound};
 use book::Answer;
 use book::Book;
 
 // The entry that ends the journal's used part says what to take back; 16 where nothing is used, and 13 where that is no entry.
 pub fn undo(book: Book, image: &mut [u8], journal: &mut [u8]) -> Answer
-    requires { ⌜ Held (state (now image) (now journal) book) ⌝ }
+    requires { ⌜ Is-sound (state (now image) (now journal) book) ⌝ }
     ensures { λ x. ⌜ outcome x (now (image .exit)) (now (journal .exit)) ≡ step undo (state (now (image .entry)) (now (journal .entry)) book) ⌝ }
 {
     let used = book.used as usize;

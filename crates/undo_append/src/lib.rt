@@ -9,7 +9,7 @@ ghost use Rattle.pod.specs.Values.{Routine};
 ghost use Rattle.machine.specs.Journal.{undo-append};
 ghost use Rattle.machine.specs.Book.{held, restored};
 ghost use Rattle.book.specs.Says.{state, outcome};
-ghost use Rattle.book.specs.Holding.{Held};
+ghost use Rattle.book.specs.Holding.{Is-sound};
 ghost use Rattle.trailer.specs.Says.{trailer-of};
 use book::Answer;
 use book::Book;
@@ -17,7 +17,7 @@ use trailer::Trailer;
 
 // Taking back an append: the last instruction of the block, which must have the size that was appended, goes, and what stands after it moves down.
 pub fn undo_append(book: Book, image: &mut [u8], journal: &mut [u8], last: Trailer) -> Answer
-    requires { ⌜ Held (state (now image) (now journal) book) × (20 ≤ book .used) ⌝ }
+    requires { ⌜ Is-sound (state (now image) (now journal) book) × (20 ≤ book .used) ⌝ }
     ensures { λ x. ⌜ ((r : Routine) → held (state (now (image .entry)) (now (journal .entry)) book) ≡ accepted r → outcome x (now (image .exit)) (now (journal .exit)) ≡ restored (state (now (image .entry)) (now (journal .entry)) book) (undo-append r (trailer-of last))) ⌝ }
 {
     let written = book.written as usize;

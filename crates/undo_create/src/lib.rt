@@ -13,7 +13,7 @@ ghost use Rattle.laws.proofs.At.{At};
 ghost use Rattle.machine.specs.Journal.{is-fresh, undo-create};
 ghost use Rattle.machine.specs.Book.{held, restored};
 ghost use Rattle.book.specs.Says.{state, outcome};
-ghost use Rattle.book.specs.Holding.{Held};
+ghost use Rattle.book.specs.Holding.{Is-sound};
 ghost use Rattle.trailer.specs.Says.{trailer-of};
 use book::Answer;
 use book::Book;
@@ -45,7 +45,7 @@ fn is_fresh(image: &[u8], at: usize) -> bool
 
 // Taking back a create: the last block, which must be the one that was created and as it was then, becomes zeros.
 pub fn undo_create(book: Book, image: &mut [u8], journal: &mut [u8], last: Trailer) -> Answer
-    requires { ⌜ Held (state (now image) (now journal) book) × (20 ≤ book .used) ⌝ }
+    requires { ⌜ Is-sound (state (now image) (now journal) book) × (20 ≤ book .used) ⌝ }
     ensures { λ x. ⌜ ((r : Routine) → held (state (now (image .entry)) (now (journal .entry)) book) ≡ accepted r → outcome x (now (image .exit)) (now (journal .exit)) ≡ restored (state (now (image .entry)) (now (journal .entry)) book) (undo-create r (trailer-of last))) ⌝ }
 {
     let written = book.written as usize;

@@ -10,7 +10,7 @@ use lib.Seq.{length-take-le}
 use Rattle.fields.specs.Bytes.{zeros, put}
 use Rattle.pod.specs.Values.{BasicBlock, Routine}
 use Rattle.pod.specs.Written.{bytes, block-bytes, routine-head-bytes}
-use Rattle.buffer.specs.Parts.{exchanged}
+use Rattle.exchange.specs.Parts.{exchanged}
 use Rattle.machine.specs.Edits.{block-at, insert-at, with-blocks}
 use Rattle.machine.specs.Machine.{size}
 use Rattle.machine.specs.Book.{in-image}

@@ -14,7 +14,7 @@ ghost use Rattle.machine.specs.Book.{in-image, held, restored};
 ghost use Rattle.book.specs.Says.{state, outcome};
 ghost use Rattle.book.specs.Holding.{Holding};
 ghost use Rattle.trailer.specs.Says.{trailer-of};
-ghost use Rattle.book.specs.Holding.{Held};
+ghost use Rattle.book.specs.Holding.{Is-sound};
 ghost use Rattle.undo_remove.specs.Blocks.{is-block, may-enter};
 ghost use Rattle.undo_remove.specs.Entering.{Entering, Enters};
 use book::Answer;
@@ -56,7 +56,7 @@ fn put_in(image: &mut [u8], place: usize, written: usize, block: &[u8])
     let at = image::block_offset(image, place);
     let next = walk::block_end(image, at);
     buffer::copy_at(image, written, block);
-    buffer::exchange(image, at, next, written, written + block.len());
+    exchange::exchange(image, at, next, written, written + block.len());
     buffer::put_u32(image, start - 4, count + 1);
 }
 
@@ -83,7 +83,7 @@ fn may_enter(image: &[u8], written: usize, block: &[u8], vip: Vip, place: u32) -
 // The removal whose entry ends in the trailer `last` is taken back, or refused with 13 where the entry does not fit. What `last` says comes from the
 // journal, so it is compared before it is added or subtracted.
 pub fn undo_remove(book: Book, image: &mut [u8], journal: &mut [u8], last: Trailer) -> Answer
-    requires { ⌜ (Held (state (now image) (now journal) book)) × (20 ≤ book .used) ⌝ }
+    requires { ⌜ (Is-sound (state (now image) (now journal) book)) × (20 ≤ book .used) ⌝ }
     ensures { λ x. ⌜ ((r : Routine) → held (state (now (image .entry)) (now (journal .entry)) book) ≡ accepted r → outcome x (now (image .exit)) (now (journal .exit)) ≡ restored (state (now (image .entry)) (now (journal .entry)) book) (undo-remove (length (now (image .entry))) r (take (book .used - 20) (now (journal .entry))) (trailer-of last))) ⌝ }
 {
     let written = book.written as usize;

@@ -25,7 +25,7 @@ pub struct Written {
 }
 
 // The bits of a number in two's complement.
-pub fn bits32(v: i32) -> u32
+fn bits32(v: i32) -> u32
     ensures { λ r. ⌜ r ≡ ofZ w32 v ⌝ }
 {
     if v < 0 {
@@ -35,7 +35,7 @@ pub fn bits32(v: i32) -> u32
     }
 }
 
-pub fn bits64(v: i64) -> u64
+fn bits64(v: i64) -> u64
     ensures { λ r. ⌜ r ≡ ofZ w64 v ⌝ }
 {
     if v < 0 {

@@ -32,8 +32,8 @@ returns c = sym (c .before .before .before .gather .ensures .found (c .if1 .take
 sort-requires : tie.Need-sort-requires Inv-loop μ-loop
 sort-requires c κs = c .before .before .before .before .gather .ensures .heap
 
-twins-requires : tie.Need-twins-requires Inv-loop μ-loop
-twins-requires c κs = c .before .before .before .sort .ensures .asc
+has-repeat-sorted-requires : tie.Need-has-repeat-sorted-requires Inv-loop μ-loop
+has-repeat-sorted-requires c κs = c .before .before .before .sort .ensures .asc
 
 same-length-2 : tie.Need-same-length-2 Inv-loop μ-loop
 same-length-2 c = search needs
@@ -43,7 +43,7 @@ returns-2 c =
     let t = c .before in
     let k = t .before .before .before .before in
     let g = k .before .before .before .before .before in
-    sym (pass-twice _ _ _ _ _ (g .gather .ensures) (k .sort .ensures) _ (c .if2 .taken) (t .twins .ensures))
+    sym (pass-twice _ _ _ _ _ (g .gather .ensures) (k .sort .ensures) _ (c .if2 .taken) (t .has-repeat-sorted .ensures))
 
 loop-less : tie.Need-loop-less Inv-loop μ-loop
 loop-less c =
@@ -56,7 +56,7 @@ loop-again c =
     let t = c .before in
     let k = t .before .before .before .before in
     let g = k .before .before .before .before .before in
-    pass-more _ _ _ _ _ (g .gather .ensures) (k .sort .ensures) _ _ _ (k .before .before .if1 .left) (c .if2 .left) (t .twins .ensures) (g .before .before .before .loop .inv) (omega arith)
+    pass-more _ _ _ _ _ (g .gather .ensures) (k .sort .ensures) _ _ _ (k .before .before .if1 .left) (c .if2 .left) (t .has-repeat-sorted .ensures) (g .before .before .before .loop .inv) (omega arith)
 
 same-length-3 : tie.Need-same-length-3 Inv-loop μ-loop
 same-length-3 c = search needs
@@ -78,7 +78,7 @@ passes-spec =
     same-length
     returns
     sort-requires
-    twins-requires
+    has-repeat-sorted-requires
     same-length-2
     returns-2
     loop-less

@@ -5,9 +5,9 @@ use native.Mathlib.Omega.{arith}
 use lib.ListN.{length, take, length-set}
 use Rattle.bytes.specs.Bytes.{rev}
 use Rattle.fields.specs.Bytes.{put}
-use Rattle.buffer.proofs.Reversals.{back-none, back-more, back-all}
-use Rattle.buffer.proofs.copy_back.Statement.{statement}
-use Rattle.buffer.proofs.copy_back.Tie as tie
+use Rattle.exchange.proofs.Reversals.{back-none, back-more, back-all}
+use Rattle.exchange.proofs.copy_back.Statement.{statement}
+use Rattle.exchange.proofs.copy_back.Tie as tie
 
 abbrev Inv-loop : tie.InvT-loop
 Inv-loop a₀ at b end i₀ a i = (i ≤ length b) × ((length a ≡ length a₀) × (a ≡ put (at + length b - i) (rev (take i b)) a₀))

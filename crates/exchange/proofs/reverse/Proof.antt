@@ -3,10 +3,10 @@ use Prim.Native.Nat.{_≤_, _+_, _-_}
 use mathlib.Core.Path.{_≡_, refl, sym, ap, _∙_}
 use native.Mathlib.Omega.{arith}
 use lib.ListN.{length}
-use Rattle.buffer.specs.Parts.{reversed}
-use Rattle.buffer.proofs.Reversals.{reversed-turn}
-use Rattle.buffer.proofs.reverse.Statement.{statement}
-use Rattle.buffer.proofs.reverse.Tie as tie
+use Rattle.exchange.specs.Parts.{reversed}
+use Rattle.exchange.proofs.Reversals.{reversed-turn}
+use Rattle.exchange.proofs.reverse.Statement.{statement}
+use Rattle.exchange.proofs.reverse.Tie as tie
 
 abbrev Inv-loop : tie.InvT-loop
 Inv-loop a₀ from to x₀ y₀ i₀ j₀ a x y i j = (i ≤ j) × ((j ≤ length a₀) × ((length x ≡ 512) × ((length y ≡ 512) × ((length a ≡ length a₀) × (reversed i j a ≡ reversed from to a₀)))))

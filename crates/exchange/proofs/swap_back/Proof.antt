@@ -1,8 +1,8 @@
 -- The two ends go out by way of x and y, and come back reversed in each other's place.
-use Rattle.buffer.proofs.Reversals.{both-ends}
+use Rattle.exchange.proofs.Reversals.{both-ends}
 use borrow.Author.Needs.{needs}
-use Rattle.buffer.proofs.swap_back.Statement.{statement}
-use Rattle.buffer.proofs.swap_back.Tie as tie
+use Rattle.exchange.proofs.swap_back.Statement.{statement}
+use Rattle.exchange.proofs.swap_back.Tie as tie
 
 add-m : tie.Need-add-m
 add-m c = search needs

@@ -1,8 +1,8 @@
 -- Four reversals exchange two parts around a third (proofs/Reversals.antt): the calls' `ensures`, one after the other, and that law.
-use Rattle.buffer.proofs.Reversals.{four}
+use Rattle.exchange.proofs.Reversals.{four}
 use borrow.Author.Needs.{needs}
-use Rattle.buffer.proofs.exchange.Statement.{statement}
-use Rattle.buffer.proofs.exchange.Tie as tie
+use Rattle.exchange.proofs.exchange.Statement.{statement}
+use Rattle.exchange.proofs.exchange.Tie as tie
 
 sub-q : tie.Need-sub-q
 sub-q c = search needs

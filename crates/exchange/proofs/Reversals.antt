@@ -11,9 +11,9 @@ use lib.Seq.{take-at, drop-at, length-slice, length-take-le, drop-append-le, tak
 use Rattle.bytes.specs.Bytes.{rev, slice}
 use Rattle.bytes.proofs.Laws.{rev-rev, rev-append}
 use Rattle.fields.specs.Bytes.{put}
-use Rattle.buffer.specs.Parts.{exchanged, reversed, swapped-back}
+use Rattle.exchange.specs.Parts.{exchanged, reversed, swapped-back}
 use Rattle.buffer.proofs.Put.{length-part, length-put, put-nil, put-parts, put-put-before}
 use Rattle.buffer.proofs.Moves.{put-one}
 
 length-rev : (l : List ℕ) → length (rev l) ≡ length l
 unfolding rev
