@@ -2,11 +2,10 @@
 // borrow checker covers no function over a struct that holds a reference, so each one here is thin and proved by hand: it takes
 // the record apart and leaves the work to a covered function on slice and number.
 ghost use mathlib.Core.Path.{_≡_};
-ghost use mathlib.Core.Bool.{false};
 ghost use lib.ListN.{length};
 ghost use Rattle.fields.specs.Parse.{u32, span};
 ghost use Rattle.fields.specs.Answers.{of-u32, of-skip};
-ghost use Rattle.pod.specs.Layout.{routine};
+ghost use Rattle.pod.specs.Layout.{routine, as-it-comes, read-file};
 ghost use Rattle.reader.specs.Past.{past};
 use fields::Skip;
 use fields::U32Read;
@@ -71,14 +70,14 @@ pub fn gread_u32<'s, 'a>(r: &'s mut Reader<'a>) -> U32Read
 
 // The routine at the offset reached is passed over.
 pub fn pass_routine<'a>(r: Reader<'a>) -> Skip
-    ensures { λ v. ⌜ of-skip v ≡ span (routine false (now (r .entry .src)) (r .entry .at)) ⌝ }
+    ensures { λ v. ⌜ of-skip v ≡ span (routine as-it-comes (now (r .entry .src)) (r .entry .at)) ⌝ }
 {
     routine::routine_skip(r.src, r.at, false)
 }
 
-// The routine that a file starts with is passed over. The parameter is a plain slice, so callers need no walk.
+// The routine that a file starts with is passed over. The parameter is a plain slice, so a caller's proof needs no steps by hand.
 pub fn pass_file(s: &[u8]) -> Skip
-    ensures { λ v. ⌜ of-skip v ≡ span (routine false (now (s .entry)) 0) ⌝ }
+    ensures { λ v. ⌜ of-skip v ≡ span (read-file (now (s .entry))) ⌝ }
 {
     pass_routine(new(s))
 }
