@@ -1,16 +1,12 @@
 // Instructions.
 ghost use mathlib.Core.Path.{_≡_};
 ghost use Prim.Native.Nat.{_<_};
-ghost use Rattle.fields.specs.Parse.{ok, many, span, part, bind};
+ghost use Rattle.fields.specs.Parse.{ok, many, span};
 ghost use Rattle.fields.specs.Answers.{of-skip};
 ghost use Rattle.pod.specs.Layout.{operand, named, opcode, instruction};
 ghost use Rattle.instruction.specs.Answers.{of-op};
-ghost use Rattle.instruction.specs.Listed.{listed};
-use fields::I64Read;
 use fields::Skip;
-use fields::U8Read;
 use fields::U32Read;
-use fields::U64Read;
 use pod::OperandRead;
 
 pub enum OpRead {
@@ -43,24 +39,8 @@ fn named_at(s: &[u8], name: &[u8], at: usize) -> OpRead
     }
 }
 
-// The operation with the number `code / 4`, which takes `code % 4` operands, and whose operand count stands at `at`.
-fn listed_at(s: &[u8], code: u64, at: usize) -> OpRead
-    ensures { λ r. ⌜ of-op r ≡ listed code (now (s .entry)) at ⌝ }
-{
-    match fields::u32_at(s, at) {
-        U32Read::Refused(e) => OpRead::Refused(e),
-        U32Read::Value(count, a) => {
-            if count as u64 == code % 4 {
-                OpRead::Value((code / 4) as usize, a)
-            } else {
-                OpRead::Refused(fields::WRONG_OPERAND_COUNT)
-            }
-        }
-    }
-}
-
 // The operation of the instruction at `at`, its name looked for among all.
-fn op_slow(s: &[u8], at: usize) -> OpRead
+pub fn op_at(s: &[u8], at: usize) -> OpRead
     ensures { λ r. ⌜ of-op r ≡ opcode (now (s .entry)) at ⌝ }
 {
     match fields::u32_at(s, at) {
@@ -74,25 +54,6 @@ fn op_slow(s: &[u8], at: usize) -> OpRead
                 return OpRead::Refused(fields::SHORT_FILE);
             }
             named_at(s, fields::part_of(s, a, n), a + n)
-        }
-    }
-}
-
-// The operation of the instruction at `at`.
-pub fn op_at(s: &[u8], at: usize) -> OpRead
-    ensures { λ r. ⌜ of-op r ≡ opcode (now (s .entry)) at ⌝ }
-{
-    match fields::u32_at(s, at) {
-        U32Read::Refused(e) => OpRead::Refused(e),
-        U32Read::Value(size, a) => {
-            let n = size as usize;
-            if fields::within(s, a, 8) {
-                let code = op::guess(s, a, n);
-                if code < 256 {
-                    return listed_at(s, code, a + n);
-                }
-            }
-            op_slow(s, at)
         }
     }
 }
@@ -158,7 +119,7 @@ pub fn instruction_skip(s: &[u8], at: usize, exact: bool) -> Skip
     if 0 < end {
         return Skip::Past(end);
     }
-    match op_slow(s, at) {
+    match op_at(s, at) {
         OpRead::Refused(e) => Skip::Refused(e),
         OpRead::Value(k, a) => {
             let o = operands_run(s, a, op::operand_count(k));

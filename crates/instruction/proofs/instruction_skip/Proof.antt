@@ -10,7 +10,7 @@ use Rattle.instruction.proofs.instruction_skip.Reads as reads
 use Rattle.instruction.proofs.instruction_skip.Lts as lts
 use Rattle.fields.proofs.then_flag.Reads as then-flag-reads
 use Rattle.fields.proofs.then_uint.Reads as then-uint-reads
-use Rattle.instruction.proofs.op_slow.Reads as op-slow-reads
+use Rattle.instruction.proofs.op_at.Reads as op-at-reads
 use Rattle.instruction.proofs.operands_run.Reads as operands-run-reads
 use Rattle.instruction.proofs.quick.Reads as quick-reads
 use Rattle.op.proofs.operand_count.Reads as operand-count-reads
@@ -21,8 +21,8 @@ quick-requires c κs = search needs
 returns : tie.Need-returns
 returns c = sym (c .before .quick .ensures (c .if1 .taken))
 
-op-slow-requires : tie.Need-op-slow-requires
-op-slow-requires c κs = search needs
+op-at-requires : tie.Need-op-at-requires
+op-at-requires c κs = search needs
 
 enum-known-e : tie.Need-enum-known-e
 enum-known-e c = search needs
@@ -50,13 +50,13 @@ then-flag-requires c κs = search needs
 
 returns-2 : tie.Need-returns-2
 unfolding instruction
-returns-2 c = skip-off-op _ (c .before .e .given .1) (c .before .before .before .op-slow .ensures)
+returns-2 c = skip-off-op _ (c .before .e .given .1) (c .before .before .before .op-at .ensures)
 
 returns-3 : tie.Need-returns-3
 unfolding instruction
 returns-3 c =
     let k = c .before .before .before .before .before .before in
-    skip-on-op _ (k .before .k .given .1) (k .before .before .before .op-slow .ensures)
+    skip-on-op _ (k .before .k .given .1) (k .before .before .before .op-at .ensures)
     (rw (
       c .then-flag .ensures,
       c .before .then-uint3 .ensures,
@@ -72,7 +72,7 @@ instruction-skip-spec =
     (tie.spec
     quick-requires
     returns
-    op-slow-requires
+    op-at-requires
     enum-known-e
     enum-known-k
     operand-count-requires
