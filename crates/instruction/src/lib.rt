@@ -1,7 +1,7 @@
 // Instructions.
 ghost use mathlib.Core.Path.{_≡_};
-ghost use Prim.Native.Nat.{_<_};
-ghost use Rattle.fields.specs.Parse.{ok, many, span};
+ghost use Prim.Native.Nat.{ℕ, _<_};
+ghost use Rattle.fields.specs.Parse.{ok, no, many, span};
 ghost use Rattle.fields.specs.Answers.{of-skip};
 ghost use Rattle.pod.specs.Layout.{operand, named, opcode, instruction};
 ghost use Rattle.instruction.specs.Answers.{of-op};
@@ -14,25 +14,33 @@ pub enum OpRead {
     Refused(u8),
 }
 
+// The refusal of an operation that was refused; of one with a number it says nothing. It is pub for the reader of an instruction by value, which
+// hands it on.
+pub fn op_refusal(op: OpRead) -> u8
+    ensures { λ r. ⌜ ((e : ℕ) → of-op op ≡ no e → r ≡ e) ⌝ }
+{
+    if let OpRead::Refused(e) = op { e } else { 0 }
+}
+
 // The operation with the name `name`, whose operand count stands at `at`.
 fn named_at(s: &[u8], name: &[u8], at: usize) -> OpRead
     ensures { λ r. ⌜ of-op r ≡ named (now (name .entry)) (now (s .entry)) at ⌝ }
 {
     if op::is_text(name) {
-        match fields::u32_at(s, at) {
-            U32Read::Refused(e) => OpRead::Refused(e),
-            U32Read::Value(count, a) => {
-                let k = op::number_of(name);
-                if k < 49 {
-                    if count == op::operand_count(k) {
-                        OpRead::Value(k, a)
-                    } else {
-                        OpRead::Refused(fields::WRONG_OPERAND_COUNT)
-                    }
+        let count = fields::u32_at(s, at);
+        if let U32Read::Value(n, a) = count {
+            let k = op::number_of(name);
+            if k < 49 {
+                if n == op::operand_count(k) {
+                    OpRead::Value(k, a)
                 } else {
-                    OpRead::Refused(fields::UNKNOWN_OPERATION)
+                    OpRead::Refused(fields::WRONG_OPERAND_COUNT)
                 }
+            } else {
+                OpRead::Refused(fields::UNKNOWN_OPERATION)
             }
+        } else {
+            OpRead::Refused(fields::u32_refusal(count))
         }
     } else {
         OpRead::Refused(fields::NAME_NOT_TEXT)
@@ -43,18 +51,18 @@ fn named_at(s: &[u8], name: &[u8], at: usize) -> OpRead
 pub fn op_at(s: &[u8], at: usize) -> OpRead
     ensures { λ r. ⌜ of-op r ≡ opcode (now (s .entry)) at ⌝ }
 {
-    match fields::u32_at(s, at) {
-        U32Read::Refused(e) => OpRead::Refused(e),
-        U32Read::Value(size, a) => {
-            let n = size as usize;
-            if s.len() < a {
-                return OpRead::Refused(fields::SHORT_FILE);
-            }
-            if s.len() - a < n {
-                return OpRead::Refused(fields::SHORT_FILE);
-            }
-            named_at(s, fields::part_of(s, a, n), a + n)
+    let size = fields::u32_at(s, at);
+    if let U32Read::Value(k, a) = size {
+        let n = k as usize;
+        if s.len() < a {
+            return OpRead::Refused(fields::SHORT_FILE);
         }
+        if s.len() - a < n {
+            return OpRead::Refused(fields::SHORT_FILE);
+        }
+        named_at(s, fields::part_of(s, a, n), a + n)
+    } else {
+        OpRead::Refused(fields::u32_refusal(size))
     }
 }
 
@@ -65,9 +73,11 @@ pub fn operands_run(s: &[u8], at: usize, count: u32) -> Skip
     let mut left = count;
     let mut o = at;
     while 0 < left {
-        match pod::operand_at(s, o) {
-            OperandRead::Refused(e) => return Skip::Refused(e),
-            OperandRead::Value(_, n) => o = n,
+        let operand = pod::operand_at(s, o);
+        if let OperandRead::Value(_, n) = operand {
+            o = n;
+        } else {
+            return Skip::Refused(pod::operand_refusal(operand));
         }
         left -= 1;
     }
@@ -119,14 +129,14 @@ pub fn instruction_skip(s: &[u8], at: usize, exact: bool) -> Skip
     if 0 < end {
         return Skip::Past(end);
     }
-    match op_at(s, at) {
-        OpRead::Refused(e) => Skip::Refused(e),
-        OpRead::Value(k, a) => {
-            let o = operands_run(s, a, op::operand_count(k));
-            let v = fields::then_uint(s, o, 8);
-            let f = fields::then_uint(s, v, 8);
-            let i = fields::then_uint(s, f, 4);
-            fields::then_flag(s, i, exact)
-        }
+    let op = op_at(s, at);
+    if let OpRead::Value(k, a) = op {
+        let o = operands_run(s, a, op::operand_count(k));
+        let v = fields::then_uint(s, o, 8);
+        let f = fields::then_uint(s, v, 8);
+        let i = fields::then_uint(s, f, 4);
+        fields::then_flag(s, i, exact)
+    } else {
+        Skip::Refused(op_refusal(op))
     }
 }
