@@ -99,19 +99,19 @@ pub fn append(
     requires { ⌜ Is-sound (state (now image) (now journal) book) ⌝ }
     ensures { λ r. ⌜ outcome r (now (image .exit)) (now (journal .exit)) ≡ step (edit (append (vip .0) (now (instruction .entry)))) (state (now (image .entry)) (now (journal .entry)) book) ⌝ }
 {
-    match instruction::instruction_skip(instruction, 0, false) {
-        Skip::Refused(e) => Answer {
-            refusal: e as u64,
+    let far = instruction::instruction_skip(instruction, 0, false);
+    if let Skip::Past(end) = far {
+        if end < instruction.len() {
+            return Answer {
+                refusal: book::LEFTOVER,
+                book,
+            };
+        }
+        append_whole(book, image, journal, vip, instruction)
+    } else {
+        Answer {
+            refusal: fields::skip_refusal(far) as u64,
             book,
-        },
-        Skip::Past(end) => {
-            if end < instruction.len() {
-                return Answer {
-                    refusal: book::LEFTOVER,
-                    book,
-                };
-            }
-            append_whole(book, image, journal, vip, instruction)
         }
     }
 }

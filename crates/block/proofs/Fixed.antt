@@ -10,7 +10,7 @@ use lib.ListN.{length}
 use lib.Dec.{leb}
 use borrow.Author.Tests.{le-leb, lt-leb, leb-true, leb-false}
 use Rattle.fields.specs.Parse.{Res, ok, no, choose, le, uint, many, span}
-use Rattle.fields.proofs.Many.{run-end, run-next, run-stop}
+use Rattle.fields.proofs.Many.{run-next, run-stop}
 
 module _ (k : ℕ) (s : List ℕ) where
   read : (o : ℕ) → o + k ≤ length s → uint k s o ≡ ok (le k s o) (o + k)

@@ -44,9 +44,11 @@ pub fn then_instructions(s: &[u8], far: Skip, exact: bool) -> Skip
     ensures { λ r. ⌜ of-skip r ≡ bind (of-skip far) (λ _ n. span (counted (instruction exact) (now (s .entry)) n)) ⌝ }
 {
     if let Skip::Past(at) = far {
-        match fields::u32_at(s, at) {
-            U32Read::Refused(e) => Skip::Refused(e),
-            U32Read::Value(count, a) => instructions_run(s, a, count, exact),
+        let count = fields::u32_at(s, at);
+        if let U32Read::Value(n, a) = count {
+            instructions_run(s, a, n, exact)
+        } else {
+            Skip::Refused(fields::u32_refusal(count))
         }
     } else {
         far
@@ -57,9 +59,11 @@ pub fn then_vips(s: &[u8], far: Skip) -> Skip
     ensures { λ r. ⌜ of-skip r ≡ bind (of-skip far) (λ _ n. span (counted u64 (now (s .entry)) n)) ⌝ }
 {
     if let Skip::Past(at) = far {
-        match fields::u32_at(s, at) {
-            U32Read::Refused(e) => Skip::Refused(e),
-            U32Read::Value(count, a) => vips_run(s, a, count),
+        let count = fields::u32_at(s, at);
+        if let U32Read::Value(n, a) = count {
+            vips_run(s, a, n)
+        } else {
+            Skip::Refused(fields::u32_refusal(count))
         }
     } else {
         far

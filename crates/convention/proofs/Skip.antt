@@ -4,7 +4,7 @@ use mathlib.Core.Path.{_≡_, refl}
 use mathlib.Core.Bool.{Bool}
 use mathlib.Core.List.{List}
 use Prim.Native.Nat.{ℕ}
-use Rattle.fields.specs.Parse.{Res, ok, no, Reader, bind, span, uint, counted, flag}
+use Rattle.fields.specs.Parse.{Res, Reader, bind, span, uint, counted, flag}
 use Rattle.fields.proofs.Chain.{chain}
 use Rattle.pod.specs.Layout.{register, convention}
 

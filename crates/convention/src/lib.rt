@@ -20,9 +20,11 @@ fn then_register(s: &[u8], far: Skip) -> Skip
     ensures { λ r. ⌜ of-skip r ≡ bind (of-skip far) (λ _ n. span (register (now (s .entry)) n)) ⌝ }
 {
     if let Skip::Past(at) = far {
-        match pod::register_at(s, at) {
-            RegisterRead::Value(_, n) => Skip::Past(n),
-            RegisterRead::Refused(e) => Skip::Refused(e),
+        let register = pod::register_at(s, at);
+        if let RegisterRead::Value(_, n) = register {
+            Skip::Past(n)
+        } else {
+            Skip::Refused(pod::register_refusal(register))
         }
     } else {
         far

@@ -1,5 +1,5 @@
 -- Reading a list of bytes from an offset: a value with the offset past it, or a refusal's number.
-use Prim.Native.Nat.{ℕ, zero, suc, _+_, _*_, _<_}
+use Prim.Native.Nat.{ℕ, zero, suc, _+_, _*_}
 use mathlib.Core.List.{List, [], _∷_}
 use mathlib.Core.Bool.{Bool, true, false, not}
 use lib.ListN.{length, getD, take, drop}
@@ -33,9 +33,6 @@ _>>_ p q s o = bind (p s o) (λ a n. q s n)
 -- reads nothing, and answers a
 abbrev pub done : {A : Type 0} → A → Reader A
 done a s o = ok a o
-
-abbrev pub refuse : {A : Type 0} → ℕ → Reader A
-refuse e s o = no e
 
 unfoldable pub choose : {A : Type 0} → Bool → A → A → A
 choose true a b = a
@@ -112,3 +109,8 @@ flag exact = do
 unfoldable pub span : {A : Type 0} → Res A → Res Unit
 span (ok a n) = ok tt n
 span (no e) = no e
+
+-- the refusal of an answer: 0 where it is a value
+unfoldable pub refusal-in : {A : Type 0} → Res A → ℕ
+refusal-in (ok a n) = 0
+refusal-in (no e) = e

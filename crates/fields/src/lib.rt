@@ -4,7 +4,7 @@ ghost use mir.Syntax.{w32, w64};
 ghost use Prim.Native.Nat.{_+_, _≤_};
 ghost use lib.ListN.{length, take, drop};
 ghost use lib.Dec.{leb};
-ghost use Rattle.fields.specs.Parse.{le, int, uint, bind, span, taken, pad, flag, u8, u16, u32, u64, i32, i64};
+ghost use Rattle.fields.specs.Parse.{le, int, uint, bind, span, taken, pad, flag, u8, u16, u32, u64, i32, i64, refusal-in};
 ghost use Rattle.fields.specs.Bounded.{bounded};
 ghost use Rattle.fields.specs.Answers.{of-skip, of-u8, of-u16, of-u32, of-u64, of-i32, of-i64};
 
@@ -82,6 +82,60 @@ pub enum Skip {
     Refused(u8),
 }
 
+// The refusal of a field that was refused, and 0 of one with a value. They are pub for the readers above, which hand it on.
+pub fn u8_refusal(field: U8Read) -> u8
+    ensures { λ r. ⌜ r ≡ refusal-in (of-u8 field) ⌝ }
+{
+    if let U8Read::Refused(e) = field { e } else { 0 }
+}
+
+pub fn u32_refusal(field: U32Read) -> u8
+    ensures { λ r. ⌜ r ≡ refusal-in (of-u32 field) ⌝ }
+{
+    if let U32Read::Refused(e) = field {
+        e
+    } else {
+        0
+    }
+}
+
+pub fn u64_refusal(field: U64Read) -> u8
+    ensures { λ r. ⌜ r ≡ refusal-in (of-u64 field) ⌝ }
+{
+    if let U64Read::Refused(e) = field {
+        e
+    } else {
+        0
+    }
+}
+
+pub fn i32_refusal(field: I32Read) -> u8
+    ensures { λ r. ⌜ r ≡ refusal-in (of-i32 field) ⌝ }
+{
+    if let I32Read::Refused(e) = field {
+        e
+    } else {
+        0
+    }
+}
+
+pub fn i64_refusal(field: I64Read) -> u8
+    ensures { λ r. ⌜ r ≡ refusal-in (of-i64 field) ⌝ }
+{
+    if let I64Read::Refused(e) = field {
+        e
+    } else {
+        0
+    }
+}
+
+// The refusal of a part that was refused, and 0 of one that was passed over. It is pub for the callers whose own answer is no `Skip`.
+pub fn skip_refusal(far: Skip) -> u8
+    ensures { λ r. ⌜ r ≡ refusal-in (of-skip far) ⌝ }
+{
+    if let Skip::Refused(e) = far { e } else { 0 }
+}
+
 // A number of `k` bytes. It is pub for the crates above, which ask for 1 to 8 bytes.
 pub fn uint_at(s: &[u8], at: usize, k: usize) -> U64Read
     requires { ⌜ k ≤ 8 ⌝ }
@@ -105,18 +159,22 @@ pub fn uint_at(s: &[u8], at: usize, k: usize) -> U64Read
 pub fn u8_at(s: &[u8], at: usize) -> U8Read
     ensures { λ r. ⌜ of-u8 r ≡ u8 (now (s .entry)) at ⌝ }
 {
-    match uint_at(s, at, 1) {
-        U64Read::Value(v, n) => U8Read::Value(v as u8, n),
-        U64Read::Refused(e) => U8Read::Refused(e),
+    let field = uint_at(s, at, 1);
+    if let U64Read::Value(v, n) = field {
+        U8Read::Value(v as u8, n)
+    } else {
+        U8Read::Refused(u64_refusal(field))
     }
 }
 
 pub fn u16_at(s: &[u8], at: usize) -> U16Read
     ensures { λ r. ⌜ of-u16 r ≡ u16 (now (s .entry)) at ⌝ }
 {
-    match uint_at(s, at, 2) {
-        U64Read::Value(v, n) => U16Read::Value(v as u16, n),
-        U64Read::Refused(e) => U16Read::Refused(e),
+    let field = uint_at(s, at, 2);
+    if let U64Read::Value(v, n) = field {
+        U16Read::Value(v as u16, n)
+    } else {
+        U16Read::Refused(u64_refusal(field))
     }
 }
 
@@ -187,9 +245,11 @@ pub fn signed32(v: u32) -> i32
 pub fn i32_at(s: &[u8], at: usize) -> I32Read
     ensures { λ r. ⌜ of-i32 r ≡ i32 (now (s .entry)) at ⌝ }
 {
-    match u32_at(s, at) {
-        U32Read::Value(v, n) => I32Read::Value(signed32(v), n),
-        U32Read::Refused(e) => I32Read::Refused(e),
+    let field = u32_at(s, at);
+    if let U32Read::Value(v, n) = field {
+        I32Read::Value(signed32(v), n)
+    } else {
+        I32Read::Refused(u32_refusal(field))
     }
 }
 
@@ -206,9 +266,11 @@ pub fn signed64(v: u64) -> i64
 pub fn i64_at(s: &[u8], at: usize) -> I64Read
     ensures { λ r. ⌜ of-i64 r ≡ i64 (now (s .entry)) at ⌝ }
 {
-    match u64_at(s, at) {
-        U64Read::Value(v, n) => I64Read::Value(signed64(v), n),
-        U64Read::Refused(e) => I64Read::Refused(e),
+    let field = u64_at(s, at);
+    if let U64Read::Value(v, n) = field {
+        I64Read::Value(signed64(v), n)
+    } else {
+        I64Read::Refused(u64_refusal(field))
     }
 }
 

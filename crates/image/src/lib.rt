@@ -18,9 +18,10 @@ use pod::Vip;
 fn is_routine(s: &[u8]) -> bool
     ensures { λ r. ⌜ r ≡ is-routine (now (s .entry)) ⌝ }
 {
-    match routine::routine_skip(s, 0, true) {
-        Skip::Refused(_) => false,
-        Skip::Past(end) => end == s.len(),
+    if let Skip::Past(end) = routine::routine_skip(s, 0, true) {
+        end == s.len()
+    } else {
+        false
     }
 }
 

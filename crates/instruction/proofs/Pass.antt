@@ -7,15 +7,13 @@ use Prim.Native.Nat.{ℕ, _+_, _≤_, _<_}
 use native.Mathlib.Omega.{arith}
 use lib.ListN.{length, getD, take, drop}
 use borrow.Author.Tests.{lt-ltb, eq-eqb}
-use Rattle.fields.specs.Parse.{Res, ok, bind, choose, span, le, uint, many, taken, flag}
+use Rattle.fields.specs.Parse.{Res, ok, bind, span, le, uint, many, taken, flag}
 use Rattle.fields.proofs.Le.{uint-ok, span-ok}
 use Rattle.fields.proofs.Bound.{bounded-ok, flag-is}
 use Rattle.fields.proofs.Steps.{on-check, on-part}
 use Rattle.op.specs.Ops.{number, counts}
 use Rattle.op.proofs.Packed.{text-of}
 use Rattle.pod.specs.Layout.{operand, named, opcode, after, instruction}
-use Rattle.op.specs.Packed.{Known}
-use Rattle.instruction.specs.Listed.{listed}
 use Rattle.instruction.proofs.Skip.{after-skip}
 
 on-field : {A : Type 0} (k : ℕ) (s : List ℕ) (o : ℕ) (f : ℕ → ℕ → Res A) {x : Res A} → o + k ≤ length s → x ≡ f (le k s o) (o + k) → x ≡ bind (uint k s o) f
@@ -48,8 +46,3 @@ module _ (exact : Bool) (s : List ℕ) (at n k : ℕ) (h : at + 4 + n + 4 ≤ le
       → span (many operand (getD counts k 0) s (at + 4 + n + 4)) ≡ ok tt o → span (instruction exact s at) ≡ ok tt (o + 21)
   unfolding instruction bind
   quick-ok o c g t q = rw (← opcode-ok c) (tail-ok o g t q)
-
--- a listed name's operand count comes next
-pub listed-is : (w : List ℕ) (n r : ℕ) (s : List ℕ) (o : ℕ) → Known w n r → listed r s o ≡ named w s o
-unfolding listed named bind choose
-listed-is w n r s o k = rw (text-of w (k .op) (k .listed) (k .named), k .named, k .takes, lt-ltb (k .op) 49 (k .listed), k .is-op)

@@ -6,7 +6,7 @@ use mathlib.Core.List.{List}
 use Prim.Native.Nat.{ℕ}
 use lib.ListN.{getD}
 use mir.Syntax.{w64}
-use Rattle.fields.specs.Parse.{Res, ok, no, bind, span, uint, int, many, flag}
+use Rattle.fields.specs.Parse.{Res, bind, span, uint, int, many, flag}
 use Rattle.fields.proofs.Chain.{chain, chain-map}
 use Rattle.op.specs.Ops.{counts}
 use Rattle.pod.specs.Layout.{operand, after}

@@ -12,5 +12,5 @@ module _ {B : Type 0} {r : OpRead} {p : Res ℕ} (f : ℕ → ℕ → Res B) whe
   pub skip-on-op : {v n : ℕ} {x : Res Unit} → SkipOn of-op op.Value r v n p f x
   skip-on-op g = span-on f (ap of-op g)
 
-  pub skip-off-op : {k : ℕ} → SkipOff of-op op.Refused r k p f
+  pub skip-off-op : {k x : ℕ} → SkipOff of-op op.Refused r k x p f
   skip-off-op g = span-off f (ap of-op g)

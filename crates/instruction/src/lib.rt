@@ -1,16 +1,12 @@
 // Instructions.
 ghost use mathlib.Core.Path.{_≡_};
 ghost use Prim.Native.Nat.{_<_};
-ghost use Rattle.fields.specs.Parse.{ok, many, span, part, bind};
+ghost use Rattle.fields.specs.Parse.{ok, many, span, refusal-in};
 ghost use Rattle.fields.specs.Answers.{of-skip};
 ghost use Rattle.pod.specs.Layout.{operand, named, opcode, instruction};
 ghost use Rattle.instruction.specs.Answers.{of-op};
-ghost use Rattle.instruction.specs.Listed.{listed};
-use fields::I64Read;
 use fields::Skip;
-use fields::U8Read;
 use fields::U32Read;
-use fields::U64Read;
 use pod::OperandRead;
 
 pub enum OpRead {
@@ -18,82 +14,55 @@ pub enum OpRead {
     Refused(u8),
 }
 
+// The refusal of an operation that was refused, and 0 of one with a number. It is pub for the reader of an instruction by value, which
+// hands it on.
+pub fn op_refusal(op: OpRead) -> u8
+    ensures { λ r. ⌜ r ≡ refusal-in (of-op op) ⌝ }
+{
+    if let OpRead::Refused(e) = op { e } else { 0 }
+}
+
 // The operation with the name `name`, whose operand count stands at `at`.
 fn named_at(s: &[u8], name: &[u8], at: usize) -> OpRead
     ensures { λ r. ⌜ of-op r ≡ named (now (name .entry)) (now (s .entry)) at ⌝ }
 {
     if op::is_text(name) {
-        match fields::u32_at(s, at) {
-            U32Read::Refused(e) => OpRead::Refused(e),
-            U32Read::Value(count, a) => {
-                let k = op::number_of(name);
-                if k < 49 {
-                    if count == op::operand_count(k) {
-                        OpRead::Value(k, a)
-                    } else {
-                        OpRead::Refused(fields::WRONG_OPERAND_COUNT)
-                    }
+        let count = fields::u32_at(s, at);
+        if let U32Read::Value(n, a) = count {
+            let k = op::number_of(name);
+            if k < 49 {
+                if n == op::operand_count(k) {
+                    OpRead::Value(k, a)
                 } else {
-                    OpRead::Refused(fields::UNKNOWN_OPERATION)
+                    OpRead::Refused(fields::WRONG_OPERAND_COUNT)
                 }
+            } else {
+                OpRead::Refused(fields::UNKNOWN_OPERATION)
             }
+        } else {
+            OpRead::Refused(fields::u32_refusal(count))
         }
     } else {
         OpRead::Refused(fields::NAME_NOT_TEXT)
     }
 }
 
-// The operation with the number `code / 4`, which takes `code % 4` operands, and whose operand count stands at `at`.
-fn listed_at(s: &[u8], code: u64, at: usize) -> OpRead
-    ensures { λ r. ⌜ of-op r ≡ listed code (now (s .entry)) at ⌝ }
-{
-    match fields::u32_at(s, at) {
-        U32Read::Refused(e) => OpRead::Refused(e),
-        U32Read::Value(count, a) => {
-            if count as u64 == code % 4 {
-                OpRead::Value((code / 4) as usize, a)
-            } else {
-                OpRead::Refused(fields::WRONG_OPERAND_COUNT)
-            }
-        }
-    }
-}
-
 // The operation of the instruction at `at`, its name looked for among all.
-fn op_slow(s: &[u8], at: usize) -> OpRead
-    ensures { λ r. ⌜ of-op r ≡ opcode (now (s .entry)) at ⌝ }
-{
-    match fields::u32_at(s, at) {
-        U32Read::Refused(e) => OpRead::Refused(e),
-        U32Read::Value(size, a) => {
-            let n = size as usize;
-            if s.len() < a {
-                return OpRead::Refused(fields::SHORT_FILE);
-            }
-            if s.len() - a < n {
-                return OpRead::Refused(fields::SHORT_FILE);
-            }
-            named_at(s, fields::part_of(s, a, n), a + n)
-        }
-    }
-}
-
-// The operation of the instruction at `at`.
 pub fn op_at(s: &[u8], at: usize) -> OpRead
     ensures { λ r. ⌜ of-op r ≡ opcode (now (s .entry)) at ⌝ }
 {
-    match fields::u32_at(s, at) {
-        U32Read::Refused(e) => OpRead::Refused(e),
-        U32Read::Value(size, a) => {
-            let n = size as usize;
-            if fields::within(s, a, 8) {
-                let code = op::guess(s, a, n);
-                if code < 256 {
-                    return listed_at(s, code, a + n);
-                }
-            }
-            op_slow(s, at)
+    let size = fields::u32_at(s, at);
+    if let U32Read::Value(k, a) = size {
+        let n = k as usize;
+        if s.len() < a {
+            return OpRead::Refused(fields::SHORT_FILE);
         }
+        if s.len() - a < n {
+            return OpRead::Refused(fields::SHORT_FILE);
+        }
+        named_at(s, fields::part_of(s, a, n), a + n)
+    } else {
+        OpRead::Refused(fields::u32_refusal(size))
     }
 }
 
@@ -104,9 +73,11 @@ pub fn operands_run(s: &[u8], at: usize, count: u32) -> Skip
     let mut left = count;
     let mut o = at;
     while 0 < left {
-        match pod::operand_at(s, o) {
-            OperandRead::Refused(e) => return Skip::Refused(e),
-            OperandRead::Value(_, n) => o = n,
+        let operand = pod::operand_at(s, o);
+        if let OperandRead::Value(_, n) = operand {
+            o = n;
+        } else {
+            return Skip::Refused(pod::operand_refusal(operand));
         }
         left -= 1;
     }
@@ -158,14 +129,14 @@ pub fn instruction_skip(s: &[u8], at: usize, exact: bool) -> Skip
     if 0 < end {
         return Skip::Past(end);
     }
-    match op_slow(s, at) {
-        OpRead::Refused(e) => Skip::Refused(e),
-        OpRead::Value(k, a) => {
-            let o = operands_run(s, a, op::operand_count(k));
-            let v = fields::then_uint(s, o, 8);
-            let f = fields::then_uint(s, v, 8);
-            let i = fields::then_uint(s, f, 4);
-            fields::then_flag(s, i, exact)
-        }
+    let op = op_at(s, at);
+    if let OpRead::Value(k, a) = op {
+        let o = operands_run(s, a, op::operand_count(k));
+        let v = fields::then_uint(s, o, 8);
+        let f = fields::then_uint(s, v, 8);
+        let i = fields::then_uint(s, f, 4);
+        fields::then_flag(s, i, exact)
+    } else {
+        Skip::Refused(op_refusal(op))
     }
 }

@@ -8,11 +8,9 @@ use native.Mathlib.Nat.{add-mul-mod-self-left, mod-eq-of-lt, mod-lt, lt-of-lt-of
 use lib.Pow.{pow-mono, pow-pos}
 use native.Mathlib.Omega.{arith}
 use lib.Dec.{T, eqb, ltb, eqb→eq, ltb→lt}
-use borrow.Author.Tests.{eqb-true, eqb-false, ltb-true}
+use borrow.Author.Tests.{eqb-true, eqb-false}
 use lib.ListN.{length, getD, take, drop, length-take, length-drop}
 use lib.Seq.{ext-getD, getD-take, getD-drop}
-use mir.Syntax.{w8}
-use mir.Val.{Fits}
 use Rattle.fields.specs.Parse.{le, choose}
 use Rattle.fields.proofs.Le.{Bytes, le-lt, le-below, le-split}
 use Rattle.op.specs.Ops.{names, counts, number, place, same}

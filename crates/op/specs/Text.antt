@@ -1,7 +1,7 @@
 -- Well-formed UTF-8: table 3-7 of the Unicode Standard.
-use Prim.Native.Nat.{ℕ, zero, suc, _-_}
+use Prim.Native.Nat.{ℕ, _-_}
 use mathlib.Core.List.{List, [], _∷_}
-use mathlib.Core.Bool.{Bool, true, false}
+use mathlib.Core.Bool.{Bool, false}
 use lib.Dec.{eqb, leb, ltb}
 use Rattle.fields.specs.Parse.{choose}
 use Rattle.op.specs.declared.Due.{Due}

@@ -1,12 +1,12 @@
 -- An operand that is passed over without a branch on its kind.
 -- Assumes nothing.
-use mathlib.Core.Path.{_≡_, refl, sym, ap, _∙_}
+use mathlib.Core.Path.{_≡_, ap}
 use mathlib.Core.List.{List}
 use Prim.Native.Nat.{ℕ, zero, suc, _+_, _*_, _/_, _^_, _≤_, _<_}
 use native.Mathlib.Omega.{arith}
 use lib.ListN.{length, getD}
 use borrow.Author.Tests.{le-leb}
-use Rattle.fields.specs.Parse.{Res, ok, no, bind, choose, span, le}
+use Rattle.fields.specs.Parse.{ok, bind, choose, span, le}
 use Rattle.fields.proofs.Le.{Bytes, le-lt, le-split, uint-ok}
 use Rattle.pod.specs.Layout.{register, immediate, operand}
 

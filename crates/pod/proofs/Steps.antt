@@ -20,39 +20,39 @@ module _ {B : Type 0} {r : RegisterRead} {p : Res RegisterDesc} (f : RegisterDes
   pub on-register : {v : RegisterDesc} {n : ℕ} {x : Res B} → On of-register rr.Value r v n p f x
   on-register g = on f (ap of-register g)
 
-  pub off-register : {k : ℕ} → Off of-register rr.Refused r k p f
+  pub off-register : {k x : ℕ} → Off of-register rr.Refused r k x p f
   off-register g = off f (ap of-register g)
 
   pub skip-on-register : {v : RegisterDesc} {n : ℕ} {x : Res Unit} → SkipOn of-register rr.Value r v n p f x
   skip-on-register g = span-on f (ap of-register g)
 
-  pub skip-off-register : {k : ℕ} → SkipOff of-register rr.Refused r k p f
+  pub skip-off-register : {k x : ℕ} → SkipOff of-register rr.Refused r k x p f
   skip-off-register g = span-off f (ap of-register g)
 
 module _ {B : Type 0} {r : ImmediateRead} {p : Res ImmediateDesc} (f : ImmediateDesc → ℕ → Res B) where
   pub on-immediate : {v : ImmediateDesc} {n : ℕ} {x : Res B} → On of-immediate ir.Value r v n p f x
   on-immediate g = on f (ap of-immediate g)
 
-  pub off-immediate : {k : ℕ} → Off of-immediate ir.Refused r k p f
+  pub off-immediate : {k x : ℕ} → Off of-immediate ir.Refused r k x p f
   off-immediate g = off f (ap of-immediate g)
 
   pub skip-on-immediate : {v : ImmediateDesc} {n : ℕ} {x : Res Unit} → SkipOn of-immediate ir.Value r v n p f x
   skip-on-immediate g = span-on f (ap of-immediate g)
 
-  pub skip-off-immediate : {k : ℕ} → SkipOff of-immediate ir.Refused r k p f
+  pub skip-off-immediate : {k x : ℕ} → SkipOff of-immediate ir.Refused r k x p f
   skip-off-immediate g = span-off f (ap of-immediate g)
 
 module _ {B : Type 0} {r : OperandRead} {p : Res Operand} (f : Operand → ℕ → Res B) where
   pub on-operand : {v : Operand} {n : ℕ} {x : Res B} → On of-operand or.Value r v n p f x
   on-operand g = on f (ap of-operand g)
 
-  pub off-operand : {k : ℕ} → Off of-operand or.Refused r k p f
+  pub off-operand : {k x : ℕ} → Off of-operand or.Refused r k x p f
   off-operand g = off f (ap of-operand g)
 
   pub skip-on-operand : {v : Operand} {n : ℕ} {x : Res Unit} → SkipOn of-operand or.Value r v n p f x
   skip-on-operand g = span-on f (ap of-operand g)
 
-  pub skip-off-operand : {k : ℕ} → SkipOff of-operand or.Refused r k p f
+  pub skip-off-operand : {k x : ℕ} → SkipOff of-operand or.Refused r k x p f
   skip-off-operand g = span-off f (ap of-operand g)
 
 pub ruleset steps = (Steps.steps, on-register, off-register, on-immediate, off-immediate, on-operand, off-operand)

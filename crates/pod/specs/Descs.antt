@@ -1,7 +1,7 @@
 -- An instruction by value: an operation number, a count and three operand places; and its writer.
 use Prim.Native.Nat.{ℕ, _/_, _^_}
 use mathlib.Core.List.{List, [], _∷_, _++_, map}
-use mathlib.Core.Bool.{Bool, true, false, not, _&&_, _||_}
+use mathlib.Core.Bool.{Bool, false, not, _&&_, _||_}
 use lib.IntN.{pos}
 use lib.ListN.{length, getD, take, drop}
 use lib.Dec.{eqb, ltb}
@@ -11,7 +11,6 @@ use Rattle.fields.specs.Parse.{choose}
 use Rattle.op.specs.Ops.{counts}
 use Rattle.pod.specs.Values.{Instruction}
 use Rattle.pod.specs.Written.{bit, instruction-bytes}
-use Rattle.pod.specs.declared.Vip.{Vip}
 use Rattle.pod.specs.declared.RegisterDesc.{RegisterDesc}
 use Rattle.pod.specs.declared.ImmediateDesc.{ImmediateDesc}
 use Rattle.pod.specs.declared.Operand.{Operand}

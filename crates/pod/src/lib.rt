@@ -4,7 +4,7 @@ ghost use Prim.Native.Nat.{_+_, _≤_, _<_};
 ghost use lib.ListN.{length};
 ghost use Rattle.pod.specs.Layout.{register, immediate, operand};
 ghost use Rattle.pod.specs.Answers.{of-register, of-immediate, of-operand};
-ghost use Rattle.fields.specs.Parse.{ok, many, counted, span};
+ghost use Rattle.fields.specs.Parse.{ok, bind, i32, many, counted, span, refusal-in};
 ghost use Rattle.fields.specs.Answers.{of-skip};
 use fields::I32Read;
 use fields::Skip;
@@ -72,75 +72,129 @@ pub enum OperandRead {
     Refused(u8),
 }
 
+// The refusal of a register, an immediate or an operand that was refused, and 0 of one with a value. They are pub for the readers above,
+// which hand it on.
+pub fn register_refusal(register: RegisterRead) -> u8
+    ensures { λ r. ⌜ r ≡ refusal-in (of-register register) ⌝ }
+{
+    if let RegisterRead::Refused(e) = register {
+        e
+    } else {
+        0
+    }
+}
+
+pub fn immediate_refusal(immediate: ImmediateRead) -> u8
+    ensures { λ r. ⌜ r ≡ refusal-in (of-immediate immediate) ⌝ }
+{
+    if let ImmediateRead::Refused(e) = immediate {
+        e
+    } else {
+        0
+    }
+}
+
+pub fn operand_refusal(operand: OperandRead) -> u8
+    ensures { λ r. ⌜ r ≡ refusal-in (of-operand operand) ⌝ }
+{
+    if let OperandRead::Refused(e) = operand {
+        e
+    } else {
+        0
+    }
+}
+
 pub fn immediate_at(s: &[u8], at: usize) -> ImmediateRead
     ensures { λ r. ⌜ of-immediate r ≡ immediate (now (s .entry)) at ⌝ }
 {
-    match fields::u64_at(s, at) {
-        U64Read::Refused(e) => ImmediateRead::Refused(e),
-        U64Read::Value(value, a) => match fields::u32_at(s, a) {
-            U32Read::Refused(e) => ImmediateRead::Refused(e),
-            U32Read::Value(width, b) => ImmediateRead::Value(
+    let value = fields::u64_at(s, at);
+    if let U64Read::Value(v, a) = value {
+        let width = fields::u32_at(s, a);
+        if let U32Read::Value(w, b) = width {
+            ImmediateRead::Value(
                 ImmediateDesc {
-                    value,
-                    bit_count: width,
+                    value: v,
+                    bit_count: w,
                 },
                 b,
-            ),
-        },
+            )
+        } else {
+            ImmediateRead::Refused(fields::u32_refusal(width))
+        }
+    } else {
+        ImmediateRead::Refused(fields::u64_refusal(value))
+    }
+}
+
+// A register's width and offset, after its flags and id.
+fn bits_at(s: &[u8], at: usize, flags: u64, id: u64) -> RegisterRead
+    ensures { λ r. ⌜ of-register r ≡ bind (i32 (now (s .entry)) at) (λ w a. bind (i32 (now (s .entry)) a) (λ o b. ok (record { flags = flags; «combined_id» = id; «bit_count» = w; «bit_offset» = o }) b)) ⌝ }
+{
+    let width = fields::i32_at(s, at);
+    if let I32Read::Value(w, a) = width {
+        let offset = fields::i32_at(s, a);
+        if let I32Read::Value(o, b) = offset {
+            RegisterRead::Value(
+                RegisterDesc {
+                    flags,
+                    combined_id: id,
+                    bit_count: w,
+                    bit_offset: o,
+                },
+                b,
+            )
+        } else {
+            RegisterRead::Refused(fields::i32_refusal(offset))
+        }
+    } else {
+        RegisterRead::Refused(fields::i32_refusal(width))
     }
 }
 
 pub fn register_at(s: &[u8], at: usize) -> RegisterRead
     ensures { λ r. ⌜ of-register r ≡ register (now (s .entry)) at ⌝ }
 {
-    match fields::u64_at(s, at) {
-        U64Read::Refused(e) => RegisterRead::Refused(e),
-        U64Read::Value(flags, a) => match fields::u64_at(s, a) {
-            U64Read::Refused(e) => RegisterRead::Refused(e),
-            U64Read::Value(id, b) => {
-                if 2 < id / 0x0100_0000_0000_0000 {
-                    return RegisterRead::Refused(fields::FOREIGN_REGISTER);
-                }
-                match fields::i32_at(s, b) {
-                    I32Read::Refused(e) => RegisterRead::Refused(e),
-                    I32Read::Value(width, c) => match fields::i32_at(s, c) {
-                        I32Read::Refused(e) => RegisterRead::Refused(e),
-                        I32Read::Value(offset, d) => RegisterRead::Value(
-                            RegisterDesc {
-                                flags,
-                                combined_id: id,
-                                bit_count: width,
-                                bit_offset: offset,
-                            },
-                            d,
-                        ),
-                    },
-                }
+    let flags = fields::u64_at(s, at);
+    if let U64Read::Value(f, a) = flags {
+        let id = fields::u64_at(s, a);
+        if let U64Read::Value(i, b) = id {
+            if 2 < i / 0x0100_0000_0000_0000 {
+                RegisterRead::Refused(fields::FOREIGN_REGISTER)
+            } else {
+                bits_at(s, b, f, i)
             }
-        },
+        } else {
+            RegisterRead::Refused(fields::u64_refusal(id))
+        }
+    } else {
+        RegisterRead::Refused(fields::u64_refusal(flags))
     }
 }
 
 pub fn operand_at(s: &[u8], at: usize) -> OperandRead
     ensures { λ r. ⌜ of-operand r ≡ operand (now (s .entry)) at ⌝ }
 {
-    match fields::u32_at(s, at) {
-        U32Read::Refused(e) => OperandRead::Refused(e),
-        U32Read::Value(kind, a) => {
-            if kind == 0 {
-                match immediate_at(s, a) {
-                    ImmediateRead::Refused(e) => OperandRead::Refused(e),
-                    ImmediateRead::Value(i, b) => OperandRead::Value(Operand::Imm(i), b),
-                }
-            } else if kind == 1 {
-                match register_at(s, a) {
-                    RegisterRead::Refused(e) => OperandRead::Refused(e),
-                    RegisterRead::Value(r, b) => OperandRead::Value(Operand::Reg(r), b),
-                }
+    let kind = fields::u32_at(s, at);
+    if let U32Read::Value(k, a) = kind {
+        if k == 0 {
+            let immediate = immediate_at(s, a);
+            if let ImmediateRead::Value(i, b) = immediate {
+                OperandRead::Value(Operand::Imm(i), b)
             } else {
-                OperandRead::Refused(fields::UNKNOWN_OPERAND_KIND)
+                OperandRead::Refused(immediate_refusal(immediate))
             }
+        } else if k == 1 {
+            let register = register_at(s, a);
+            if let RegisterRead::Value(r, b) = register {
+                OperandRead::Value(Operand::Reg(r), b)
+            } else {
+                OperandRead::Refused(register_refusal(register))
+            }
+        } else {
+            OperandRead::Refused(fields::UNKNOWN_OPERAND_KIND)
         }
+    } else {
+        OperandRead::Refused(fields::u32_refusal(kind))
     }
 }
 
@@ -174,9 +228,11 @@ pub fn registers_run(s: &[u8], at: usize, count: u32) -> Skip
     let mut left = count;
     let mut o = at;
     while 0 < left {
-        match register_at(s, o) {
-            RegisterRead::Refused(e) => return Skip::Refused(e),
-            RegisterRead::Value(_, n) => o = n,
+        let register = register_at(s, o);
+        if let RegisterRead::Value(_, n) = register {
+            o = n;
+        } else {
+            return Skip::Refused(register_refusal(register));
         }
         left -= 1;
     }
@@ -187,8 +243,10 @@ pub fn registers_run(s: &[u8], at: usize, count: u32) -> Skip
 pub fn registers_skip(s: &[u8], at: usize) -> Skip
     ensures { λ r. ⌜ of-skip r ≡ span (counted register (now (s .entry)) at) ⌝ }
 {
-    match fields::u32_at(s, at) {
-        U32Read::Refused(e) => Skip::Refused(e),
-        U32Read::Value(count, a) => registers_run(s, a, count),
+    let count = fields::u32_at(s, at);
+    if let U32Read::Value(n, a) = count {
+        registers_run(s, a, n)
+    } else {
+        Skip::Refused(fields::u32_refusal(count))
     }
 }

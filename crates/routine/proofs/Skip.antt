@@ -1,17 +1,16 @@
 -- The routine, passed over part by part; and the blocks, with the test of their vips.
 -- Assumes nothing.
-use mathlib.Core.Path.{_≡_, refl, sym, ap, _∙_}
+use mathlib.Core.Path.{_≡_, refl, sym, _∙_}
 use mathlib.Core.Bool.{Bool, true, false, not}
 use mathlib.Core.List.{List}
 use Prim.Native.Nat.{ℕ}
-use native.Mathlib.Omega.{arith}
 use lib.Dec.{leb, eqb}
-use Rattle.fields.specs.Parse.{Res, ok, no, Reader, bind, choose, span, uint, counted, many, pad}
+use Rattle.fields.specs.Parse.{Res, ok, no, Reader, bind, choose, span, uint, counted, pad}
 use Rattle.routine.specs.Header.{marked, machine-byte}
 use Rattle.fields.proofs.Chain.{chain}
 use Rattle.pod.specs.Values.{BasicBlock}
 use Rattle.pod.specs.Blocks.{vips, repeats}
-use Rattle.pod.specs.Layout.{header, convention, block, blocks, routine}
+use Rattle.pod.specs.Layout.{header, convention, blocks, routine}
 
 module _ (exact : Bool) (s : List ℕ) (o : ℕ) where
   abbrev then : {A : Type 0} → Reader A → Res Unit → Res Unit

@@ -2,7 +2,7 @@
 use Prim.Native.Nat.{ℕ}
 use lib.Dec.{leb, eqb}
 use Rattle.fields.specs.Refusals.{wrong-mark, unknown-machine}
-use Rattle.fields.specs.Parse.{Res, Reader, bind, _>>=_, check, uint, u8}
+use Rattle.fields.specs.Parse.{Reader, _>>=_, check, uint, u8}
 
 -- a number of k bytes that must be the mark
 unfoldable pub marked : ℕ → ℕ → Reader Unit

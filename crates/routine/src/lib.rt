@@ -1,6 +1,6 @@
 // The whole routine.
 ghost use mathlib.Core.Path.{_≡_};
-ghost use Rattle.fields.specs.Parse.{many, counted, bind, span};
+ghost use Rattle.fields.specs.Parse.{many, counted, bind, span, refusal-in};
 ghost use Rattle.fields.specs.Answers.{of-skip};
 ghost use Rattle.routine.specs.Header.{marked, machine-byte};
 ghost use mathlib.Core.Bool.{true};
@@ -23,15 +23,15 @@ fn then_mark(s: &[u8], far: Skip, k: usize, mark: u64) -> Skip
     ensures { λ r. ⌜ of-skip r ≡ bind (of-skip far) (λ _ n. marked k mark (now (s .entry)) n) ⌝ }
 {
     if let Skip::Past(at) = far {
-        match fields::uint_at(s, at, k) {
-            U64Read::Refused(e) => Skip::Refused(e),
-            U64Read::Value(v, n) => {
-                if v == mark {
-                    Skip::Past(n)
-                } else {
-                    Skip::Refused(fields::WRONG_MARK)
-                }
+        let field = fields::uint_at(s, at, k);
+        if let U64Read::Value(v, n) = field {
+            if v == mark {
+                Skip::Past(n)
+            } else {
+                Skip::Refused(fields::WRONG_MARK)
             }
+        } else {
+            Skip::Refused(fields::u64_refusal(field))
         }
     } else {
         far
@@ -43,15 +43,15 @@ fn then_machine(s: &[u8], far: Skip) -> Skip
     ensures { λ r. ⌜ of-skip r ≡ bind (of-skip far) (λ _ n. machine-byte (now (s .entry)) n) ⌝ }
 {
     if let Skip::Past(at) = far {
-        match fields::u8_at(s, at) {
-            U8Read::Refused(e) => Skip::Refused(e),
-            U8Read::Value(machine, n) => {
-                if machine <= 2 {
-                    Skip::Past(n)
-                } else {
-                    Skip::Refused(fields::UNKNOWN_MACHINE)
-                }
+        let machine = fields::u8_at(s, at);
+        if let U8Read::Value(m, n) = machine {
+            if m <= 2 {
+                Skip::Past(n)
+            } else {
+                Skip::Refused(fields::UNKNOWN_MACHINE)
             }
+        } else {
+            Skip::Refused(fields::u8_refusal(machine))
         }
     } else {
         far
@@ -92,6 +92,17 @@ enum BlocksSkip {
     Refused(u8),
 }
 
+// The refusal of blocks that were refused, and 0 of others.
+fn blocks_refusal(run: BlocksSkip) -> u8
+    ensures { λ r. ⌜ r ≡ refusal-in (of-blocks run) ⌝ }
+{
+    if let BlocksSkip::Refused(e) = run {
+        e
+    } else {
+        0
+    }
+}
+
 // The least vip that may come after `vip` where vips rise, one more, if `vip` itself may come. If not, the highest number, and it stays that.
 fn floor_after(floor: u64, vip: u64) -> u64
     ensures { λ r. ⌜ (r < TOP → (floor ≤ vip) × (r ≡ vip + 1)) ⌝ }
@@ -113,12 +124,12 @@ fn blocks_run(s: &[u8], at: usize, count: u32, exact: bool) -> BlocksSkip
     let mut o = at;
     let mut floor: u64 = 0;
     while 0 < left {
-        match block::block_skip(s, o, exact) {
-            Skip::Refused(e) => return BlocksSkip::Refused(e),
-            Skip::Past(n) => {
-                floor = floor_after(floor, walk::word64(s, o));
-                o = n;
-            }
+        let far = block::block_skip(s, o, exact);
+        if let Skip::Past(n) = far {
+            floor = floor_after(floor, walk::word64(s, o));
+            o = n;
+        } else {
+            return BlocksSkip::Refused(fields::skip_refusal(far));
         }
         left -= 1;
     }
@@ -139,9 +150,11 @@ fn then_conventions(s: &[u8], far: Skip, exact: bool) -> Skip
     ensures { λ r. ⌜ of-skip r ≡ bind (of-skip far) (λ _ n. span (counted (convention exact) (now (s .entry)) n)) ⌝ }
 {
     if let Skip::Past(at) = far {
-        match fields::u32_at(s, at) {
-            U32Read::Refused(e) => Skip::Refused(e),
-            U32Read::Value(count, a) => conventions_run(s, a, count, exact),
+        let count = fields::u32_at(s, at);
+        if let U32Read::Value(n, a) = count {
+            conventions_run(s, a, n, exact)
+        } else {
+            Skip::Refused(fields::u32_refusal(count))
         }
     } else {
         far
@@ -152,20 +165,22 @@ fn then_conventions(s: &[u8], far: Skip, exact: bool) -> Skip
 fn blocks_skip(s: &[u8], at: usize, exact: bool) -> Skip
     ensures { λ r. ⌜ of-skip r ≡ span (blocks exact (now (s .entry)) at) ⌝ }
 {
-    match fields::u32_at(s, at) {
-        U32Read::Refused(e) => Skip::Refused(e),
-        U32Read::Value(count, a) => match blocks_run(s, a, count, exact) {
-            BlocksSkip::Refused(e) => Skip::Refused(e),
-            BlocksSkip::Past(n, rising) => {
-                if rising {
-                    Skip::Past(n)
-                } else if distinct::has_repeat(s, a, count) {
-                    Skip::Refused(fields::REPEATED_BLOCK)
-                } else {
-                    Skip::Past(n)
-                }
+    let count = fields::u32_at(s, at);
+    if let U32Read::Value(c, a) = count {
+        let run = blocks_run(s, a, c, exact);
+        if let BlocksSkip::Past(n, rising) = run {
+            if rising {
+                Skip::Past(n)
+            } else if distinct::has_repeat(s, a, c) {
+                Skip::Refused(fields::REPEATED_BLOCK)
+            } else {
+                Skip::Past(n)
             }
-        },
+        } else {
+            Skip::Refused(blocks_refusal(run))
+        }
+    } else {
+        Skip::Refused(fields::u32_refusal(count))
     }
 }
 

@@ -27,15 +27,14 @@ use trailer::Trailer;
 fn is_block(s: &[u8], vip: Vip) -> bool
     ensures { λ r. ⌜ r ≡ is-block (vip .0) (now (s .entry)) ⌝ }
 {
-    match block::block_skip(s, 0, true) {
-        Skip::Refused(_) => false,
-        Skip::Past(end) => {
-            if end == s.len() {
-                fields::eight(s, 0) == vip.0
-            } else {
-                false
-            }
+    if let Skip::Past(end) = block::block_skip(s, 0, true) {
+        if end == s.len() {
+            fields::eight(s, 0) == vip.0
+        } else {
+            false
         }
+    } else {
+        false
     }
 }
 

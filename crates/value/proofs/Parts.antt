@@ -12,7 +12,7 @@ use lib.IntN.{ℤ}
 use mir.Syntax.{w64}
 use mir.Val.{SFits, toZ, ofZ}
 use mir.ValLaws.{toZ-ofZ}
-use Rattle.fields.specs.Parse.{Res, ok, no, Reader, bind, choose, uint, part, many, flag, taken}
+use Rattle.fields.specs.Parse.{Res, ok, no, Reader, bind, choose, uint, many, flag, taken}
 use Rattle.fields.proofs.Invert.{inv}
 use Rattle.op.specs.Ops.{number, counts}
 use Rattle.pod.specs.Values.{Instruction}

@@ -3,7 +3,7 @@ ghost use mathlib.Core.Path.{_≡_};
 ghost use mathlib.Core.Bool.{not};
 ghost use Prim.Native.Nat.{_≤_};
 ghost use lib.Dec.{eqb};
-ghost use Rattle.fields.specs.Parse.{no, many};
+ghost use Rattle.fields.specs.Parse.{ok, no, bind, many, u8, u32, refusal-in};
 ghost use Rattle.pod.specs.Layout.{operand, instruction, as-it-comes};
 ghost use Rattle.pod.specs.Written.{bit};
 ghost use Rattle.pod.specs.Descs.{operand-desc, unused};
@@ -96,18 +96,16 @@ fn operands_at(s: &[u8], at: usize, count: usize) -> OperandsRead
     let mut i = 0;
     let mut o = at;
     while i < count {
-        match pod::operand_at(s, o) {
-            OperandRead::Refused(e) => {
-                return OperandsRead {
-                    refusal: e,
-                    next: 0,
-                    places: [none; 3],
-                }
-            }
-            OperandRead::Value(x, n) => {
-                p[i] = operand_desc(x);
-                o = n;
-            }
+        let operand = pod::operand_at(s, o);
+        if let OperandRead::Value(x, n) = operand {
+            p[i] = operand_desc(x);
+            o = n;
+        } else {
+            return OperandsRead {
+                refusal: pod::operand_refusal(operand),
+                next: 0,
+                places: [none; 3],
+            };
         }
         i += 1;
     }
@@ -125,30 +123,56 @@ pub fn flag_bit(b: u8) -> u8
     if b == 0 { 0 } else { 1 }
 }
 
+// The refusal of a tail that was refused, and 0 of another.
+fn tail_refusal(tail: TailRead) -> u8
+    ensures { λ r. ⌜ r ≡ refusal-in (of-tail tail) ⌝ }
+{
+    if let TailRead::Refused(e) = tail {
+        e
+    } else {
+        0
+    }
+}
+
+// The sp index and reset, after the vip and the sp offset.
+fn sp_at(s: &[u8], at: usize, vip: u64, offset: i64) -> TailRead
+    ensures { λ r. ⌜ of-tail r ≡ bind (u32 (now (s .entry)) at) (λ i a. bind (u8 (now (s .entry)) a) (λ b o. ok (record { vip = record { 0 = vip }; «sp_offset» = offset; «sp_index» = i; «sp_reset» = b }) o)) ⌝ }
+{
+    let sp_index = fields::u32_at(s, at);
+    if let U32Read::Value(i, a) = sp_index {
+        let sp_reset = fields::u8_at(s, a);
+        if let U8Read::Value(b, o) = sp_reset {
+            TailRead::Value(
+                Tail {
+                    vip: Vip(vip),
+                    sp_offset: offset,
+                    sp_index: i,
+                    sp_reset: b,
+                },
+                o,
+            )
+        } else {
+            TailRead::Refused(fields::u8_refusal(sp_reset))
+        }
+    } else {
+        TailRead::Refused(fields::u32_refusal(sp_index))
+    }
+}
+
 // The fields after the operands.
 pub fn tail_at(s: &[u8], at: usize) -> TailRead
     ensures { λ r. ⌜ of-tail r ≡ tail (now (s .entry)) at ⌝ }
 {
-    match fields::u64_at(s, at) {
-        U64Read::Refused(e) => TailRead::Refused(e),
-        U64Read::Value(vip, a) => match fields::i64_at(s, a) {
-            I64Read::Refused(e) => TailRead::Refused(e),
-            I64Read::Value(sp_offset, b) => match fields::u32_at(s, b) {
-                U32Read::Refused(e) => TailRead::Refused(e),
-                U32Read::Value(sp_index, c) => match fields::u8_at(s, c) {
-                    U8Read::Refused(e) => TailRead::Refused(e),
-                    U8Read::Value(sp_reset, d) => TailRead::Value(
-                        Tail {
-                            vip: Vip(vip),
-                            sp_offset,
-                            sp_index,
-                            sp_reset,
-                        },
-                        d,
-                    ),
-                },
-            },
-        },
+    let vip = fields::u64_at(s, at);
+    if let U64Read::Value(v, a) = vip {
+        let sp_offset = fields::i64_at(s, a);
+        if let I64Read::Value(z, b) = sp_offset {
+            sp_at(s, b, v, z)
+        } else {
+            TailRead::Refused(fields::i64_refusal(sp_offset))
+        }
+    } else {
+        TailRead::Refused(fields::u64_refusal(vip))
     }
 }
 
@@ -176,34 +200,34 @@ pub fn refused(e: u8) -> InstructionRead
 pub fn instruction_at(s: &[u8], at: usize) -> InstructionRead
     ensures { λ r. ⌜ r ≡ instruction-read (instruction as-it-comes (now (s .entry)) at) ⌝ }
 {
-    match instruction::op_at(s, at) {
-        OpRead::Refused(e) => refused(e),
-        OpRead::Value(k, a) => {
-            let count = op::operand_count(k);
-            let x = operands_at(s, a, count as usize);
-            if x.refusal != 0 {
-                return refused(x.refusal);
-            }
-            match tail_at(s, x.next) {
-                TailRead::Refused(e) => refused(e),
-                TailRead::Value(t, n) => {
-                    let vip = t.vip;
-                    let operands = x.places;
-                    InstructionRead {
-                        refusal: 0,
-                        next: n,
-                        instruction: InstructionDesc {
-                            op: k as u32,
-                            count,
-                            operands,
-                            vip,
-                            sp_offset: t.sp_offset,
-                            sp_index: t.sp_index,
-                            sp_reset: flag_bit(t.sp_reset),
-                        },
-                    }
-                }
-            }
+    let op = instruction::op_at(s, at);
+    if let OpRead::Value(k, a) = op {
+        let count = op::operand_count(k);
+        let x = operands_at(s, a, count as usize);
+        if x.refusal != 0 {
+            return refused(x.refusal);
         }
+        let tail = tail_at(s, x.next);
+        if let TailRead::Value(t, n) = tail {
+            let vip = t.vip;
+            let operands = x.places;
+            InstructionRead {
+                refusal: 0,
+                next: n,
+                instruction: InstructionDesc {
+                    op: k as u32,
+                    count,
+                    operands,
+                    vip,
+                    sp_offset: t.sp_offset,
+                    sp_index: t.sp_index,
+                    sp_reset: flag_bit(t.sp_reset),
+                },
+            }
+        } else {
+            refused(tail_refusal(tail))
+        }
+    } else {
+        refused(instruction::op_refusal(op))
     }
 }

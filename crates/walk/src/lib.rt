@@ -32,9 +32,10 @@ pub fn jump(s: &[u8], at: usize, k: usize) -> usize
 pub fn word32(s: &[u8], at: usize) -> u32
     ensures { λ r. ⌜ r ≡ word 4 (now (s .entry)) at ⌝ }
 {
-    match fields::u32_at(s, at) {
-        U32Read::Value(v, _) => v,
-        U32Read::Refused(_) => 0,
+    if let U32Read::Value(v, _) = fields::u32_at(s, at) {
+        v
+    } else {
+        0
     }
 }
 
@@ -42,9 +43,10 @@ pub fn word32(s: &[u8], at: usize) -> u32
 pub fn word64(s: &[u8], at: usize) -> u64
     ensures { λ r. ⌜ r ≡ word 8 (now (s .entry)) at ⌝ }
 {
-    match fields::u64_at(s, at) {
-        U64Read::Value(v, _) => v,
-        U64Read::Refused(_) => 0,
+    if let U64Read::Value(v, _) = fields::u64_at(s, at) {
+        v
+    } else {
+        0
     }
 }
 

@@ -8,15 +8,13 @@ use Rattle.block.proofs.then_instructions.Reads as reads
 use Rattle.block.proofs.then_instructions.Lts as lts
 use Rattle.block.proofs.instructions_run.Reads as instructions-run-reads
 use Rattle.fields.proofs.u32_at.Reads as u32-at-reads
+use Rattle.fields.proofs.u32_refusal.Reads as u32-refusal-reads
 
 enum-known-far : tie.Need-enum-known-far
 enum-known-far c = search needs
 
 u32-at-requires : tie.Need-u32-at-requires
 u32-at-requires c κs = search needs
-
-enum-known-e : tie.Need-enum-known-e
-enum-known-e c = search needs
 
 enum-known-count : tie.Need-enum-known-count
 enum-known-count c = search needs
@@ -26,6 +24,12 @@ instructions-run-requires c κs = search needs
 
 enum-told : tie.Need-enum-told
 enum-told c = search needs
+
+u32-refusal-requires : tie.Need-u32-refusal-requires
+u32-refusal-requires c κs = search needs
+
+enum-told-2 : tie.Need-enum-told-2
+enum-told-2 c = search needs
 
 returns : tie.Need-returns
 returns c = search (needs, skips, far-past)
@@ -42,10 +46,11 @@ then-instructions-spec =
     (tie.spec
     enum-known-far
     u32-at-requires
-    enum-known-e
     enum-known-count
     instructions-run-requires
     enum-told
+    u32-refusal-requires
+    enum-told-2
     returns
     returns-2
     returns-3)

@@ -3,12 +3,14 @@ use mathlib.Core.Path.{sym, ap, _∙_}
 use Rattle.fields.specs.Parse.{span}
 use Rattle.fields.proofs.Chain.{far-past, far-refused}
 use Rattle.pod.specs.Answers.{of-register}
+use Rattle.fields.proofs.Steps.{handed}
 use borrow.Author.Needs.{needs}
 use Rattle.convention.proofs.then_register.Statement.{statement}
 use Rattle.convention.proofs.then_register.Tie as tie
 use Rattle.convention.proofs.then_register.Reads as reads
 use Rattle.convention.proofs.then_register.Lts as lts
 use Rattle.pod.proofs.register_at.Reads as register-at-reads
+use Rattle.pod.proofs.register_refusal.Reads as register-refusal-reads
 
 enum-known-far : tie.Need-enum-known-far
 enum-known-far c = search needs
@@ -16,29 +18,32 @@ enum-known-far c = search needs
 register-at-requires : tie.Need-register-at-requires
 register-at-requires c κs = search needs
 
-enum-known-n : tie.Need-enum-known-n
-enum-known-n c = search needs
-
-enum-known-e : tie.Need-enum-known-e
-enum-known-e c = search needs
+enum-known-register : tie.Need-enum-known-register
+enum-known-register c = search needs
 
 enum-told : tie.Need-enum-told
 enum-told c = search needs
+
+register-refusal-requires : tie.Need-register-refusal-requires
+register-refusal-requires c κs = search needs
+
+enum-told-2 : tie.Need-enum-told-2
+enum-told-2 c = search needs
 
 returns : tie.Need-returns
 unfolding span
 returns c =
     far-past _ (c .before .before .before .before .before .far .given .1)
-    (rw (sym (c .before .before .before .register-at .ensures) ∙ ap of-register (c .before .n .given .1)))
+    (rw (sym (c .before .before .before .register-at .ensures) ∙ ap of-register (c .before .register .given .1)))
 
 returns-2 : tie.Need-returns-2
 unfolding span
 returns-2 c =
     far-past _ (c .before .before .before .before .before .far .given .1)
-    (rw (sym (c .before .before .before .register-at .ensures) ∙ ap of-register (c .before .e .given .1)))
+    (rw (← handed (ap of-register (c .before .enum-told .given .1)) (c .before .before .before .register-at .ensures) (c .register-refusal .ensures)))
 
 returns-3 : tie.Need-returns-3
-returns-3 c = far-refused _ (c .enum-told .given .1)
+returns-3 c = far-refused _ (c .enum-told2 .given .1)
 
 pub then-register-spec : {M : Type 1} → statement M
 then-register-spec =
@@ -46,9 +51,10 @@ then-register-spec =
     (tie.spec
     enum-known-far
     register-at-requires
-    enum-known-n
-    enum-known-e
+    enum-known-register
     enum-told
+    register-refusal-requires
+    enum-told-2
     returns
     returns-2
     returns-3)

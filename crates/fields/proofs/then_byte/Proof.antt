@@ -2,7 +2,7 @@
 use Prim.Native.Nat.{_+_, _≤_}
 use lib.ListN.{length}
 use native.Mathlib.Omega.{arith}
-use mathlib.Core.Path.{_≡_, sym, _∙_}
+use mathlib.Core.Path.{sym, _∙_}
 use borrow.Author.Tests.{leb-true, leb-false}
 use Rattle.fields.proofs.Chain.{far-past, far-refused}
 use Rattle.fields.proofs.Bound.{bounded-ok, bounded-odd, bounded-short}

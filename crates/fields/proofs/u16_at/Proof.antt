@@ -1,36 +1,48 @@
 -- `fields::u16_at` meets its contract, by the law of a field of k bytes at 2.
 -- Assumes nothing.
 use mathlib.Core.Path.{_∙_, sym, ap}
-use native.Mathlib.Omega.{arith}
 use Rattle.fields.specs.Answers.{of-u64}
 use Rattle.fields.proofs.Le.{uint-lt}
+use Rattle.fields.proofs.Steps.{handed}
 use borrow.Author.Needs.{needs}
 use Rattle.fields.proofs.u16_at.Statement.{statement}
 use Rattle.fields.proofs.u16_at.Tie as tie
 use Rattle.fields.proofs.u16_at.Reads as reads
 use Rattle.fields.proofs.u16_at.Lts as lts
 use Rattle.fields.proofs.uint_at.Reads as uint-at-reads
+use Rattle.fields.proofs.u64_refusal.Reads as u64-refusal-reads
 
 uint-at-requires : tie.Need-uint-at-requires
 uint-at-requires c κs = search needs
 
-enum-known-v : tie.Need-enum-known-v
-enum-known-v c = search needs
+enum-known-field : tie.Need-enum-known-field
+enum-known-field c = search needs
 
-cast-t8 : tie.Need-cast-t8
-cast-t8 c =
+cast-t7 : tie.Need-cast-t7
+cast-t7 c =
     let b = c .before .before .before in
-    record { fits = uint-lt 2 _ _ (b .before .shared-slice-known .given) (sym (b .uint-at .ensures) ∙ ap of-u64 (c .before .v .given .1)) }
+    record { fits = uint-lt 2 _ _ (b .before .shared-slice-known .given) (sym (b .uint-at .ensures) ∙ ap of-u64 (c .before .field .given .1)) }
 
-enum-known-e : tie.Need-enum-known-e
-enum-known-e c = search needs
+enum-told : tie.Need-enum-told
+enum-told c = search needs
+
+u64-refusal-requires : tie.Need-u64-refusal-requires
+u64-refusal-requires c κs = search needs
 
 returns : tie.Need-returns
-returns c = sym (ap of-u64 (c .before .v .given .1)) ∙ c .before .before .before .uint-at .ensures
+returns c = sym (ap of-u64 (c .before .field .given .1)) ∙ c .before .before .before .uint-at .ensures
 
 returns-2 : tie.Need-returns-2
-returns-2 c = sym (ap of-u64 (c .before .e .given .1)) ∙ c .before .before .before .uint-at .ensures
+returns-2 c = handed (ap of-u64 (c .before .enum-told .given .1)) (c .before .before .before .uint-at .ensures) (c .u64-refusal .ensures)
 
 pub u16-at-spec : {M : Type 1} → statement M
 u16-at-spec =
-    tie.close (tie.spec uint-at-requires enum-known-v cast-t8 enum-known-e returns returns-2)
+    tie.close
+    (tie.spec
+    uint-at-requires
+    enum-known-field
+    cast-t7
+    enum-told
+    u64-refusal-requires
+    returns
+    returns-2)

@@ -3,10 +3,10 @@ use Rattle.fields.proofs.Le.{le-below, le-more, le-none, uint-end, uint
 -- `fields::uint_at` meets its contract: the loop goes from the last byte to the first.
 -- Assumes nothing.
 use native.Mathlib.Omega.{arith}
-use mathlib.Core.Path.{_≡_, sym, _∙_}
+use mathlib.Core.Path.{_≡_, sym}
 use Prim.Native.Nat.{_≤_, _-_, _+_}
-use Rattle.fields.specs.Parse.{le, ok}
-use Rattle.fields.proofs.Le.{le-below, le-more, le-none, uint-ok, uint-no}
+use Rattle.fields.specs.Parse.{le}
+use Rattle.fields.proofs.Le.{le-below, le-more, le-none, uint-no}
 use borrow.Author.Needs.{needs}
 use Rattle.fields.proofs.uint_at.Statement.{statement}
 use Rattle.fields.proofs.uint_at.Tie as tie

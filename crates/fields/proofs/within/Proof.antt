@@ -2,7 +2,7 @@
 use Prim.Native.Nat.{_+_}
 use lib.ListN.{length}
 use native.Mathlib.Omega.{arith}
-use mathlib.Core.Path.{_≡_, sym}
+use mathlib.Core.Path.{sym}
 use borrow.Author.Tests.{lt-leb}
 use Rattle.fields.proofs.Le.{leb-sub}
 use borrow.Author.Needs.{needs}

@@ -10,10 +10,11 @@ use Rattle.instruction.proofs.instruction_skip.Reads as reads
 use Rattle.instruction.proofs.instruction_skip.Lts as lts
 use Rattle.fields.proofs.then_flag.Reads as then-flag-reads
 use Rattle.fields.proofs.then_uint.Reads as then-uint-reads
-use Rattle.instruction.proofs.op_slow.Reads as op-slow-reads
+use Rattle.instruction.proofs.op_at.Reads as op-at-reads
 use Rattle.instruction.proofs.operands_run.Reads as operands-run-reads
 use Rattle.instruction.proofs.quick.Reads as quick-reads
 use Rattle.op.proofs.operand_count.Reads as operand-count-reads
+use Rattle.instruction.proofs.op_refusal.Reads as op-refusal-reads
 
 quick-requires : tie.Need-quick-requires
 quick-requires c κs = search needs
@@ -21,14 +22,11 @@ quick-requires c κs = search needs
 returns : tie.Need-returns
 returns c = sym (c .before .quick .ensures (c .if1 .taken))
 
-op-slow-requires : tie.Need-op-slow-requires
-op-slow-requires c κs = search needs
+op-at-requires : tie.Need-op-at-requires
+op-at-requires c κs = search needs
 
-enum-known-e : tie.Need-enum-known-e
-enum-known-e c = search needs
-
-enum-known-k : tie.Need-enum-known-k
-enum-known-k c = search needs
+enum-known-op : tie.Need-enum-known-op
+enum-known-op c = search needs
 
 operand-count-requires : tie.Need-operand-count-requires
 operand-count-requires c κs = search needs
@@ -48,15 +46,17 @@ then-uint-requires-3 c κs = search needs
 then-flag-requires : tie.Need-then-flag-requires
 then-flag-requires c κs = search needs
 
+enum-told : tie.Need-enum-told
+enum-told c = search needs
+
+op-refusal-requires : tie.Need-op-refusal-requires
+op-refusal-requires c κs = search needs
+
 returns-2 : tie.Need-returns-2
 unfolding instruction
-returns-2 c = skip-off-op _ (c .before .e .given .1) (c .before .before .before .op-slow .ensures)
-
-returns-3 : tie.Need-returns-3
-unfolding instruction
-returns-3 c =
+returns-2 c =
     let k = c .before .before .before .before .before .before in
-    skip-on-op _ (k .before .k .given .1) (k .before .before .before .op-slow .ensures)
+    skip-on-op _ (k .before .op .given .1) (k .before .before .before .op-at .ensures)
     (rw (
       c .then-flag .ensures,
       c .before .then-uint3 .ensures,
@@ -66,20 +66,25 @@ returns-3 c =
       c .before .before .before .before .before .operand-count .ensures,
     ) (after-skip _ _ _ _))
 
+returns-3 : tie.Need-returns-3
+unfolding instruction
+returns-3 c = skip-off-op _ (c .before .enum-told .given .1) (c .before .before .before .op-at .ensures) (c .op-refusal .ensures)
+
 pub instruction-skip-spec : {M : Type 1} → statement M
 instruction-skip-spec =
     tie.close
     (tie.spec
     quick-requires
     returns
-    op-slow-requires
-    enum-known-e
-    enum-known-k
+    op-at-requires
+    enum-known-op
     operand-count-requires
     operands-run-requires
     then-uint-requires
     then-uint-requires-2
     then-uint-requires-3
     then-flag-requires
+    enum-told
+    op-refusal-requires
     returns-2
     returns-3)

@@ -12,15 +12,13 @@ use Rattle.fields.proofs.u32_at.Reads as u32-at-reads
 use Rattle.op.proofs.is_text.Reads as is-text-reads
 use Rattle.op.proofs.number_of.Reads as number-of-reads
 use Rattle.op.proofs.operand_count.Reads as operand-count-reads
+use Rattle.fields.proofs.u32_refusal.Reads as u32-refusal-reads
 
 is-text-requires : tie.Need-is-text-requires
 is-text-requires c κs = search needs
 
 u32-at-requires : tie.Need-u32-at-requires
 u32-at-requires c κs = search needs
-
-enum-known-e : tie.Need-enum-known-e
-enum-known-e c = search needs
 
 enum-known-count : tie.Need-enum-known-count
 enum-known-count c = search needs
@@ -31,11 +29,23 @@ number-of-requires c κs = search needs
 operand-count-requires : tie.Need-operand-count-requires
 operand-count-requires c κs = search needs
 
+enum-told : tie.Need-enum-told
+enum-told c = search needs
+
+u32-refusal-requires : tie.Need-u32-refusal-requires
+u32-refusal-requires c κs = search needs
+
 returns : tie.Need-returns
 unfolding named
 returns c =
-    let t = c .before .before .before .before in
-    on-check _ _ _ (sym (t .before .is-text .ensures) ∙ t .if1 .taken) (off-u32 _ (c .before .e .given .1) (c .before .before .before .u32-at .ensures))
+    let n = c .before .before .before in
+    let k = n .before in
+    let t = k .before .before .before .before in
+    rw (← n .number-of .ensures)
+    (on-check _ _ _ (sym (t .before .is-text .ensures) ∙ t .if1 .taken)
+    (on-u32 _ (k .before .count .given .1) (k .before .before .before .u32-at .ensures)
+    (on-check _ _ _ (lt-ltb _ _ (c .before .before .if2 .taken))
+    (on-check _ _ _ (eq-eqb _ _ (c .if3 .taken ∙ c .before .operand-count .ensures)) refl))))
 
 returns-2 : tie.Need-returns-2
 unfolding named
@@ -47,23 +57,11 @@ returns-2 c =
     (on-check _ _ _ (sym (t .before .is-text .ensures) ∙ t .if1 .taken)
     (on-u32 _ (k .before .count .given .1) (k .before .before .before .u32-at .ensures)
     (on-check _ _ _ (lt-ltb _ _ (c .before .before .if2 .taken))
-    (on-check _ _ _ (eq-eqb _ _ (c .if3 .taken ∙ c .before .operand-count .ensures)) refl))))
+    (off-check _ _ _ (ne-eqb _ _ (λ e. c .if3 .left (e ∙ sym (c .before .operand-count .ensures))))))))
 
 returns-3 : tie.Need-returns-3
 unfolding named
 returns-3 c =
-    let n = c .before .before .before in
-    let k = n .before in
-    let t = k .before .before .before .before in
-    rw (← n .number-of .ensures)
-    (on-check _ _ _ (sym (t .before .is-text .ensures) ∙ t .if1 .taken)
-    (on-u32 _ (k .before .count .given .1) (k .before .before .before .u32-at .ensures)
-    (on-check _ _ _ (lt-ltb _ _ (c .before .before .if2 .taken))
-    (off-check _ _ _ (ne-eqb _ _ (λ e. c .if3 .left (e ∙ sym (c .before .operand-count .ensures))))))))
-
-returns-4 : tie.Need-returns-4
-unfolding named
-returns-4 c =
     let n = c .before in
     let k = n .before in
     let t = k .before .before .before .before in
@@ -71,6 +69,13 @@ returns-4 c =
     (on-check _ _ _ (sym (t .before .is-text .ensures) ∙ t .if1 .taken)
     (on-u32 _ (k .before .count .given .1) (k .before .before .before .u32-at .ensures)
     (off-check _ _ _ (le-ltb _ _ (c .if2 .left)))))
+
+returns-4 : tie.Need-returns-4
+unfolding named
+returns-4 c =
+    let t = c .before .before .before .before in
+    on-check _ _ _ (sym (t .before .is-text .ensures) ∙ t .if1 .taken)
+    (off-u32 _ (c .before .enum-told .given .1) (c .before .before .before .u32-at .ensures) (c .u32-refusal .ensures))
 
 returns-5 : tie.Need-returns-5
 unfolding named
@@ -82,10 +87,11 @@ named-at-spec =
     (tie.spec
     is-text-requires
     u32-at-requires
-    enum-known-e
     enum-known-count
     number-of-requires
     operand-count-requires
+    enum-told
+    u32-refusal-requires
     returns
     returns-2
     returns-3

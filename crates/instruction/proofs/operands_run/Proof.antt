@@ -4,12 +4,14 @@ use Rattle.fields.specs.Parse.{many, span}
 use Rattle.fields.proofs.Many.{run-end, run-next, run-stop}
 use Rattle.pod.specs.Layout.{operand}
 use Rattle.pod.specs.Answers.{of-operand}
+use Rattle.fields.proofs.Steps.{handed}
 use borrow.Author.Needs.{needs}
 use Rattle.instruction.proofs.operands_run.Statement.{statement}
 use Rattle.instruction.proofs.operands_run.Tie as tie
 use Rattle.instruction.proofs.operands_run.Reads as reads
 use Rattle.instruction.proofs.operands_run.Lts as lts
 use Rattle.pod.proofs.operand_at.Reads as operand-at-reads
+use Rattle.pod.proofs.operand_refusal.Reads as operand-refusal-reads
 
 abbrev Inv-loop : tie.InvT-loop
 Inv-loop s at count left₀ o₀ left o = span (many operand left s o) ≡ span (many operand count s at)
@@ -23,16 +25,20 @@ loop-holds c = search needs
 operand-at-requires : tie.Need-operand-at-requires Inv-loop μ-loop
 operand-at-requires c κs = search needs
 
-enum-known-e : tie.Need-enum-known-e Inv-loop μ-loop
-enum-known-e c = search needs
+enum-known-operand : tie.Need-enum-known-operand Inv-loop μ-loop
+enum-known-operand c = search needs
+
+enum-told : tie.Need-enum-told Inv-loop μ-loop
+enum-told c = search needs
+
+operand-refusal-requires : tie.Need-operand-refusal-requires Inv-loop μ-loop
+operand-refusal-requires c κs = search needs
 
 returns : tie.Need-returns Inv-loop μ-loop
 returns c =
     let d = c .before .before .before in
-    run-stop operand _ _ _ (d .before .before .loop .inv) (d .before .loop-test .taken) (sym (d .operand-at .ensures) ∙ ap of-operand (c .before .e .given .1))
-
-enum-known-n : tie.Need-enum-known-n Inv-loop μ-loop
-enum-known-n c = search needs
+    run-stop operand _ _ _ (d .before .before .loop .inv) (d .before .loop-test .taken)
+    (sym (handed (ap of-operand (c .before .enum-told .given .1)) (d .operand-at .ensures) (c .operand-refusal .ensures)))
 
 sub-left : tie.Need-sub-left Inv-loop μ-loop
 sub-left c = search needs
@@ -43,7 +49,7 @@ loop-less c = search needs
 loop-again : tie.Need-loop-again Inv-loop μ-loop
 loop-again c =
     let d = c .before .before .before in
-    run-next operand _ _ _ (d .before .before .loop .inv) (d .before .loop-test .taken) (sym (d .operand-at .ensures) ∙ ap of-operand (c .before .n .given .1))
+    run-next operand _ _ _ (d .before .before .loop .inv) (d .before .loop-test .taken) (sym (d .operand-at .ensures) ∙ ap of-operand (c .before .operand .given .1))
 
 returns-2 : tie.Need-returns-2 Inv-loop μ-loop
 returns-2 c = run-end operand _ _ _ (c .before .loop .inv) (c .loop-test .left)
@@ -56,9 +62,10 @@ operands-run-spec =
     μ-loop
     loop-holds
     operand-at-requires
-    enum-known-e
+    enum-known-operand
+    enum-told
+    operand-refusal-requires
     returns
-    enum-known-n
     sub-left
     loop-less
     loop-again

@@ -1,6 +1,6 @@
 -- The quick lookup: where the entry found has the name's own key, it is that name.
 use native.Mathlib.Omega.{arith}
-use mathlib.Core.Path.{_≡_, sym, _∙_, ap}
+use mathlib.Core.Path.{_∙_}
 use Prim.Native.Nat.{_+_, _*_}
 use Rattle.op.proofs.Packed.{low-below, known, hash-fits}
 use borrow.Author.Needs.{needs}

@@ -1,8 +1,7 @@
 -- Whether bytes are text. The loop keeps that what is left goes on as text exactly where the whole is text.
-use mathlib.Core.Path.{refl, subst}
-use Rattle.op.specs.declared.Due.{Due}
-use mathlib.Core.Path.{_≡_, sym, _∙_, ap}
-use Prim.Native.Nat.{_-_, _≤_, _<_, _+_}
+use mathlib.Core.Path.{refl}
+use mathlib.Core.Path.{_≡_}
+use Prim.Native.Nat.{_-_}
 use lib.ListN.{length, drop}
 use Rattle.op.specs.Text.{text, is-text}
 use Rattle.op.proofs.Text.{text-end, text-bad, text-next}

@@ -1,7 +1,6 @@
 -- The lowest bytes of a number: by the arms.
 use native.Mathlib.Omega.{arith}
-use mathlib.Core.Path.{_≡_, ap}
-use borrow.Author.Needs.{needs}
+use mathlib.Core.Path.{_≡_}
 use Rattle.op.proofs.low.Statement.{statement}
 use Rattle.op.proofs.low.Tie as tie
 use Rattle.op.proofs.low.Reads as reads

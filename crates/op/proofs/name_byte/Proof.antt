@@ -1,7 +1,7 @@
 -- A byte of a name: the table is its rule computed over all entries.
 use Prim.Native.Nat.{ℕ, _+_, _*_, _/_, _%_}
 use mathlib.Core.Path.{_≡_, _∙_, ap₂}
-use mathlib.Core.List.{List, []}
+use mathlib.Core.List.{[]}
 use native.Mathlib.Omega.{arith}
 use lib.ListN.{getD}
 use Rattle.op.specs.Ops.{names}

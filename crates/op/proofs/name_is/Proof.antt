@@ -6,7 +6,7 @@ use Prim.Native.Nat.{ℕ, _≤_, _<_, _-_}
 use native.Mathlib.Omega.{arith}
 use lib.ListN.{length, getD}
 use lib.Seq.{ext-getD}
-use borrow.Author.Count.{below-more, below-none}
+use borrow.Author.Count.{below-more}
 use Rattle.op.specs.Ops.{names}
 use borrow.Author.Needs.{needs}
 use Rattle.op.proofs.name_is.Statement.{statement}

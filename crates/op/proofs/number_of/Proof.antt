@@ -1,6 +1,6 @@
 -- The number of a name. The loop keeps that no operation passed has it.
 use Rattle.op.proofs.Same.{found-at, passed-at, passed-all, names-many}
-use mathlib.Core.Path.{_≡_, sym, _∙_, ap}
+use mathlib.Core.Path.{_≡_, sym, _∙_}
 use Prim.Native.Nat.{_≤_, _-_, _+_}
 use native.Mathlib.Omega.{arith}
 use lib.ListN.{drop}

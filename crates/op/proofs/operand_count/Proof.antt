@@ -1,7 +1,7 @@
 -- An operand count: the table is its rule computed over all entries.
 use Prim.Native.Nat.{ℕ}
 use mathlib.Core.Path.{sym}
-use lib.ListN.{length, getD, List·getD-eq-default}
+use lib.ListN.{getD, List·getD-eq-default}
 use Rattle.op.specs.Ops.{counts}
 use Rattle.op.proofs.Table.{entry}
 use borrow.Author.Needs.{needs}

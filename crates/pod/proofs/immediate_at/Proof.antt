@@ -1,7 +1,5 @@
 -- An immediate: what each field found decides how the definition goes on.
 use Rattle.fields.proofs.Steps.{steps}
-use mathlib.Core.Path.{_∙_, sym, ap}
-use Rattle.fields.specs.Answers.{of-u32, of-u64}
 use Rattle.pod.specs.Layout.{immediate}
 use borrow.Author.Needs.{needs}
 use Rattle.pod.proofs.immediate_at.Statement.{statement}
@@ -10,12 +8,11 @@ use Rattle.pod.proofs.immediate_at.Reads as reads
 use Rattle.pod.proofs.immediate_at.Lts as lts
 use Rattle.fields.proofs.u32_at.Reads as u32-at-reads
 use Rattle.fields.proofs.u64_at.Reads as u64-at-reads
+use Rattle.fields.proofs.u32_refusal.Reads as u32-refusal-reads
+use Rattle.fields.proofs.u64_refusal.Reads as u64-refusal-reads
 
 u64-at-requires : tie.Need-u64-at-requires
 u64-at-requires c κs = search needs
-
-enum-known-e : tie.Need-enum-known-e
-enum-known-e c = search needs
 
 enum-known-value : tie.Need-enum-known-value
 enum-known-value c = search needs
@@ -23,11 +20,20 @@ enum-known-value c = search needs
 u32-at-requires : tie.Need-u32-at-requires
 u32-at-requires c κs = search needs
 
-enum-known-e-2 : tie.Need-enum-known-e-2
-enum-known-e-2 c = search needs
-
 enum-known-width : tie.Need-enum-known-width
 enum-known-width c = search needs
+
+enum-told : tie.Need-enum-told
+enum-told c = search needs
+
+u32-refusal-requires : tie.Need-u32-refusal-requires
+u32-refusal-requires c κs = search needs
+
+enum-told-2 : tie.Need-enum-told-2
+enum-told-2 c = search needs
+
+u64-refusal-requires : tie.Need-u64-refusal-requires
+u64-refusal-requires c κs = search needs
 
 returns : tie.Need-returns
 unfolding immediate
@@ -46,11 +52,13 @@ immediate-at-spec =
     tie.close
     (tie.spec
     u64-at-requires
-    enum-known-e
     enum-known-value
     u32-at-requires
-    enum-known-e-2
     enum-known-width
+    enum-told
+    u32-refusal-requires
+    enum-told-2
+    u64-refusal-requires
     returns
     returns-2
     returns-3)

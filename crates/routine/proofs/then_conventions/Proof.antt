@@ -8,15 +8,13 @@ use Rattle.routine.proofs.then_conventions.Reads as reads
 use Rattle.routine.proofs.then_conventions.Lts as lts
 use Rattle.fields.proofs.u32_at.Reads as u32-at-reads
 use Rattle.routine.proofs.conventions_run.Reads as conventions-run-reads
+use Rattle.fields.proofs.u32_refusal.Reads as u32-refusal-reads
 
 enum-known-far : tie.Need-enum-known-far
 enum-known-far c = search needs
 
 u32-at-requires : tie.Need-u32-at-requires
 u32-at-requires c κs = search needs
-
-enum-known-e : tie.Need-enum-known-e
-enum-known-e c = search needs
 
 enum-known-count : tie.Need-enum-known-count
 enum-known-count c = search needs
@@ -26,6 +24,12 @@ conventions-run-requires c κs = search needs
 
 enum-told : tie.Need-enum-told
 enum-told c = search needs
+
+u32-refusal-requires : tie.Need-u32-refusal-requires
+u32-refusal-requires c κs = search needs
+
+enum-told-2 : tie.Need-enum-told-2
+enum-told-2 c = search needs
 
 returns : tie.Need-returns
 returns c = search (needs, skips, far-past)
@@ -42,10 +46,11 @@ then-conventions-spec =
     (tie.spec
     enum-known-far
     u32-at-requires
-    enum-known-e
     enum-known-count
     conventions-run-requires
     enum-told
+    u32-refusal-requires
+    enum-told-2
     returns
     returns-2
     returns-3)

@@ -8,6 +8,7 @@ use Rattle.routine.proofs.then_machine.Tie as tie
 use Rattle.routine.proofs.then_machine.Reads as reads
 use Rattle.routine.proofs.then_machine.Lts as lts
 use Rattle.fields.proofs.u8_at.Reads as u8-at-reads
+use Rattle.fields.proofs.u8_refusal.Reads as u8-refusal-reads
 
 enum-known-far : tie.Need-enum-known-far
 enum-known-far c = search needs
@@ -15,14 +16,17 @@ enum-known-far c = search needs
 u8-at-requires : tie.Need-u8-at-requires
 u8-at-requires c κs = search needs
 
-enum-known-e : tie.Need-enum-known-e
-enum-known-e c = search needs
-
 enum-known-machine : tie.Need-enum-known-machine
 enum-known-machine c = search needs
 
 enum-told : tie.Need-enum-told
 enum-told c = search needs
+
+u8-refusal-requires : tie.Need-u8-refusal-requires
+u8-refusal-requires c κs = search needs
+
+enum-told-2 : tie.Need-enum-told-2
+enum-told-2 c = search needs
 
 returns : tie.Need-returns
 unfolding machine-byte
@@ -45,9 +49,10 @@ then-machine-spec =
     (tie.spec
     enum-known-far
     u8-at-requires
-    enum-known-e
     enum-known-machine
     enum-told
+    u8-refusal-requires
+    enum-told-2
     returns
     returns-2
     returns-3

@@ -8,6 +8,7 @@ use Rattle.routine.proofs.then_mark.Tie as tie
 use Rattle.routine.proofs.then_mark.Reads as reads
 use Rattle.routine.proofs.then_mark.Lts as lts
 use Rattle.fields.proofs.uint_at.Reads as uint-at-reads
+use Rattle.fields.proofs.u64_refusal.Reads as u64-refusal-reads
 
 enum-known-far : tie.Need-enum-known-far
 enum-known-far c = search needs
@@ -15,14 +16,17 @@ enum-known-far c = search needs
 uint-at-requires : tie.Need-uint-at-requires
 uint-at-requires c κs = search needs
 
-enum-known-e : tie.Need-enum-known-e
-enum-known-e c = search needs
-
-enum-known-v : tie.Need-enum-known-v
-enum-known-v c = search needs
+enum-known-field : tie.Need-enum-known-field
+enum-known-field c = search needs
 
 enum-told : tie.Need-enum-told
 enum-told c = search needs
+
+u64-refusal-requires : tie.Need-u64-refusal-requires
+u64-refusal-requires c κs = search needs
+
+enum-told-2 : tie.Need-enum-told-2
+enum-told-2 c = search needs
 
 returns : tie.Need-returns
 unfolding marked
@@ -45,9 +49,10 @@ then-mark-spec =
     (tie.spec
     enum-known-far
     uint-at-requires
-    enum-known-e
-    enum-known-v
+    enum-known-field
     enum-told
+    u64-refusal-requires
+    enum-told-2
     returns
     returns-2
     returns-3

@@ -17,32 +17,32 @@ ends c = sym (ap of-skip (c .before .end .given .1)) ∙ c .before .before .befo
 block-skip-requires : tie.Need-block-skip-requires
 block-skip-requires c κs = search needs
 
-enum-told : tie.Need-enum-told
-enum-told c = search needs
-
 enum-known-end : tie.Need-enum-known-end
 enum-known-end c = search needs
 
 eight-requires : tie.Need-eight-requires
 eight-requires c κs = let k = c .before in omega (arith, W.long-enough 0 _ (k .before .before .before .before .shared-slice-known .given) (ends k) (c .if1 .taken))
 
+enum-told : tie.Need-enum-told
+enum-told c = search needs
+
 returns : tie.Need-returns
-returns c = W.not-read _ _ (sym (ap of-skip (c .enum-told .given .1)) ∙ c .before .before .block-skip .ensures)
+returns c = let e = c .before in let k = e .before .before in W.by-vip _ _ (k .before .before .before .before .shared-slice-known .given) (ends k) (e .before .if1 .taken) _ (e .eight .ensures)
 
 returns-2 : tie.Need-returns-2
-returns-2 c = let e = c .before in let k = e .before .before in W.by-vip _ _ (k .before .before .before .before .shared-slice-known .given) (ends k) (e .before .if1 .taken) _ (e .eight .ensures)
+returns-2 c = W.not-all _ _ (ends (c .before)) (c .if1 .left)
 
 returns-3 : tie.Need-returns-3
-returns-3 c = W.not-all _ _ (ends (c .before)) (c .if1 .left)
+returns-3 c = W.not-read _ _ (sym (ap of-skip (c .enum-told .given .1)) ∙ c .before .before .block-skip .ensures)
 
 pub is-block-spec : {M : Type 1} → statement M
 is-block-spec =
     tie.close
     (tie.spec
     block-skip-requires
-    enum-told
     enum-known-end
     eight-requires
+    enum-told
     returns
     returns-2
     returns-3)

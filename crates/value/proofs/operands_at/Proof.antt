@@ -13,6 +13,7 @@ use Rattle.pod.specs.Descs.{places}
 use Rattle.pod.specs.declared.Operand.{Operand}
 use Rattle.value.specs.Answers.{operands-read}
 use Rattle.value.proofs.Gather.{Got, got-none, got-more, got-stop, got-all}
+use Rattle.fields.proofs.Steps.{handed}
 use borrow.Author.Needs.{needs}
 use Rattle.value.proofs.operands_at.Statement.{statement}
 use Rattle.value.proofs.operands_at.Tie as tie
@@ -21,6 +22,7 @@ use Rattle.value.proofs.operands_at.Lts as lts
 use Rattle.pod.proofs.operand_at.Reads as operand-at-reads
 use Rattle.value.proofs.operand_desc.Reads as operand-desc-reads
 use Rattle.value.proofs.unused_place.Reads as unused-place-reads
+use Rattle.pod.proofs.operand_refusal.Reads as operand-refusal-reads
 
 abbrev Inv-loop : tie.InvT-loop
 Inv-loop s at count none p₀ i₀ o₀ p i o = (xs : List Operand) × (length xs ≡ i) × (i ≤ count) × (p ≡ places xs) × Got operand count s at xs i o
@@ -37,19 +39,8 @@ loop-holds c = ([], refl, omega arith, places-none _ (c .unused-place .ensures),
 operand-at-requires : tie.Need-operand-at-requires Inv-loop μ-loop
 operand-at-requires c κs = search needs
 
-enum-known-e : tie.Need-enum-known-e Inv-loop μ-loop
-enum-known-e c = search needs
-
-returns : tie.Need-returns Inv-loop μ-loop
-unfolding operands-read
-returns c =
-    let d = c .before .before .before in
-    let l = d .before .before .loop in
-    let e = got-stop operand _ _ _ (l .inv .0) _ _ (l .inv .4) (d .before .loop-test .taken) (sym (d .operand-at .ensures) ∙ ap of-operand (c .before .e .given .1)) in
-    rw (e, places-none _ (d .before .before .before .unused-place .ensures))
-
-enum-known-x : tie.Need-enum-known-x Inv-loop μ-loop
-enum-known-x c = search needs
+enum-known-operand : tie.Need-enum-known-operand Inv-loop μ-loop
+enum-known-operand c = search needs
 
 operand-desc-requires : tie.Need-operand-desc-requires Inv-loop μ-loop
 operand-desc-requires c κs = search needs
@@ -59,6 +50,21 @@ mul-p c = omega arith
 
 array-set-from-p : tie.Need-array-set-from-p Inv-loop μ-loop
 array-set-from-p c = omega arith
+
+enum-told : tie.Need-enum-told Inv-loop μ-loop
+enum-told c = search needs
+
+operand-refusal-requires : tie.Need-operand-refusal-requires Inv-loop μ-loop
+operand-refusal-requires c κs = search needs
+
+returns : tie.Need-returns Inv-loop μ-loop
+unfolding operands-read
+returns c =
+    let d = c .before .before .before in
+    let l = d .before .before .loop in
+    let e = got-stop operand _ _ _ (l .inv .0) _ _ (l .inv .4) (d .before .loop-test .taken)
+    (sym (handed (ap of-operand (c .before .enum-told .given .1)) (d .operand-at .ensures) (c .operand-refusal .ensures))) in
+    rw (e, places-none _ (d .before .before .before .unused-place .ensures))
 
 add-i : tie.Need-add-i Inv-loop μ-loop
 add-i c = search needs
@@ -71,13 +77,13 @@ loop-again c =
     let v = c .before in
     let d = v .before .before .before in
     let l = d .before .before .loop in
-    let x = v .before .x .given .0 .0 in
+    let x = v .before .operand .given .0 .0 in
     let h : length (l .inv .0) ≡ l .i = l .inv .1 in (
       l .inv .0 ++ x ∷ [],
       length-append (l .inv .0) (x ∷ []) ∙ omega arith,
       omega arith,
       rw (c .operand-desc .ensures, l .inv .3, ← h) (places-set (l .inv .0) x (omega arith)),
-      got-more operand _ _ _ (l .inv .0) _ _ (l .inv .4) (d .before .loop-test .taken) (sym (d .operand-at .ensures) ∙ ap of-operand (v .before .x .given .1)),
+      got-more operand _ _ _ (l .inv .0) _ _ (l .inv .4) (d .before .loop-test .taken) (sym (d .operand-at .ensures) ∙ ap of-operand (v .before .operand .given .1)),
     )
 
 returns-2 : tie.Need-returns-2 Inv-loop μ-loop
@@ -96,12 +102,13 @@ operands-at-spec =
     unused-place-requires
     loop-holds
     operand-at-requires
-    enum-known-e
-    returns
-    enum-known-x
+    enum-known-operand
     operand-desc-requires
     mul-p
     array-set-from-p
+    enum-told
+    operand-refusal-requires
+    returns
     add-i
     loop-less
     loop-again

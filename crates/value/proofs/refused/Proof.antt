@@ -1,7 +1,6 @@
 -- `value::refused` meets its contract: zeros, and three unused places.
 -- Assumes nothing.
 use Rattle.value.proofs.Places.{places-none}
-use Rattle.pod.specs.Descs.{places}
 use Rattle.value.specs.Answers.{instruction-read}
 use borrow.Author.Needs.{needs}
 use Rattle.value.proofs.refused.Statement.{statement}

@@ -1,6 +1,6 @@
 -- The loop keeps that the operands that are left lead to where all lead, with room for each and for the fields after them.
 use native.Mathlib.Omega.{arith}
-use mathlib.Core.Path.{_≡_, refl, sym, _∙_}
+use mathlib.Core.Path.{_≡_, refl}
 use Prim.Native.Nat.{_+_, _*_, _≤_}
 use lib.ListN.{length}
 use Rattle.walk.specs.Ends.{times, operandEnd}

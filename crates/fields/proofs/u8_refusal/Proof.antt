@@ -1,0 +1,31 @@
+-- The refusal that the answer has, taken out of it, or 0.
+-- Assumes nothing.
+use mathlib.Core.Path.{ap}
+use Rattle.fields.specs.Answers.{of-u8}
+use Rattle.fields.proofs.Steps.{refusal-is, refusal-none}
+use borrow.Author.Needs.{needs}
+use Rattle.fields.proofs.u8_refusal.Statement.{statement}
+use Rattle.fields.proofs.u8_refusal.Tie as tie
+use Rattle.fields.proofs.u8_refusal.Reads as reads
+use Rattle.fields.proofs.u8_refusal.Lts as lts
+
+enum-known-field : tie.Need-enum-known-field
+enum-known-field c = search needs
+
+enum-told : tie.Need-enum-told
+enum-told c = search needs
+
+returns : tie.Need-returns
+returns c = refusal-is (ap of-u8 (c .before .field .given .1))
+
+returns-2 : tie.Need-returns-2
+returns-2 c = refusal-none (ap of-u8 (c .enum-told .given .1))
+
+pub u8-refusal-spec : {M : Type 1} → statement M
+u8-refusal-spec =
+    tie.close
+    (tie.spec
+    enum-known-field
+    enum-told
+    returns
+    returns-2)
