@@ -8,7 +8,7 @@ use fields::U32Read;
 use fields::U64Read;
 
 // `count` instructions.
-pub fn instructions_run(s: &[u8], at: usize, count: u32, exact: bool) -> Skip
+fn instructions_run(s: &[u8], at: usize, count: u32, exact: bool) -> Skip
     ensures { λ r. ⌜ of-skip r ≡ span (many (instruction exact) count (now (s .entry)) at) ⌝ }
 {
     let mut left = count;
@@ -26,7 +26,7 @@ pub fn instructions_run(s: &[u8], at: usize, count: u32, exact: bool) -> Skip
 }
 
 // `count` vips. Nothing is asked of a vip but its 8 bytes, so all are passed over at once.
-pub fn vips_run(s: &[u8], at: usize, count: u32) -> Skip
+fn vips_run(s: &[u8], at: usize, count: u32) -> Skip
     ensures { λ r. ⌜ of-skip r ≡ span (many u64 count (now (s .entry)) at) ⌝ }
 {
     if count == 0 {
@@ -40,7 +40,7 @@ pub fn vips_run(s: &[u8], at: usize, count: u32) -> Skip
     }
 }
 
-pub fn then_instructions(s: &[u8], far: Skip, exact: bool) -> Skip
+fn then_instructions(s: &[u8], far: Skip, exact: bool) -> Skip
     ensures { λ r. ⌜ of-skip r ≡ bind (of-skip far) (λ _ n. span (counted (instruction exact) (now (s .entry)) n)) ⌝ }
 {
     if let Skip::Past(at) = far {
@@ -55,7 +55,7 @@ pub fn then_instructions(s: &[u8], far: Skip, exact: bool) -> Skip
     }
 }
 
-pub fn then_vips(s: &[u8], far: Skip) -> Skip
+fn then_vips(s: &[u8], far: Skip) -> Skip
     ensures { λ r. ⌜ of-skip r ≡ bind (of-skip far) (λ _ n. span (counted u64 (now (s .entry)) n)) ⌝ }
 {
     if let Skip::Past(at) = far {

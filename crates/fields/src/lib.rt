@@ -4,9 +4,9 @@ ghost use mir.Syntax.{w32, w64};
 ghost use Prim.Native.Nat.{_+_, _≤_};
 ghost use lib.ListN.{length, take, drop};
 ghost use lib.Dec.{leb};
-ghost use Rattle.fields.specs.Parse.{le, int, uint, bind, span, taken, pad, flag, u8, u16, u32, u64, i32, i64, refusal-in};
+ghost use Rattle.fields.specs.Parse.{le, int, uint, bind, span, taken, pad, flag, u8, u32, u64, i32, i64, refusal-in};
 ghost use Rattle.fields.specs.Bounded.{bounded};
-ghost use Rattle.fields.specs.Answers.{of-skip, of-u8, of-u16, of-u32, of-u64, of-i32, of-i64};
+ghost use Rattle.fields.specs.Answers.{of-skip, of-u8, of-u32, of-u64, of-i32, of-i64};
 
 // The refusals of document 01's table.
 pub const SHORT_FILE: u8 = 1;
@@ -48,11 +48,6 @@ pub const MOST_LENT: usize = 16_777_216;
 
 pub enum U8Read {
     Value(u8, usize),
-    Refused(u8),
-}
-
-pub enum U16Read {
-    Value(u16, usize),
     Refused(u8),
 }
 
@@ -136,7 +131,7 @@ pub fn skip_refusal(far: Skip) -> u8
     if let Skip::Refused(e) = far { e } else { 0 }
 }
 
-// A number of `k` bytes. It is pub for the crates above, which ask for 1 to 8 bytes.
+// A number of `k` bytes. It is pub for the header's marks, of 4 and 2.
 pub fn uint_at(s: &[u8], at: usize, k: usize) -> U64Read
     requires { ⌜ k ≤ 8 ⌝ }
     ensures { λ r. ⌜ of-u64 r ≡ uint k (now (s .entry)) at ⌝ }
@@ -167,20 +162,9 @@ pub fn u8_at(s: &[u8], at: usize) -> U8Read
     }
 }
 
-pub fn u16_at(s: &[u8], at: usize) -> U16Read
-    ensures { λ r. ⌜ of-u16 r ≡ u16 (now (s .entry)) at ⌝ }
-{
-    let field = uint_at(s, at, 2);
-    if let U64Read::Value(v, n) = field {
-        U16Read::Value(v as u16, n)
-    } else {
-        U16Read::Refused(u64_refusal(field))
-    }
-}
-
-// The number of the 2, 4 and 8 bytes from `at`: without a loop, so that each is one load. They are pub for the quick ways above, which have tested
-// one length for all that they load.
-pub fn two(s: &[u8], at: usize) -> u64
+// The number of the 2, 4 and 8 bytes from `at`: without a loop, so that each is one load. Those of 4 and 8 are pub for the quick ways above, which have
+// tested one length for all that they load.
+fn two(s: &[u8], at: usize) -> u64
     requires { ⌜ at + 2 ≤ length (now s) ⌝ }
     ensures { λ r. ⌜ r ≡ le 2 (now (s .entry)) at ⌝ }
 {

@@ -67,7 +67,7 @@ pub fn op_at(s: &[u8], at: usize) -> OpRead
 }
 
 // `count` operands.
-pub fn operands_run(s: &[u8], at: usize, count: u32) -> Skip
+fn operands_run(s: &[u8], at: usize, count: u32) -> Skip
     ensures { λ r. ⌜ of-skip r ≡ span (many operand count (now (s .entry)) at) ⌝ }
 {
     let mut left = count;

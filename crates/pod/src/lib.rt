@@ -62,7 +62,7 @@ pub enum RegisterRead {
     Refused(u8),
 }
 
-pub enum ImmediateRead {
+enum ImmediateRead {
     Value(ImmediateDesc, usize),
     Refused(u8),
 }
@@ -84,7 +84,7 @@ pub fn register_refusal(register: RegisterRead) -> u8
     }
 }
 
-pub fn immediate_refusal(immediate: ImmediateRead) -> u8
+fn immediate_refusal(immediate: ImmediateRead) -> u8
     ensures { λ r. ⌜ r ≡ refusal-in (of-immediate immediate) ⌝ }
 {
     if let ImmediateRead::Refused(e) = immediate {
@@ -104,7 +104,7 @@ pub fn operand_refusal(operand: OperandRead) -> u8
     }
 }
 
-pub fn immediate_at(s: &[u8], at: usize) -> ImmediateRead
+fn immediate_at(s: &[u8], at: usize) -> ImmediateRead
     ensures { λ r. ⌜ of-immediate r ≡ immediate (now (s .entry)) at ⌝ }
 {
     let value = fields::u64_at(s, at);
@@ -222,7 +222,7 @@ pub fn operand_quick(s: &[u8], at: usize) -> usize
 }
 
 // `count` registers.
-pub fn registers_run(s: &[u8], at: usize, count: u32) -> Skip
+fn registers_run(s: &[u8], at: usize, count: u32) -> Skip
     ensures { λ r. ⌜ of-skip r ≡ span (many register count (now (s .entry)) at) ⌝ }
 {
     let mut left = count;

@@ -17,7 +17,7 @@ const VTIL_MAGIC_1: u64 = 0x4c49_5456;
 
 const VTIL_MAGIC_2: u64 = 0xdead;
 
-// A number of `k` bytes, at most 4, that must be `mark`, after what was passed over so far.
+// A number of `k` bytes, 4 or 2, that must be `mark`, after what was passed over so far.
 fn then_mark(s: &[u8], far: Skip, k: usize, mark: u64) -> Skip
     requires { ⌜ k ≤ 8 ⌝ }
     ensures { λ r. ⌜ of-skip r ≡ bind (of-skip far) (λ _ n. marked k mark (now (s .entry)) n) ⌝ }

@@ -30,14 +30,14 @@ pub struct OperandsRead {
 }
 
 // The fields after the operands, as they come.
-pub struct Tail {
+struct Tail {
     pub vip: Vip,
     pub sp_offset: i64,
     pub sp_index: u32,
     pub sp_reset: u8,
 }
 
-pub enum TailRead {
+enum TailRead {
     Value(Tail, usize),
     Refused(u8),
 }
@@ -50,7 +50,7 @@ pub struct InstructionRead {
 }
 
 // An operand in its place.
-pub fn operand_desc(x: Operand) -> OperandDesc
+fn operand_desc(x: Operand) -> OperandDesc
     ensures { λ r. ⌜ r ≡ operand-desc x ⌝ }
 {
     match x {
@@ -75,7 +75,7 @@ pub fn operand_desc(x: Operand) -> OperandDesc
     }
 }
 
-// An unused place: immediate 0, and its width.
+// An unused place: immediate 0 of width 0.
 fn unused_place() -> OperandDesc
     ensures { λ r. ⌜ r ≡ unused ⌝ }
 {
@@ -160,7 +160,7 @@ fn sp_at(s: &[u8], at: usize, vip: u64, offset: i64) -> TailRead
 }
 
 // The fields after the operands.
-pub fn tail_at(s: &[u8], at: usize) -> TailRead
+fn tail_at(s: &[u8], at: usize) -> TailRead
     ensures { λ r. ⌜ of-tail r ≡ tail (now (s .entry)) at ⌝ }
 {
     let vip = fields::u64_at(s, at);

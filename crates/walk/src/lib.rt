@@ -51,7 +51,7 @@ pub fn word64(s: &[u8], at: usize) -> u64
 }
 
 // The end of the operand at `at`: its kind, then an immediate of 12 bytes or a register of 24.
-pub fn operand_end(s: &[u8], at: usize) -> usize
+fn operand_end(s: &[u8], at: usize) -> usize
     ensures { λ r. ⌜ r ≡ operandEnd (now (s .entry)) at ⌝ }
 {
     let a = jump(s, at, 4);
