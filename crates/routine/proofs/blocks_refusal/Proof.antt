@@ -1,4 +1,4 @@
--- The refusal is that of the answer taken apart; an answer that is none leaves it free.
+-- The refusal that the answer has, taken out of it; of blocks that were passed over nothing is asked.
 -- Assumes nothing.
 use mathlib.Core.Path.{ap}
 use Rattle.routine.specs.Rising.{of-blocks}
