@@ -77,8 +77,10 @@ pub fn open(file: &[u8], image: &mut [u8], journal: &mut [u8]) -> Answer
     if let Skip::Past(n) = routine::routine_skip(file, 0, true) {
         return fill(file, image, journal, n, true);
     }
-    match routine::routine_skip(file, 0, false) {
-        Skip::Refused(e) => refused(e as u64),
-        Skip::Past(n) => fill(file, image, journal, n, false),
+    let far = routine::routine_skip(file, 0, false);
+    if let Skip::Past(n) = far {
+        fill(file, image, journal, n, false)
+    } else {
+        refused(fields::skip_refusal(far) as u64)
     }
 }

@@ -46,9 +46,11 @@ pub extern "C" fn vtil_check(file: &[u8]) -> i64
     if file.len() > MOST_LENGTH {
         return 0 - (fields::LENDING_TOO_LARGE as i64);
     }
-    match reader::pass_file(file) {
-        Skip::Past(n) => signed(n),
-        Skip::Refused(e) => 0 - (e as i64),
+    let far = reader::pass_file(file);
+    if let Skip::Past(n) = far {
+        signed(n)
+    } else {
+        0 - (fields::skip_refusal(far) as i64)
     }
 }
 

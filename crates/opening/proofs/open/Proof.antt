@@ -4,6 +4,7 @@ use mathlib.Core.Path.{_≡_, sym, ap, _∙_}
 use mathlib.Core.Bool.{true, false}
 use Rattle.fields.specs.Parse.{ok, no, span}
 use Rattle.fields.specs.Answers.{of-skip}
+use Rattle.fields.proofs.Steps.{handed}
 use Rattle.pod.specs.Layout.{routine}
 use Rattle.opening.proofs.Openings.{passed, ends, image-long, journal-long, lent-well, unread, read-written, some-refusal}
 use borrow.Author.Needs.{needs}
@@ -14,11 +15,11 @@ use Rattle.opening.proofs.open.Tie as tie
 exact-past : (k : tie.After-n) → ok tt (k .n .given .0 .0) ≡ span (routine true (k .before .before .before .before .before .before .before .before .args .file .now) 0)
 exact-past k = sym (ap of-skip (k .n .given .1)) ∙ k .before .before .routine-skip .ensures
 
-past : (k : tie.After-n2) → ok tt (k .n2 .given .0 .0) ≡ span (routine false (k .before .before .before .before .before .before .before .before .before .before .before .args .file .now) 0)
-past k = sym (ap of-skip (k .n2 .given .1)) ∙ k .before .before .routine-skip2 .ensures
+past : (k : tie.After-far) → ok tt (k .far .given .0 .0) ≡ span (routine false (k .before .before .before .before .before .before .before .before .before .before .before .args .file .now) 0)
+past k = sym (ap of-skip (k .far .given .1)) ∙ k .before .before .routine-skip2 .ensures
 
-refusal : (k : tie.After-e) → no (k .e .given .0 .0) ≡ span (routine false (k .before .before .before .before .before .before .before .before .before .before .before .args .file .now) 0)
-refusal k = sym (ap of-skip (k .e .given .1)) ∙ k .before .before .routine-skip2 .ensures
+refusal : (k : tie.After-skip-refusal) → no (k .skip-refusal .result) ≡ span (routine false (k .before .before .before .before .before .before .before .before .before .before .before .before .args .file .now) 0)
+refusal k = handed (ap of-skip (k .before .enum-told2 .given .1)) (k .before .before .before .routine-skip2 .ensures) (k .skip-refusal .ensures)
 
 refused-requires : tie.Need-refused-requires
 refused-requires c κs = search needs
@@ -63,8 +64,17 @@ enum-told c = search needs
 routine-skip-requires-2 : tie.Need-routine-skip-requires-2
 routine-skip-requires-2 c κs = search needs
 
-enum-known-e : tie.Need-enum-known-e
-enum-known-e c = search needs
+enum-known-far : tie.Need-enum-known-far
+enum-known-far c = search needs
+
+fill-requires-2 : tie.Need-fill-requires-2
+fill-requires-2 c κs = let n = c .before .before .before in ends false _ (n .before .before .before .before .before .before .before .before .before .before .shared-slice-known .given) (past n)
+
+enum-told-2 : tie.Need-enum-told-2
+enum-told-2 c = search needs
+
+skip-refusal-requires : tie.Need-skip-refusal-requires
+skip-refusal-requires c κs = search needs
 
 cast-refused : tie.Need-cast-refused
 cast-refused c = search needs
@@ -72,33 +82,27 @@ cast-refused c = search needs
 refused-requires-3 : tie.Need-refused-requires-3
 refused-requires-3 c κs = search needs
 
-enum-known-n-2 : tie.Need-enum-known-n-2
-enum-known-n-2 c = search needs
-
-fill-requires-2 : tie.Need-fill-requires-2
-fill-requires-2 c κs = let n = c .before .before .before in ends false _ (n .before .before .before .before .before .before .before .before .before .before .shared-slice-known .given) (past n)
-
-returns-4 : tie.Need-returns-4
-returns-4 c =
-    let e = c .before .before in
-    let lent = e .before .before .before .before .before .before in
-    let args = lent .before .before .before .before .before .args in
-    c .refused3 .ensures _ _ (some-refusal (args .file .now) (refusal e)) ∙ unread (args .file .now) (args .image .now) (args .journal .now) (lent .before .if1 .left) (lent .if2 .left) (refusal e)
-
 same-length-3 : tie.Need-same-length-3
 same-length-3 c = search needs
 
 same-length-4 : tie.Need-same-length-4
 same-length-4 c = search needs
 
-returns-5 : tie.Need-returns-5
-returns-5 c =
+returns-4 : tie.Need-returns-4
+returns-4 c =
     let call = c .before .before .before .before in
     let n = call .before .before .before .before in
     let lent = n .before .before .before .before .before .before in
     let args = lent .before .before .before .before .before .args in
     let p = passed false (args .file .now) (past n) in
     call .fill2 .ensures (p .0) (p .1) ∙ lent-well (args .file .now) (args .image .now) (args .journal .now) (lent .before .if1 .left) (lent .if2 .left) _ (p .1)
+
+returns-5 : tie.Need-returns-5
+returns-5 c =
+    let e = c .before in
+    let lent = e .before .before .before .before .before .before .before in
+    let args = lent .before .before .before .before .before .args in
+    c .refused3 .ensures _ _ (some-refusal (args .file .now) (refusal e)) ∙ unread (args .file .now) (args .image .now) (args .journal .now) (lent .before .if1 .left) (lent .if2 .left) (refusal e)
 
 pub open-spec : {M : Type 1} → statement M
 open-spec =
@@ -116,12 +120,13 @@ open-spec =
     returns-3
     enum-told
     routine-skip-requires-2
-    enum-known-e
+    enum-known-far
+    fill-requires-2
+    enum-told-2
+    skip-refusal-requires
     cast-refused
     refused-requires-3
-    enum-known-n-2
-    fill-requires-2
-    returns-4
     same-length-3
     same-length-4
+    returns-4
     returns-5)

@@ -4,6 +4,7 @@ use native.Mathlib.Omega.{arith}
 use mir.Syntax.{w64}
 use mir.ValLaws.{toZ-ofZ}
 use Rattle.fields.specs.Answers.{of-skip}
+use Rattle.fields.proofs.Steps.{handed}
 use Rattle.vtil.proofs.Told.{ends, told-ok, told-no, minus-fits, within-limit, over-limit}
 use borrow.Author.Needs.{needs}
 use Rattle.vtil.proofs.vtil_check.Statement.{statement}
@@ -25,33 +26,36 @@ returns c = over-limit _ (c .if1 .taken)
 pass-file-requires : tie.Need-pass-file-requires
 pass-file-requires c κs = search needs
 
-enum-known-n : tie.Need-enum-known-n
-enum-known-n c = search needs
+enum-known-far : tie.Need-enum-known-far
+enum-known-far c = search needs
 
 signed-requires : tie.Need-signed-requires
 signed-requires c κs =
     let w = c .before .before .before in
-    omega (arith, ends _ (w .before .before .shared-slice-known .given) (sym (ap of-skip (c .before .n .given .1)) ∙ w .pass-file .ensures))
+    omega (arith, ends _ (w .before .before .shared-slice-known .given) (sym (ap of-skip (c .before .far .given .1)) ∙ w .pass-file .ensures))
 
-enum-known-e : tie.Need-enum-known-e
-enum-known-e c = search needs
+enum-told : tie.Need-enum-told
+enum-told c = search needs
+
+skip-refusal-requires : tie.Need-skip-refusal-requires
+skip-refusal-requires c κs = search needs
 
 cast-result-2 : tie.Need-cast-result-2
 cast-result-2 c = search needs
 
 sub-result-2 : tie.Need-sub-result-2
-sub-result-2 c = minus-fits (c .before .e .given .0 .0) (omega arith)
+sub-result-2 c = minus-fits (c .skip-refusal .result) (omega arith)
 
 returns-2 : tie.Need-returns-2
 returns-2 c =
     let k = c .before in
     let w = k .before .before .before in
-    toZ-ofZ w64 _ (record { sfits = c .signed .ok }) ∙ c .signed .ensures ∙ told-ok _ (sym (ap of-skip (k .before .n .given .1)) ∙ w .pass-file .ensures) ∙ within-limit _ (w .before .if1 .left)
+    toZ-ofZ w64 _ (record { sfits = c .signed .ok }) ∙ c .signed .ensures ∙ told-ok _ (sym (ap of-skip (k .before .far .given .1)) ∙ w .pass-file .ensures) ∙ within-limit _ (w .before .if1 .left)
 
 returns-3 : tie.Need-returns-3
 returns-3 c =
     let w = c .before .before .before in
-    told-no _ (omega arith) (sym (ap of-skip (c .before .e .given .1)) ∙ w .pass-file .ensures) ∙ within-limit _ (w .before .if1 .left)
+    told-no _ (omega arith) (handed (ap of-skip (c .before .enum-told .given .1)) (w .pass-file .ensures) (c .skip-refusal .ensures)) ∙ within-limit _ (w .before .if1 .left)
 
 pub vtil-check-spec : {M : Type 1} → statement M
 vtil-check-spec =
@@ -61,9 +65,10 @@ vtil-check-spec =
     sub-result
     returns
     pass-file-requires
-    enum-known-n
+    enum-known-far
     signed-requires
-    enum-known-e
+    enum-told
+    skip-refusal-requires
     cast-result-2
     sub-result-2
     returns-2
