@@ -79,14 +79,14 @@ int64_t vtil_check(const uint8_t *file, size_t file_len);
 /* ==== Books: opening a file, writing an instruction, looking ====================== */
 
 /*
- * A book is a routine that is open for looking and editing. It has three parts,
- * all kept by the caller:
+ * A routine that is open for looking and editing has three parts, all kept by the
+ * caller:
  *
  *   image    lent memory that holds the routine's written form, then zeros. The
  *            written form is the routine as a file would hold it, with the pad 0
  *            and every flag 0 or 1. It is what to save.
  *   journal  lent memory that holds what vtil_undo needs. It may have length 0:
- *            then the book can be looked at, but every edit is refused.
+ *            then the routine can be looked at, but every edit is refused.
  *   book     two numbers: how many bytes of the image are the written form, and
  *            how many bytes of the journal are used.
  *

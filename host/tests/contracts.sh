@@ -1,6 +1,7 @@
 #!/usr/bin/env bash
 # docs/CONTRACTS.md speaks of what is there: every must-fail edit that it names stands in its crate, every edit that stands is
-# named, and every exported function has a row. The current folder is the repository root.
+# named, and every exported function has a row; and docs/ARCHITECTURE.md's table has every crate. The current folder is the
+# repository root.
 set -u
 script=contracts
 . host/tests/count.sh
@@ -26,6 +27,14 @@ described_functions() {
     column 5 | grep -oE 'vtil_[a-z_]+' | sort -u
 }
 
+listed_crates() {
+    sed -n 's/^\([a-z_]*\):.*/\1/p' crates.txt | sort
+}
+
+mapped_crates() {
+    sed -n '/^## The crates/,/^## Where/p' docs/ARCHITECTURE.md | awk -F'|' '/^\| `/ { print $2 }' | grep -oE '[a-z_]+' | sort
+}
+
 # none NAME LINES: passed where there are none.
 none() {
     if [ -z "$2" ]; then pass "$1"; else fail "$1: $(tr '\n' ' ' <<<"$2")"; fi
@@ -34,4 +43,5 @@ none() {
 none "every edit that is named stands" "$(comm -23 <(named_edits) <(standing_edits))"
 none "every edit that stands is named" "$(comm -13 <(named_edits) <(standing_edits))"
 none "every exported function has a row, and no other" "$(comm -3 <(exported_functions) <(described_functions))"
+none "every crate is on the map once, and no other" "$(comm -3 <(listed_crates) <(mapped_crates))"
 finish

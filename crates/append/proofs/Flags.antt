@@ -16,7 +16,7 @@ use Rattle.pod.specs.Values.{Instruction}
 use Rattle.pod.specs.Layout.{instruction, as-it-comes}
 use Rattle.pod.specs.Written.{bytes, bit, instruction-bytes}
 use Rattle.buffer.proofs.Put.{length-put, put-put, put-over}
-use Rattle.laws.specs.Normal.{flag, normalise, keeps, last-flag, instruction-marks}
+use Rattle.laws.specs.Normal.{flag, normalise, keeps, last-flag, instruction-roles}
 use Rattle.laws.proofs.Layouts.{instruction-layout, read-to, read-normal}
 
 -- the last byte as a flag
@@ -69,7 +69,7 @@ module _ (t : List ℕ) (h : 0 < length t) where
 
 -- what was read, written
 pub written-flagged : (t : List ℕ) → Bytes t → (x : Instruction) → instruction as-it-comes t 0 ≡ ok x (length t) → instruction-bytes x ≡ flagged t
-unfolding instruction-marks last-flag
+unfolding instruction-roles last-flag
 written-flagged t b x e =
     let n : length (instruction-bytes x) ≡ length t = omega (arith, read-to instruction-layout false b e) in
     let m : length t - 0 ≡ length t = omega arith in

@@ -10,7 +10,7 @@ use Rattle.fields.specs.Parse.{ok}
 use Rattle.fields.proofs.Le as le
 use Rattle.pod.specs.Values.{Routine}
 use Rattle.pod.specs.Layout.{read-file}
-use Rattle.laws.specs.Normal.{normalise, routine-marks}
+use Rattle.laws.specs.Normal.{normalise, routine-roles}
 use Rattle.laws.proofs.Layouts.{routine-layout, read-holds, read-to, read-within, read-normal, read-back, injective}
 use Rattle.laws.proofs.Sizes.{routine-least}
 use Rattle.machine.specs.Machine.{Bytes}
@@ -26,7 +26,7 @@ says file r n b e =
       consumed = omega (arith, to);
       least = omega (arith, to, routine-least r);
       within = read-within routine-layout false c e;
-      written = read-normal routine-layout false c e ∙ ap (λ k. normalise (routine-marks r) (take k file)) m;
+      written = read-normal routine-layout false c e ∙ ap (λ k. normalise (routine-roles r) (take k file)) m;
     }
 
 pub demand-2 : Demand-2

@@ -10,7 +10,7 @@ use Rattle.pod.specs.Values.{Routine}
 use Rattle.pod.specs.Layout.{read-file}
 use Rattle.pod.specs.Written.{routine-bytes}
 use Rattle.laws.specs.Holds.{Routine-holds}
-use Rattle.laws.specs.Normal.{normalise, routine-marks}
+use Rattle.laws.specs.Normal.{normalise, routine-roles}
 use Rattle.machine.specs.Machine.{Bytes, size}
 
 -- a file that says r in its first n bytes
@@ -21,7 +21,7 @@ pub record Says (file : List ℕ) (r : Routine) (n : ℕ) : Type 0 where
   pub least : 114 ≤ n
   pub within : n ≤ length file
   -- the bytes that were read, pad and flags as they are written
-  pub written : routine-bytes r ≡ normalise (routine-marks r) (take n file)
+  pub written : routine-bytes r ≡ normalise (routine-roles r) (take n file)
 
 pub record Demand-2 : Type 0 where
   pub reading : (file : List ℕ) (r : Routine) (n : ℕ) → Bytes file → read-file file ≡ ok r n → Says file r n

@@ -96,7 +96,7 @@ fn quick(s: &[u8], at: usize, exact: bool) -> usize
     }
     let a = at + 4;
     let n = fields::four(s, at) as usize;
-    let code = op::guess(s, a, n);
+    let code = op::quick_lookup(s, a, n);
     if 255 < code {
         return 0;
     }

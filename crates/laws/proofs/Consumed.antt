@@ -18,7 +18,7 @@ use Rattle.pod.specs.Blocks.{vips, repeats}
 use Rattle.pod.specs.Layout.{header, register, immediate, operand, named, opcode, after, instruction, convention, block, blocks, routine}
 use Rattle.pod.specs.Written.{bytes, counted-bytes, header-bytes, register-bytes, immediate-bytes, operand-bytes, name-bytes, instruction-bytes, convention-bytes, block-head-bytes, block-bytes, routine-head-bytes, routine-bytes}
 use Rattle.laws.specs.Holds.{Header-holds, Register-holds, Immediate-holds, Operand-holds, Instruction-holds, Convention-holds, Block-holds, Blocks-holds, Routine-holds}
-use Rattle.laws.specs.Normal.{counted-marks, header-marks, instruction-marks, convention-marks, block-marks, routine-marks}
+use Rattle.laws.specs.Normal.{counted-roles, header-roles, instruction-roles, convention-roles, block-roles, routine-roles}
 use Rattle.laws.proofs.At.{Spans, within, _then_}
 use Rattle.laws.proofs.Post.{Post, give, step, test, either, never}
 use Rattle.laws.proofs.Took.{Took, kept, _also_, _ahead_, uint-took, int-took, part-took, pad-took, flag-took, counted-took, many-spans, counted-spans}
@@ -79,8 +79,8 @@ opcode-took {s} b o =
     })
 
 module _ (exact : Bool) {s : List ℕ} (b : Bytes s) (o : ℕ) where
-  pub header-took : Post (header exact s o) (λ m n. Header-holds m × Took exact s o header-marks (header-bytes m) n)
-  unfolding header header-bytes header-marks bytes
+  pub header-took : Post (header exact s o) (λ m n. Header-holds m × Took exact s o header-roles (header-bytes m) n)
+  unfolding header header-bytes header-roles bytes
   header-took =
       step _ (uint-took b o 4) λ first n₁ u₁.
       test _ _ _ _ λ p.
@@ -91,8 +91,8 @@ module _ (exact : Bool) {s : List ℕ} (b : Bytes s) (o : ℕ) where
       test _ _ _ _ λ q.
       give (leb-true machine 2 known, kept (rw (eqb-true first 0x4c495456 p) at (u₁ .1)) also kept (u₂ .1) also u₃ also kept (rw (eqb-true second 0xdead q) at (u₄ .1)))
 
-  pub instruction-took : Post (instruction exact s o) (λ i n. Instruction-holds i × Took exact s o (instruction-marks i) (instruction-bytes i) n)
-  unfolding instruction after instruction-bytes instruction-marks counted-bytes
+  pub instruction-took : Post (instruction exact s o) (λ i n. Instruction-holds i × Took exact s o (instruction-roles i) (instruction-bytes i) n)
+  unfolding instruction after instruction-bytes instruction-roles counted-bytes
   instruction-took =
       step _ (opcode-took b o) λ op n₁ c.
       step _ (many-spans operand operand-bytes (operand-took b) (getD counts op 0) n₁ (within (c .count))) λ xs n₂ u₂.
@@ -105,8 +105,8 @@ module _ (exact : Bool) {s : List ℕ} (b : Bytes s) (o : ℕ) where
         (c .name ahead ((rw (← u₂ .0) at (c .count)) then u₂ .2) ahead u₃ .1 ahead u₄ .1 ahead u₅ .1 ahead u₆) .took,
       )
 
-  pub convention-took : Post (convention exact s o) (λ c n. Convention-holds c × Took exact s o (convention-marks c) (convention-bytes c) n)
-  unfolding convention convention-bytes convention-marks
+  pub convention-took : Post (convention exact s o) (λ c n. Convention-holds c × Took exact s o (convention-roles c) (convention-bytes c) n)
+  unfolding convention convention-bytes convention-roles
   convention-took =
       step _ (counted-spans register register-bytes (register-took b) b o) λ volatile n₁ u₁.
       step _ (counted-spans register register-bytes (register-took b) b n₁) λ param n₂ u₂.
@@ -119,14 +119,14 @@ module _ (exact : Bool) {s : List ℕ} (b : Bytes s) (o : ℕ) where
         (u₁ .1 ahead u₂ .1 ahead u₃ .1 ahead u₄ .1 ahead u₅ .1 ahead u₆) .took,
       )
 
-pub block-took : (exact : Bool) {s : List ℕ} → Bytes s → (o : ℕ) → Post (block exact s o) (λ x n. Block-holds x × Took exact s o (block-marks x) (block-bytes x) n)
-unfolding block block-bytes block-head-bytes block-marks
+pub block-took : (exact : Bool) {s : List ℕ} → Bytes s → (o : ℕ) → Post (block exact s o) (λ x n. Block-holds x × Took exact s o (block-roles x) (block-bytes x) n)
+unfolding block block-bytes block-head-bytes block-roles
 block-took exact b o =
     step _ (uint-took b o 8) λ vip n₁ u₁.
     step _ (int-took b n₁ w64 8 refl) λ sp n₂ u₂.
     step _ (uint-took b n₂ 4) λ index n₃ u₃.
     step _ (uint-took b n₃ 4) λ temporary n₄ u₄.
-    step _ (counted-took exact (instruction exact) instruction-marks instruction-bytes (instruction-took exact b) b n₄) λ is n₅ u₅.
+    step _ (counted-took exact (instruction exact) instruction-roles instruction-bytes (instruction-took exact b) b n₄) λ is n₅ u₅.
     step _ (counted-spans u64 (bytes 8) (λ i. uint-took b i 8) b n₅) λ prev n₆ u₆.
     step _ (counted-spans u64 (bytes 8) (λ i. uint-took b i 8) b n₆) λ next n₇ u₇.
     give (
@@ -135,22 +135,22 @@ block-took exact b o =
     )
 
 pub blocks-took : (exact : Bool) {s : List ℕ} → Bytes s → (o : ℕ)
-    → Post (blocks exact s o) (λ bs n. Blocks-holds bs × Took exact s o (counted-marks block-marks bs) (counted-bytes block-bytes bs) n)
+    → Post (blocks exact s o) (λ bs n. Blocks-holds bs × Took exact s o (counted-roles block-roles bs) (counted-bytes block-bytes bs) n)
 unfolding blocks
 blocks-took exact b o =
-    step _ (counted-took exact (block exact) block-marks block-bytes (block-took exact b) b o) λ bs n u.
+    step _ (counted-took exact (block exact) block-roles block-bytes (block-took exact b) b o) λ bs n u.
     test _ _ _ _ λ q.
     give (record { listed = u .0; distinct = not-true (repeats (vips bs)) q }, u .1)
 
 pub routine-took : (exact : Bool) {s : List ℕ} → Bytes s → (o : ℕ)
-    → Post (routine exact s o) (λ r n. Routine-holds r × Took exact s o (routine-marks r) (routine-bytes r) n)
-unfolding routine routine-bytes routine-head-bytes routine-marks bytes
+    → Post (routine exact s o) (λ r n. Routine-holds r × Took exact s o (routine-roles r) (routine-bytes r) n)
+unfolding routine routine-bytes routine-head-bytes routine-roles bytes
 routine-took exact b o =
     step _ (header-took exact b o) λ machine n₁ u₁.
     step _ (uint-took b n₁ 8) λ entry n₂ u₂.
     step _ (convention-took exact b n₂) λ own n₃ u₃.
     step _ (convention-took exact b n₃) λ sub n₄ u₄.
-    step _ (counted-took exact (convention exact) convention-marks convention-bytes (convention-took exact b) b n₄) λ special n₅ u₅.
+    step _ (counted-took exact (convention exact) convention-roles convention-bytes (convention-took exact b) b n₄) λ special n₅ u₅.
     step _ (blocks-took exact b n₅) λ bs n₆ u₆.
     give (
       record { machine = u₁ .0; entry = u₂ .0; own = u₃ .0; sub = u₄ .0; special = u₅ .0; blocks = u₆ .0 },

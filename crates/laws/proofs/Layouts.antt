@@ -13,7 +13,7 @@ use Rattle.fields.proofs.Le.{Bytes}
 use Rattle.pod.specs.Layout.{instruction, convention, block, routine}
 use Rattle.pod.specs.Written.{instruction-bytes, convention-bytes, block-bytes, routine-bytes}
 use Rattle.laws.specs.Holds.{Instruction-holds, Convention-holds, Block-holds, Routine-holds}
-use Rattle.laws.specs.Normal.{Mark, normalise, instruction-marks, convention-marks, block-marks, routine-marks}
+use Rattle.laws.specs.Normal.{Role, normalise, instruction-roles, convention-roles, block-roles, routine-roles}
 use Rattle.laws.proofs.At.{At, Spans, front}
 use Rattle.laws.proofs.Back.{Reads}
 use Rattle.laws.proofs.Post.{Post}
@@ -22,13 +22,13 @@ use Rattle.laws.proofs.Octets.{Octets, instruction-octets, convention-o
 use Rattle.laws.proofs.Round.{instruction-reads, convention-reads, block-reads, routine-reads}
 use Rattle.laws.proofs.Consumed.{instruction-took, convention-took, block-took, routine-took}
 
--- p reads the values of H; m are the marks of a value's written form, and w is that form
-pub record Layout {A : Type 0} (p : Bool → Reader A) (H : A → Type 0) (m : A → List Mark) (w : A → List ℕ) : Type 0 where
+-- p reads the values of H; m are the roles of a value's written form, and w is that form
+pub record Layout {A : Type 0} (p : Bool → Reader A) (H : A → Type 0) (m : A → List Role) (w : A → List ℕ) : Type 0 where
   pub back : (exact : Bool) (a : A) → H a → Reads (p exact) a (w a)
   pub made : (exact : Bool) {s : List ℕ} → Bytes s → (o : ℕ) → Post (p exact s o) (λ a n. H a × Took exact s o (m a) (w a) n)
   pub octets : (a : A) → H a → Octets (w a)
 
-module _ {A : Type 0} {p : Bool → Reader A} {H : A → Type 0} {m : A → List Mark} {w : A → List ℕ} (k : Layout p H m w) where
+module _ {A : Type 0} {p : Bool → Reader A} {H : A → Type 0} {m : A → List Role} {w : A → List ℕ} (k : Layout p H m w) where
   module _ (exact : Bool) where
     -- the written form is read back, whatever stands after it
     pub read-back : (a : A) (rest : List ℕ) → H a → p exact (w a ++ rest) 0 ≡ ok a (length (w a))
@@ -83,14 +83,14 @@ module _ {A : Type 0} {p : Bool → Reader A} {H : A → Type 0} {m : A → List
     pub injective : w a ≡ w c → a ≡ c
     injective q = prefix-free [] [] (ap (λ l. l ++ []) q)
 
-pub instruction-layout : Layout instruction Instruction-holds instruction-marks instruction-bytes
+pub instruction-layout : Layout instruction Instruction-holds instruction-roles instruction-bytes
 instruction-layout = record { back = instruction-reads; made = instruction-took; octets = instruction-octets }
 
-pub convention-layout : Layout convention Convention-holds convention-marks convention-bytes
+pub convention-layout : Layout convention Convention-holds convention-roles convention-bytes
 convention-layout = record { back = convention-reads; made = convention-took; octets = convention-octets }
 
-pub block-layout : Layout block Block-holds block-marks block-bytes
+pub block-layout : Layout block Block-holds block-roles block-bytes
 block-layout = record { back = block-reads; made = block-took; octets = block-octets }
 
-pub routine-layout : Layout routine Routine-holds routine-marks routine-bytes
+pub routine-layout : Layout routine Routine-holds routine-roles routine-bytes
 routine-layout = record { back = routine-reads; made = routine-took; octets = routine-octets }

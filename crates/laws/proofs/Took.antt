@@ -1,4 +1,4 @@
--- The bytes that a value was read from, against its written form: the written form is what the marks make of them, and is they themselves where
+-- The bytes that a value was read from, against its written form: the written form is what the roles make of them, and is they themselves where
 -- reading was exact. The law of each way to make a reader.
 -- Assumes nothing.
 use mathlib.Core.Path.{_≡_, refl, sym, ap, ap₂, _∙_}
@@ -19,22 +19,22 @@ use Rattle.fields.specs.Parse.{Reader, choose, done, _>>=_, le, uint, int, part
 use Rattle.fields.proofs.Le.{Bytes, uint-is, le-lt}
 use Rattle.pod.specs.Written.{bytes, bit, many-bytes, counted-bytes}
 use Rattle.laws.specs.Holds.{Each, List-holds}
-use Rattle.laws.specs.Normal.{Mark, keep, normalise, keeps, last-flag, many-marks, counted-marks}
+use Rattle.laws.specs.Normal.{Role, keep, normalise, keeps, last-flag, many-roles, counted-roles}
 use Rattle.laws.specs.Normal as N
 use Rattle.laws.proofs.At.{fits, none, Spans, within, _then_}
 use Rattle.laws.proofs.Back.{length-bytes}
 use Rattle.laws.proofs.Post.{Post, give, step, test, either, never, so}
 
 -- the bytes `found` stand from o to n
-pub record Took (exact : Bool) (s : List ℕ) (o : ℕ) (m : List Mark) (l : List ℕ) (n : ℕ) : Type 0 where
+pub record Took (exact : Bool) (s : List ℕ) (o : ℕ) (m : List Role) (l : List ℕ) (n : ℕ) : Type 0 where
   pub found : List ℕ
   pub stands : Spans s o found n
-  pub marked : length m ≡ length found
+  pub lined-up : length m ≡ length found
   pub normal : normalise m found ≡ l
   pub same : exact ≡ true → found ≡ l
 
 -- read exactly, they are the written form
-pub exactly : {s : List ℕ} {o n : ℕ} {m : List Mark} {l : List ℕ} → Took true s o m l n → Spans s o l n
+pub exactly : {s : List ℕ} {o n : ℕ} {m : List Role} {l : List ℕ} → Took true s o m l n → Spans s o l n
 exactly {s} {o} {n} t = rw (t .same refl) at (t .stands)
 
 normal-keeps : (l : List ℕ) → normalise (keeps (length l)) l ≡ l
@@ -42,14 +42,14 @@ unfolding normalise
 normal-keeps [] = refl
 normal-keeps (x ∷ l) = ap (λ r. x ∷ r) (normal-keeps l)
 
-normal-append : (m k : List Mark) (a b : List ℕ) → length m ≡ length a → normalise (m ++ k) (a ++ b) ≡ normalise m a ++ normalise k b
+normal-append : (m k : List Role) (a b : List ℕ) → length m ≡ length a → normalise (m ++ k) (a ++ b) ≡ normalise m a ++ normalise k b
 unfolding normalise
 normal-append [] k [] b e = refl
 normal-append [] k (x ∷ a) b e = absurd (omega arith)
 normal-append (y ∷ m) k [] b e = absurd (omega arith)
 normal-append (y ∷ m) k (x ∷ a) b e = ap (λ r. N.normal y x ∷ r) (normal-append m k a b (omega arith))
 
-length-normalise : (m : List Mark) (a : List ℕ) → length m ≡ length a → length (normalise m a) ≡ length a
+length-normalise : (m : List Role) (a : List ℕ) → length m ≡ length a → length (normalise m a) ≡ length a
 unfolding normalise
 length-normalise [] [] e = refl
 length-normalise [] (x ∷ a) e = absurd (omega arith)
@@ -57,10 +57,10 @@ length-normalise (y ∷ m) [] e = absurd (omega arith)
 length-normalise (y ∷ m) (x ∷ a) e = ap suc (length-normalise m a (omega arith))
 
 module _ {exact : Bool} {s : List ℕ} where
-  module _ {o n : ℕ} {m : List Mark} {l : List ℕ} (t : Took exact s o m l n) where
+  module _ {o n : ℕ} {m : List Role} {l : List ℕ} (t : Took exact s o m l n) where
     -- its size
     pub took-to : n ≡ o + length l
-    took-to = t .stands .to ∙ ap (λ k. o + k) (sym (length-normalise m (t .found) (t .marked)) ∙ ap length (t .normal))
+    took-to = t .stands .to ∙ ap (λ k. o + k) (sym (length-normalise m (t .found) (t .lined-up)) ∙ ap length (t .normal))
 
     pub took-within : n ≤ length s
     took-within = within (t .stands)
@@ -72,20 +72,20 @@ module _ {exact : Bool} {s : List ℕ} where
 
   pub took-none : {o : ℕ} → o ≤ length s → Took exact s o [] [] o
   unfolding normalise
-  took-none {o} h = record { found = []; stands = record { at = none h; to = sym (add-zero o) }; marked = refl; normal = refl; same = λ e. refl }
+  took-none {o} h = record { found = []; stands = record { at = none h; to = sym (add-zero o) }; lined-up = refl; normal = refl; same = λ e. refl }
 
   -- as they stand
   pub kept : {o n : ℕ} {l : List ℕ} → Spans s o l n → Took exact s o (keeps (length l)) l n
-  kept {o} {n} {l} h = record { found = l; stands = h; marked = length-replicate (length l) keep; normal = normal-keeps l; same = λ e. refl }
+  kept {o} {n} {l} h = record { found = l; stands = h; lined-up = length-replicate (length l) keep; normal = normal-keeps l; same = λ e. refl }
 
   infixr 20 _also_
-  pub _also_ : {o e n : ℕ} {m k : List Mark} {a b : List ℕ} → Took exact s o m a e → Took exact s e k b n → Took exact s o (m ++ k) (a ++ b) n
+  pub _also_ : {o e n : ℕ} {m k : List Role} {a b : List ℕ} → Took exact s o m a e → Took exact s e k b n → Took exact s o (m ++ k) (a ++ b) n
   _also_ {o} {e} {n} {m} {k} {a} {b} t u =
       record {
         found = t .found ++ u .found;
         stands = t .stands then u .stands;
-        marked = length-append m k ∙ ap₂ (λ i j. i + j) (t .marked) (u .marked) ∙ sym (length-append (t .found) (u .found));
-        normal = normal-append m k (t .found) (u .found) (t .marked) ∙ ap₂ (λ i j. i ++ j) (t .normal) (u .normal);
+        lined-up = length-append m k ∙ ap₂ (λ i j. i + j) (t .lined-up) (u .lined-up) ∙ sym (length-append (t .found) (u .found));
+        normal = normal-append m k (t .found) (u .found) (t .lined-up) ∙ ap₂ (λ i j. i ++ j) (t .normal) (u .normal);
         same = λ q. ap₂ (λ i j. i ++ j) (t .same q) (u .same q);
       }
 
@@ -170,7 +170,7 @@ module _ (exact : Bool) {s : List ℕ} (b : Bytes s) (o : ℕ) where
       step _ (uint-took b o 1) λ v n u. test _ _ _ _ λ q. give (record {
         found = bytes 1 v;
         stands = u .1;
-        marked = refl;
+        lined-up = refl;
         normal = refl;
         same = λ e. let z : v ≡ 0 = omega (arith, taken-most exact 0 v q e) in ap (bytes 1) z;
       })
@@ -184,7 +184,7 @@ module _ (exact : Bool) {s : List ℕ} (b : Bytes s) (o : ℕ) where
         took = record {
           found = bytes 1 v;
           stands = u .1;
-          marked = refl;
+          lined-up = refl;
           normal = ap (λ l. l ∷ []) (ap (λ i. bit (not (eqb i 0))) w ∙ small-bit (not (eqb v 0)));
           same = λ e. ap (bytes 1) (flag-byte v (taken-most exact 1 v q e));
         };
@@ -192,27 +192,27 @@ module _ (exact : Bool) {s : List ℕ} (b : Bytes s) (o : ℕ) where
       })
 
 -- lists
-module _ {A : Type 0} (exact : Bool) (p : Reader A) {P : A → Type 0} (m : A → List Mark) (w : A → List ℕ) {s : List ℕ}
+module _ {A : Type 0} (exact : Bool) (p : Reader A) {P : A → Type 0} (m : A → List Role) (w : A → List ℕ) {s : List ℕ}
     (each : (o : ℕ) → Post (p s o) (λ a n. P a × Took exact s o (m a) (w a) n)) where
-  pub many-took : (k o : ℕ) → o ≤ length s → Post (many p k s o) (λ xs n. (length xs ≡ k) × Each P xs × Took exact s o (many-marks m xs) (many-bytes w xs) n)
-  unfolding many many-marks many-bytes
+  pub many-took : (k o : ℕ) → o ≤ length s → Post (many p k s o) (λ xs n. (length xs ≡ k) × Each P xs × Took exact s o (many-roles m xs) (many-bytes w xs) n)
+  unfolding many many-roles many-bytes
   many-took zero o h = give (refl, tt, took-none h)
   many-took (suc k) o h =
       step _ (each o) λ x n u. step _ (many-took k n (took-within (u .1))) λ xs e v.
       give (ap suc (v .0), (u .0, v .1), u .1 also v .2)
 
-  pub counted-took : Bytes s → (o : ℕ) → Post (counted p s o) (λ xs n. List-holds P xs × Took exact s o (counted-marks m xs) (counted-bytes w xs) n)
-  unfolding counted-marks counted-bytes bytes
+  pub counted-took : Bytes s → (o : ℕ) → Post (counted p s o) (λ xs n. List-holds P xs × Took exact s o (counted-roles m xs) (counted-bytes w xs) n)
+  unfolding counted-roles counted-bytes bytes
   counted-took b o =
       step _ (uint-took b o 4) λ k e u. so (λ xs n v. (record { count = rw (v .0) (u .0); each = v .1 }, kept (rw (← v .0) at (u .1)) also v .2)) (many-took k e (within (u .1)))
 
 -- of elements that are read as they stand
 module _ {A : Type 0} (p : Reader A) {P : A → Type 0} (w : A → List ℕ) {s : List ℕ} (each : (o : ℕ) → Post (p s o) (λ a n. P a × Spans s o (w a) n)) where
-  marked : (o : ℕ) → Post (p s o) (λ a n. P a × Took true s o (keeps (length (w a))) (w a) n)
-  marked o = so (λ a n h. (h .0, kept (h .1))) (each o)
+  all-kept : (o : ℕ) → Post (p s o) (λ a n. P a × Took true s o (keeps (length (w a))) (w a) n)
+  all-kept o = so (λ a n h. (h .0, kept (h .1))) (each o)
 
   pub many-spans : (k o : ℕ) → o ≤ length s → Post (many p k s o) (λ xs n. (length xs ≡ k) × Each P xs × Spans s o (many-bytes w xs) n)
-  many-spans k o h = so (λ xs n u. (u .0, u .1, exactly (u .2))) (many-took true p _ w marked k o h)
+  many-spans k o h = so (λ xs n u. (u .0, u .1, exactly (u .2))) (many-took true p _ w all-kept k o h)
 
   pub counted-spans : Bytes s → (o : ℕ) → Post (counted p s o) (λ xs n. List-holds P xs × Spans s o (counted-bytes w xs) n)
-  counted-spans b o = so (λ xs n u. (u .0, exactly (u .1))) (counted-took true p _ w marked b o)
+  counted-spans b o = so (λ xs n u. (u .0, exactly (u .1))) (counted-took true p _ w all-kept b o)

@@ -1,4 +1,4 @@
--- The laws of `Over`: bytes that stay, two parts one after the other, what is read after them, and one byte changed as its mark says.
+-- The laws of `Over`: bytes that stay, two parts one after the other, what is read after them, and one byte changed as its role says.
 -- Assumes nothing.
 use mathlib.Core.Path.{_≡_, refl, sym, ap, ap₂, _∙_}
 use mathlib.Core.List.{List, [], _∷_, _++_}
@@ -12,7 +12,7 @@ use Rattle.fields.specs.Parse.{ok, Reader}
 use Rattle.fields.specs.Bytes.{put}
 use Rattle.fields.proofs.Le.{Bytes}
 use Rattle.laws.specs.Moved.{moved}
-use Rattle.laws.specs.Normal.{Mark, keep, flag, normal, normalise, keeps, last-flag}
+use Rattle.laws.specs.Normal.{Role, keep, flag, normal, normalise, keeps, last-flag}
 use Rattle.laws.proofs.At.{At, Spans, fits}
 use Rattle.laws.proofs.Took.{Took, took-to}
 use Rattle.laws.proofs.Local.{Local}
@@ -55,7 +55,7 @@ _beside_ {s} {t} {u} {o} {m} {n} {a} {b} h k =
       is = k .is ∙ ap₂ (λ i x. put i b x) (h .to) (h .is) ∙ put-put o a b s f;
     }
 
--- of several marks one may change its byte
+-- of several roles one may change its byte
 normal-kept : (j : ℕ) (f : List ℕ) → length f ≡ j → normalise (keeps j) f ≡ f
 unfolding normalise
 normal-kept zero [] e = refl
@@ -63,7 +63,7 @@ normal-kept zero (x ∷ f) e = absurd (omega arith)
 normal-kept (suc j) [] e = absurd (omega arith)
 normal-kept (suc j) (x ∷ f) e = ap (λ r. x ∷ r) (normal-kept j f (omega arith))
 
-normal-one : (m : Mark) (i j : ℕ) (f : List ℕ) → length f ≡ i + suc j → normalise (keeps i ++ (m ∷ keeps j)) f ≡ set f i (normal m (getD f i 0))
+normal-one : (m : Role) (i j : ℕ) (f : List ℕ) → length f ≡ i + suc j → normalise (keeps i ++ (m ∷ keeps j)) f ≡ set f i (normal m (getD f i 0))
 unfolding normalise
 normal-one m zero j [] e = absurd (omega arith)
 normal-one m zero j (x ∷ f) e = ap (λ r. normal m x ∷ r) (normal-kept j f (omega arith))
@@ -80,13 +80,13 @@ set-part {s} {o} {f} h i v l =
     sym (take-append-drop o (set s (o + i) v))
     ∙ ap₂ (λ (x y : List ℕ). x ++ y) (take-set-le o s (o + i) v (omega arith)) (drop-set-add o s i v ∙ e ∙ ap (λ (x : List ℕ). set f i v ++ x) (sym d))
 
--- the one byte whose mark is not `keep`
-pub changed : {s : List ℕ} {o n : ℕ} {l : List ℕ} (m : Mark) (i j : ℕ) {t : List ℕ} → Took false s o (keeps i ++ (m ∷ keeps j)) l n
+-- the one byte whose role is not `keep`
+pub changed : {s : List ℕ} {o n : ℕ} {l : List ℕ} (m : Role) (i j : ℕ) {t : List ℕ} → Took false s o (keeps i ++ (m ∷ keeps j)) l n
     → t ≡ set s (o + i) (normal m (getD s (o + i) 0)) → Over s o l n t
 changed {s} {o} {n} {l} m i j {t} k e =
     let f : List ℕ = k .found in
     let c : length f ≡ i + suc j =
-    sym (k .marked) ∙ length-append (keeps i) (m ∷ keeps j) ∙ ap₂ (λ (x y : ℕ). x + suc y) (length-replicate i keep) (length-replicate j keep) in
+    sym (k .lined-up) ∙ length-append (keeps i) (m ∷ keeps j) ∙ ap₂ (λ (x y : ℕ). x + suc y) (length-replicate i keep) (length-replicate j keep) in
     let g : getD s (o + i) 0 ≡ getD f i 0 = sym (getD-drop o s i 0) ∙ ap (λ (x : List ℕ). getD x i 0) (k .stands .at .is) ∙ in-first f (k .stands .at .rest) i (omega arith) in
     let w : set f i (normal m (getD f i 0)) ≡ l = sym (normal-one m i j f c) ∙ k .normal in
     record {
@@ -108,7 +108,7 @@ pub becomes-one : (s : List ℕ) (i : ℕ) → (getD s i 0 ≡ 0 → ⊥) → se
 becomes-one s i h = rw (ne-eqb (getD s i 0) 0 h)
 
 -- a value whose last byte is a flag, the others kept
-pub flagged : {A : Type 0} {p : Bool → Reader A} {H : A → Type 0} {m : A → List Mark} {w : A → List ℕ} (k : Layout p H m w)
+pub flagged : {A : Type 0} {p : Bool → Reader A} {H : A → Type 0} {m : A → List Role} {w : A → List ℕ} (k : Layout p H m w)
     → ((a : A) → m a ≡ last-flag (w a)) → ((a : A) → 0 < length (w a))
     → {s : List ℕ} → Bytes s → {o r : ℕ} {a : A} {n : ℕ} {t : List ℕ} → p false s o ≡ ok a n → r ≡ n
     → (0 < r → r ≤ length s → t ≡ set s (r - 1) (normal flag (getD s (r - 1) 0))) → Over s o (w a) n t

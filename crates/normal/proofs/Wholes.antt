@@ -13,7 +13,7 @@ use Rattle.fields.proofs.Le.{Bytes}
 use Rattle.pod.specs.Values.{BasicBlock, Routine}
 use Rattle.pod.specs.Layout.{header, instruction, convention, block, blocks, routine}
 use Rattle.pod.specs.Written.{bytes, counted-bytes, header-bytes, instruction-bytes, convention-bytes, block-head-bytes, block-bytes, routine-head-bytes, routine-bytes}
-use Rattle.laws.specs.Normal.{pad, flag, normal, instruction-marks, convention-marks, header-marks}
+use Rattle.laws.specs.Normal.{pad, flag, normal, instruction-roles, convention-roles, header-roles}
 use Rattle.laws.proofs.At.{Spans, within, _then_}
 use Rattle.laws.proofs.Post.{Post, give, step, test}
 use Rattle.laws.proofs.Took.{uint-took, int-took, counted-spans}
@@ -120,7 +120,7 @@ pub routine-normal : {s t₀ t₁ t₂ t₃ t₄ : List ℕ} {a d e n : ℕ} →
     → Normalised (convention false) convention-bytes t₀ 16 a t₁ → Normalised (convention false) convention-bytes t₁ a d t₂
     → Normalised (counted (convention false)) (counted-bytes convention-bytes) t₂ d e t₃
     → Normalised (counted (block false)) (counted-bytes block-bytes) t₃ e n t₄ → Normalised (routine false) routine-bytes s 0 n t₄
-unfolding routine-bytes routine-head-bytes header-marks
+unfolding routine-bytes routine-head-bytes header-roles
 routine-normal {s} {t₀} {t₄} {n} b z f₁ f₂ f₃ f₄ = record { when = λ x m q. go x m (routine-parts b .when x m q) }
   where
     go : (x : Routine) (m : ℕ) → Routine-parts s x m → (n ≡ m) × Over s 0 (routine-bytes x) m t₄
@@ -141,12 +141,12 @@ too-short b h = record { when = λ x n q. absurd (omega (arith, read-to routine-
 -- the layouts that end in a flag
 pub instruction-normal : {s : List ℕ} → Bytes s → (o : ℕ) {r : ℕ} {t : List ℕ} → r ≡ instructionEnd s o
     → (0 < r → r ≤ length s → t ≡ set s (r - 1) (normal flag (getD s (r - 1) 0))) → Normalised (instruction false) instruction-bytes s o r t
-unfolding instruction-marks
+unfolding instruction-roles
 instruction-normal {s} b o z f =
     record { when = λ x n q. let e = z ∙ instruction-ends s false o q in (e, flagged instruction-layout (λ i. refl) (λ i. omega (arith, instruction-size i)) b q e f) }
 
 pub convention-normal : {s : List ℕ} → Bytes s → (o : ℕ) {r : ℕ} {t : List ℕ} → r ≡ conventionEnd s o
     → (0 < r → r ≤ length s → t ≡ set s (r - 1) (normal flag (getD s (r - 1) 0))) → Normalised (convention false) convention-bytes s o r t
-unfolding convention-marks
+unfolding convention-roles
 convention-normal {s} b o z f =
     record { when = λ x n q. let e = z ∙ convention-ends s false o q in (e, flagged convention-layout (λ i. refl) (λ i. omega (arith, convention-size i)) b q e f) }

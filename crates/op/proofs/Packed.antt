@@ -15,7 +15,7 @@ use Rattle.fields.specs.Parse.{le, choose}
 use Rattle.fields.proofs.Le.{Bytes, le-lt, le-below, le-split}
 use Rattle.op.specs.Ops.{names, counts, number, place, same}
 use Rattle.op.specs.Text.{is-text, text, step, lead}
-use Rattle.op.specs.Packed.{key, Entry, Known}
+use Rattle.op.specs.Packed.{key, Packed, Known}
 use Rattle.op.proofs.Same.{short, same-eq, names-many}
 
 -- two numbers of k bytes are equal only where the bytes are
@@ -153,7 +153,7 @@ text-of w k h e =
     let q : w ≡ getD names k [] = placed names w p ∙ ap (λ i. getD names i []) e in
     rw q (listed-text k h)
 
--- an entry's two parts
+-- a packed name's two parts
 parts : (r x y : ℕ) → x < 2 ^ 56 → r ≡ x + 2 ^ 56 * y → (r % 2 ^ 56 ≡ x) × (r / 2 ^ 56 ≡ y)
 parts r x y h e = (omega arith, omega arith)
 
@@ -174,7 +174,7 @@ pub few : (k : ℕ) → getD counts k 0 < 4
 unfolding counts
 few k = each-under 4 counts (omega arith) tt k
 
-pub known : (s : List ℕ) (o n r : ℕ) → Entry r → Bytes s → o + 8 ≤ length s → n ≤ 6
+pub known : (s : List ℕ) (o n r : ℕ) → Packed r → Bytes s → o + 8 ≤ length s → n ≤ 6
     → r % 2 ^ 56 ≡ le 8 s o % 2 ^ (8 * n) + 2 ^ 48 * n → Known (take n (drop o s)) n (r / 2 ^ 56)
 known s o n r i b l m e =
     let p = parts r _ _ (key-below (i .op) (i .listed)) (i .is) in
@@ -192,7 +192,7 @@ known s o n r i b l m e =
 abbrev good : ℕ → ℕ → Bool
 good k r = both (ltb k 49) (eqb r (key (getD names k []) + 2 ^ 56 * (getD counts k 0 + 4 * k)))
 
-pub row : (k r : ℕ) → T (good k r) → Entry r
+pub row : (k r : ℕ) → T (good k r) → Packed r
 row k r t =
     let q = eqb r (key (getD names k []) + 2 ^ 56 * (getD counts k 0 + 4 * k)) in
     record { op = k; listed = ltb→lt k 49 (fst (ltb k 49) q t); is = eqb→eq _ _ (snd (ltb k 49) q t) }

@@ -10,7 +10,7 @@ unfoldable pub key : List ℕ → ℕ
 key w = le (length w) w 0 + 2 ^ 48 * length w
 
 -- the number of a listed name, and in the eighth byte the operand count and four times the operation's number
-pub record Entry (r : ℕ) : Type 0 where
+pub record Packed (r : ℕ) : Type 0 where
   pub op : ℕ
   pub listed : op < 49
   pub is : r ≡ key (getD names op []) + 2 ^ 56 * (getD counts op 0 + 4 * op)

@@ -3,7 +3,7 @@ ghost use mathlib.Core.Path.{_≡_};
 ghost use mathlib.Core.List.{[]};
 ghost use Prim.Native.Nat.{_<_, _≤_, _+_, _*_, _%_, _^_};
 ghost use lib.ListN.{length, getD, take, drop};
-ghost use Rattle.op.specs.Packed.{Entry, Known};
+ghost use Rattle.op.specs.Packed.{Packed, Known};
 ghost use Rattle.op.specs.Ops.{names, counts, same, number};
 ghost use Rattle.op.specs.Text.{lead, step, is-text};
 
@@ -179,8 +179,8 @@ pub fn number_of(w: &[u8]) -> usize
 // An operation's name as a number, its bytes from the lowest up and its length in the seventh, and in the eighth its operand count and four times its number:
 // that of the operation whose name may have the seven bits `h`. A `match`, since an array would be built anew at each call; with five arms for bits that
 // no name has, since LLVM makes a table of a `match` only where at least 40 in 100 have an arm.
-fn entry(h: u64) -> u64
-    ensures { λ r. ⌜ Entry r ⌝ }
+fn packed_name(h: u64) -> u64
+    ensures { λ r. ⌜ Packed r ⌝ }
 {
     match h {
         0 => 0x7703_0000_0065_6e74,
@@ -258,7 +258,7 @@ fn low(v: u64, n: usize) -> u64
 
 // Of the operation whose name is the `n` bytes from `at`: its operand count and four times its number, found by a table, or 256 where the
 // table does not tell. It is pub for the quick way over an instruction, which has tested the length.
-pub fn guess(s: &[u8], at: usize, n: usize) -> u64
+pub fn quick_lookup(s: &[u8], at: usize, n: usize) -> u64
     requires { ⌜ at + 8 ≤ length (now s) ⌝ }
     ensures { λ r. ⌜ (r < 256 → Known (take n (drop at (now (s .entry)))) n r) ⌝ }
 {
@@ -270,7 +270,7 @@ pub fn guess(s: &[u8], at: usize, n: usize) -> u64
     }
     let v = low(fields::eight(s, at), n) + 0x1_0000_0000_0000 * (n as u64);
     let f = v % 0x1_0000_0000 + v / 0x1_0000_0000;
-    let e = entry(f * 258492 / 0x10_0000 % 128);
+    let e = packed_name(f * 258492 / 0x10_0000 % 128);
     if e % 0x100_0000_0000_0000 == v {
         e / 0x100_0000_0000_0000
     } else {

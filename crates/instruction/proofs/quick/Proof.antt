@@ -16,7 +16,7 @@ use Rattle.instruction.proofs.quick.Reads as reads
 use Rattle.instruction.proofs.quick.Lts as lts
 use Rattle.fields.proofs.four.Reads as four-reads
 use Rattle.fields.proofs.is_taken.Reads as is-taken-reads
-use Rattle.op.proofs.guess.Reads as guess-reads
+use Rattle.op.proofs.quick_lookup.Reads as quick-lookup-reads
 use Rattle.pod.proofs.operand_quick.Reads as operand-quick-reads
 
 abbrev Inv-loop : tie.InvT-loop
@@ -40,26 +40,26 @@ add-a c = search needs
 four-requires : tie.Need-four-requires Inv-loop μ-loop
 four-requires c κs = search needs
 
-guess-requires : tie.Need-guess-requires Inv-loop μ-loop
-guess-requires c κs = search needs
+quick-lookup-requires : tie.Need-quick-lookup-requires Inv-loop μ-loop
+quick-lookup-requires c κs = search needs
 
 returns-3 : tie.Need-returns-3 Inv-loop μ-loop
 returns-3 c = λ h. absurd (omega arith)
 
 add-b : tie.Need-add-b Inv-loop μ-loop
-add-b c = let g = c .before .guess .ensures (omega arith) .short in omega arith
+add-b c = let g = c .before .quick-lookup .ensures (omega arith) .short in omega arith
 
 four-requires-2 : tie.Need-four-requires-2 Inv-loop μ-loop
-four-requires-2 c κs = let g = c .before .guess .ensures (omega arith) .short in omega arith
+four-requires-2 c κs = let g = c .before .quick-lookup .ensures (omega arith) .short in omega arith
 
 returns-4 : tie.Need-returns-4 Inv-loop μ-loop
 returns-4 c = λ h. absurd (omega arith)
 
 add-o : tie.Need-add-o Inv-loop μ-loop
-add-o c = let g = c .before .before .before .guess .ensures (omega arith) .short in omega arith
+add-o c = let g = c .before .before .before .quick-lookup .ensures (omega arith) .short in omega arith
 
 loop-holds : tie.Need-loop-holds Inv-loop μ-loop
-loop-holds c = let g = c .before .before .before .guess .ensures (omega arith) .short in (omega arith, refl)
+loop-holds c = let g = c .before .before .before .quick-lookup .ensures (omega arith) .short in (omega arith, refl)
 
 operand-quick-requires : tie.Need-operand-quick-requires Inv-loop μ-loop
 operand-quick-requires c κs = omega arith
@@ -100,7 +100,7 @@ returns-6 c = λ h.
     let f = d .before .before in
     let g = f .before .before .before in
     let a = g .before .before .before .before .before .args in
-    let w = g .guess .ensures (omega arith) in
+    let w = g .quick-lookup .ensures (omega arith) in
     let p : a .at + 4 + g .before .four .result + 4 ≤ length (a .s .now) = let z = w .short in omega arith in
     quick-ok (a .exact) (a .s .now) (a .at) (g .before .four .result) (w .op) p (w .listed) (g .before .four .ensures) (w .named) (l .o)
     (sym (f .before .four2 .ensures) ∙ f .if4 .left ∙ sym (w .takes)) (omega arith) (sym (x .is-taken .ensures) ∙ c .if6 .taken)
@@ -120,7 +120,7 @@ quick-spec =
     returns-2
     add-a
     four-requires
-    guess-requires
+    quick-lookup-requires
     returns-3
     add-b
     four-requires-2

@@ -1,5 +1,5 @@
-use Prim.Native.Nat.{_-_}
 -- The four ways out: there is no such byte, or it is 0 and stays, or it becomes 1.
+use Prim.Native.Nat.{_-_}
 use native.Mathlib.Omega.{arith}
 use Rattle.normal.proofs.Puts.{unset, becomes-one}
 use borrow.Author.Needs.{needs}

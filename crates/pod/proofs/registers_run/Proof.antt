@@ -1,4 +1,4 @@
--- `operands::registers_run` meets its contract: what is left to read answers what the whole run does.
+-- `pod::registers_run` meets its contract: what is left to read answers what the whole run does.
 -- Assumes nothing.
 use mathlib.Core.Path.{_≡_, _∙_, sym, ap}
 use Rattle.fields.specs.Parse.{many, span}

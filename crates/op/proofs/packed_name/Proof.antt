@@ -1,10 +1,10 @@
--- Each arm is the entry of some operation, computed.
+-- Each arm is the packed name of some operation, computed.
 use Rattle.fields.specs.Parse.{le}
 use Rattle.op.specs.Ops.{names, counts}
 use Rattle.op.specs.Packed.{key}
 use Rattle.op.proofs.Packed.{row}
-use Rattle.op.proofs.entry.Statement.{statement}
-use Rattle.op.proofs.entry.Tie as tie
+use Rattle.op.proofs.packed_name.Statement.{statement}
+use Rattle.op.proofs.packed_name.Tie as tie
 
 returns : tie.Need-returns
 unfolding names counts key le
@@ -226,8 +226,8 @@ returns-55 : tie.Need-returns-55
 unfolding names counts key le
 returns-55 c = row 0 _ tt
 
-pub entry-spec : {M : Type 1} → statement M
-entry-spec =
+pub packed-name-spec : {M : Type 1} → statement M
+packed-name-spec =
     tie.close
     (tie.spec
     returns

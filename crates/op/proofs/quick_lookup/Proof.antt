@@ -1,15 +1,15 @@
--- The quick lookup: where the entry found has the name's own key, it is that name.
+-- The quick lookup: where the packed name found has the name's own key, it is that name.
 use native.Mathlib.Omega.{arith}
 use mathlib.Core.Path.{_∙_}
 use Prim.Native.Nat.{_+_, _*_}
 use Rattle.op.proofs.Packed.{low-below, known, hash-fits}
 use borrow.Author.Needs.{needs}
-use Rattle.op.proofs.guess.Statement.{statement}
-use Rattle.op.proofs.guess.Tie as tie
-use Rattle.op.proofs.guess.Reads as reads
-use Rattle.op.proofs.guess.Lts as lts
+use Rattle.op.proofs.quick_lookup.Statement.{statement}
+use Rattle.op.proofs.quick_lookup.Tie as tie
+use Rattle.op.proofs.quick_lookup.Reads as reads
+use Rattle.op.proofs.quick_lookup.Lts as lts
 use Rattle.fields.proofs.eight.Reads as eight-reads
-use Rattle.op.proofs.entry.Reads as entry-reads
+use Rattle.op.proofs.packed_name.Reads as packed-name-reads
 use Rattle.op.proofs.low.Reads as low-reads
 
 returns : tie.Need-returns
@@ -33,27 +33,27 @@ add-v c = omega (arith, c .low .ensures, low-below (c .before .eight .result) (c
 add-f : tie.Need-add-f
 add-f c = search needs
 
-mul-entry : tie.Need-mul-entry
-mul-entry c =
+mul-packed-name : tie.Need-mul-packed-name
+mul-packed-name c =
     let n = c .before .before .before .before .before .args .n in
     let b = low-below (c .before .eight .result) n (omega arith) in
     record { fits = hash-fits (c .low .result + 281474976710656 * n) (omega (arith, c .low .ensures)) }
 
-entry-requires : tie.Need-entry-requires
-entry-requires c κs = search needs
+packed-name-requires : tie.Need-packed-name-requires
+packed-name-requires c κs = search needs
 
 returns-3 : tie.Need-returns-3
 returns-3 c = λ h.
     let w = c .before .before in
     let a = w .before .before .before .before in
-    known _ _ (a .before .args .n) (c .before .entry .result) (c .before .entry .ensures) (a .shared-slice-known .given) (a .before .pre) (omega arith)
+    known _ _ (a .before .args .n) (c .before .packed-name .result) (c .before .packed-name .ensures) (a .shared-slice-known .given) (a .before .pre) (omega arith)
     (c .if3 .taken ∙ rw (w .low .ensures, w .before .eight .ensures))
 
 returns-4 : tie.Need-returns-4
 returns-4 c = λ h. absurd (omega arith)
 
-pub guess-spec : {M : Type 1} → statement M
-guess-spec =
+pub quick-lookup-spec : {M : Type 1} → statement M
+quick-lookup-spec =
     tie.close
     (tie.spec
     returns
@@ -63,7 +63,7 @@ guess-spec =
     mul-v
     add-v
     add-f
-    mul-entry
-    entry-requires
+    mul-packed-name
+    packed-name-requires
     returns-3
     returns-4)
