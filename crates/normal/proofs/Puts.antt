@@ -2,15 +2,16 @@
 -- Assumes nothing.
 use mathlib.Core.Path.{_≡_, refl, sym, ap, ap₂, _∙_}
 use mathlib.Core.List.{List, [], _∷_, _++_}
-use mathlib.Core.Bool.{Bool, false}
+use mathlib.Core.Bool.{Bool, true, false}
 use Prim.Native.Nat.{ℕ, zero, suc, _+_, _-_, _≤_, _<_}
 use native.Mathlib.Omega.{arith}
 use lib.ListN.{length, getD, take, drop, set, length-append, length-set, length-replicate, take-append-drop}
-use lib.Seq.{set-getD, drop-at, drop-drop, getD-drop, take-at, set-append-left, take-set-le, drop-set-add}
-use borrow.Author.Tests.{ne-eqb}
+use lib.Seq.{drop-at, drop-drop, getD-drop, take-at, set-append-left, take-set-le, drop-set-add}
+use mir.Val.{boolByte}
 use Rattle.fields.specs.Parse.{ok, Reader}
 use Rattle.fields.specs.Bytes.{put}
 use Rattle.fields.proofs.Le.{Bytes}
+use Rattle.pod.specs.Written.{bit}
 use Rattle.laws.specs.Moved.{moved}
 use Rattle.laws.specs.Normal.{Role, keep, flag, normal, normalise, keeps, last-flag}
 use Rattle.laws.proofs.At.{At, Spans, fits}
@@ -100,12 +101,10 @@ changed {s} {o} {n} {l} m i j {t} k e =
     in-first (x ∷ f) r zero h = refl
     in-first (x ∷ f) r (suc i) h = in-first f r i (omega arith)
 
--- a flag's byte: 0 stays, and any other becomes 1
-pub unset : (s : List ℕ) (i : ℕ) → getD s i 0 ≡ 0 → s ≡ set s i (normal flag (getD s i 0))
-unset s i e = sym (ap (λ (v : ℕ). set s i (normal flag v)) e ∙ ap (set s i) (sym e) ∙ set-getD s i 0)
-
-pub becomes-one : (s : List ℕ) (i : ℕ) → (getD s i 0 ≡ 0 → ⊥) → set s i 1 ≡ set s i (normal flag (getD s i 0))
-becomes-one s i h = rw (ne-eqb (getD s i 0) 0 h)
+-- a truth value as a byte is a flag's written form
+pub byte-is-bit : (t : Bool) → boolByte t ≡ bit t
+byte-is-bit true = refl
+byte-is-bit false = refl
 
 -- a value whose last byte is a flag, the others kept
 pub flagged : {A : Type 0} {p : Bool → Reader A} {H : A → Type 0} {m : A → List Role} {w : A → List ℕ} (k : Layout p H m w)

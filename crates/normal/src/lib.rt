@@ -17,7 +17,7 @@ const PAD: usize = 5;
 // The header, 8 bytes, and the entry vip, 8, stand before the routine's convention.
 const CONVENTIONS: usize = 16;
 
-// The byte before `end`, as a flag is written: 0 stays, and all else becomes 1.
+// The byte before `end`, as a flag is written: 0 stays, and all else becomes 1. It is stored without a branch, since a file's flags follow no pattern.
 fn settle_flag(a: &mut [u8], end: usize)
     ensures { λ _. ⌜ (0 < end → end ≤ length (now (a .entry)) → now (a .exit) ≡ set (now (a .entry)) (end - 1) (normal flag (getD (now (a .entry)) (end - 1) 0))) ⌝ }
 {
@@ -27,10 +27,7 @@ fn settle_flag(a: &mut [u8], end: usize)
     if a.len() < end {
         return;
     }
-    if a[end - 1] == 0 {
-        return;
-    }
-    a[end - 1] = 1;
+    a[end - 1] = (a[end - 1] != 0) as u8;
 }
 
 // Sp reset is an instruction's last byte.
