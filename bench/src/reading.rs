@@ -65,9 +65,17 @@ fn library_opens(file: &[u8], book: &mut Book<&mut [u8]>) -> Duration {
     took
 }
 
+/// The first input as the Rust writes it: the pad 0, and every flag 0 or 1. Such a file is opened by one walk and a copy.
+fn in_written_form() -> Input {
+    let routine = Routine::from_vec(&instructions()).expect("the measured files are accepted");
+    let file = routine.into_bytes().expect("what was read is written");
+    Input { name: "100,000 instructions, in written form", blocks: 4_000, file }
+}
+
 pub fn opens(most_blocks: usize) {
     heading("open", "from_vec, into_bytes", "library open");
-    for Input { name, file, .. } in inputs(most_blocks) {
+    let written = Some(in_written_form()).filter(|input| input.blocks <= most_blocks);
+    for Input { name, file, .. } in inputs(most_blocks).into_iter().chain(written) {
         let (mut image, mut journal) = (vec![1; file.len()], vec![1; 4096]);
         let mut book = Book::resume(Lengths::default(), &mut image[..], &mut journal[..]);
         let times = best_of_both(|| rust_reads_and_writes(&file), || library_opens(&file, &mut book));
