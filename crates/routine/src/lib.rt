@@ -12,6 +12,7 @@ use fields::Skip;
 use fields::U8Read;
 use fields::U32Read;
 use fields::U64Read;
+use pod::Vip;
 
 const VTIL_MAGIC_1: u64 = 0x4c49_5456;
 
@@ -104,16 +105,17 @@ fn blocks_refusal(run: BlocksSkip) -> u8
 }
 
 // The least vip that may come after `vip` where vips rise, one more, if `vip` itself may come. If not, the highest number, and it stays that.
-fn floor_after(floor: u64, vip: u64) -> u64
-    ensures { λ r. ⌜ (r < TOP → (floor ≤ vip) × (r ≡ vip + 1)) ⌝ }
+fn floor_after(floor: u64, vip: Vip) -> u64
+    ensures { λ r. ⌜ (r < TOP → (floor ≤ vip .0) × (r ≡ vip .0 + 1)) ⌝ }
 {
-    if vip < floor {
+    let v = vip.0;
+    if v < floor {
         return sorting::TOP;
     }
-    if vip == sorting::TOP {
+    if v == sorting::TOP {
         return sorting::TOP;
     }
-    vip + 1
+    v + 1
 }
 
 // `count` blocks. Their vips are looked at on the way: where they rise, as compilers write them, no search for repeated ones is needed.
@@ -126,7 +128,7 @@ fn blocks_run(s: &[u8], at: usize, count: u32, exact: bool) -> BlocksSkip
     while 0 < left {
         let far = block::block_skip(s, o, exact);
         if let Skip::Past(n) = far {
-            floor = floor_after(floor, walk::word64(s, o));
+            floor = floor_after(floor, Vip(walk::word64(s, o)));
             o = n;
         } else {
             return BlocksSkip::Refused(fields::skip_refusal(far));

@@ -135,8 +135,8 @@ fn tail_refusal(tail: TailRead) -> u8
 }
 
 // The sp index and reset, after the vip and the sp offset.
-fn sp_at(s: &[u8], at: usize, vip: u64, offset: i64) -> TailRead
-    ensures { λ r. ⌜ of-tail r ≡ bind (u32 (now (s .entry)) at) (λ i a. bind (u8 (now (s .entry)) a) (λ b o. ok (record { vip = record { 0 = vip }; «sp_offset» = offset; «sp_index» = i; «sp_reset» = b }) o)) ⌝ }
+fn sp_at(s: &[u8], at: usize, vip: Vip, offset: i64) -> TailRead
+    ensures { λ r. ⌜ of-tail r ≡ bind (u32 (now (s .entry)) at) (λ i a. bind (u8 (now (s .entry)) a) (λ b o. ok (record { vip = vip; «sp_offset» = offset; «sp_index» = i; «sp_reset» = b }) o)) ⌝ }
 {
     let sp_index = fields::u32_at(s, at);
     if let U32Read::Value(i, a) = sp_index {
@@ -144,7 +144,7 @@ fn sp_at(s: &[u8], at: usize, vip: u64, offset: i64) -> TailRead
         if let U8Read::Value(b, o) = sp_reset {
             TailRead::Value(
                 Tail {
-                    vip: Vip(vip),
+                    vip,
                     sp_offset: offset,
                     sp_index: i,
                     sp_reset: b,
@@ -167,7 +167,7 @@ fn tail_at(s: &[u8], at: usize) -> TailRead
     if let U64Read::Value(v, a) = vip {
         let sp_offset = fields::i64_at(s, a);
         if let I64Read::Value(z, b) = sp_offset {
-            sp_at(s, b, v, z)
+            sp_at(s, b, Vip(v), z)
         } else {
             TailRead::Refused(fields::i64_refusal(sp_offset))
         }
