@@ -111,6 +111,6 @@ span (ok a n) = ok tt n
 span (no e) = no e
 
 -- the refusal of an answer: 0 where it is a value
-unfoldable pub refusal-in : {A : Type 0} → Res A → ℕ
+abbrev pub refusal-in : {A : Type 0} → Res A → ℕ
 refusal-in (ok a n) = 0
 refusal-in (no e) = e
