@@ -7,8 +7,8 @@
 # They land in /usr/share/cargo/registry, which .cargo/config.toml names as the only source of crates.
 # It needs Debian 12 (bookworm), root for the installing, and cargo, which it does not install.
 #
-# Where VTIL_RUST_SRC names a folder with the published lib.rs, pod.rs and serialize.rs, it compares them with
-# those of original/src.
+# It compares lib.rs, pod.rs and serialize.rs in original/src with the sums of the published files
+# (original/SHA256SUMS), and, where VTIL_RUST_SRC names a folder with those files, with them byte for byte.
 set -euo pipefail
 
 packages="librust-scroll-dev librust-indexmap-dev librust-bitflags-dev librust-memmap-dev"
@@ -41,11 +41,11 @@ install_packages() {
 
 # The three listed files have to be the published ones, byte for byte.
 compare_originals() {
+    (cd "$here/original/src" && sha256sum --check --quiet ../SHA256SUMS) ||
+        fail "original/src has a file that is not the published one"
+    echo "originals: the sums are those of the published files"
     published=${VTIL_RUST_SRC:-}
-    if [ -z "$published" ]; then
-        echo "originals: not compared: VTIL_RUST_SRC does not name a folder with the published files"
-        return
-    fi
+    [ -n "$published" ] || return 0
     [ -d "$published" ] || fail "VTIL_RUST_SRC names no folder: $published"
     for file in lib.rs pod.rs serialize.rs; do
         cmp "$published/$file" "$here/original/src/$file" || fail "original/src/$file is not the published file"

@@ -17,7 +17,7 @@ fn one_instruction() -> [u8; 149] {
     file
 }
 
-// The number of a refusal, or 0 for a consumed length.
+// The number of the refusals 1 and 2, which are those that these files get, or 0 for any other answer.
 fn refusal_of(answer: i64) -> u64 {
     match answer {
         -1 => 1,

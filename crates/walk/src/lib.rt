@@ -1,5 +1,5 @@
 // The walk over blocks and conventions that were accepted before. It looks at counts, kinds and the size of a name alone, and reads no name, text or register
-// again: where a block is passed many times, that is most of the time.
+// again: the search for repeated vips passes each block many times, and this saves most of its time.
 ghost use mathlib.Core.Path.{_≡_};
 ghost use Prim.Native.Nat.{_+_, _≤_, _<_};
 ghost use lib.ListN.{length};
