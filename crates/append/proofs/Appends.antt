@@ -30,7 +30,7 @@ use Rattle.machine.proofs.Lists.{present-before, absent-after}
 use Rattle.machine.proofs.Parts.{change-parts}
 use Rattle.machine.proofs.Undo.{trailer-size}
 use Rattle.book.specs.Holding.{block-start, Sound}
-use Rattle.trailer.specs.Says.{named}
+use Rattle.journal.specs.Says.{trailer-with}
 use Rattle.append.specs.Whole.{Whole}
 use Rattle.edits.proofs.Cuts.{before, behind, the-block, with-code, code-of, before-size, cut, cut-size, unused, image-cut, ends-within}
 use Rattle.append.proofs.Flags.{flagged, written-flagged}
@@ -171,7 +171,7 @@ module _ (s : State) (r : Routine) (o : Sound s r) (v : ℕ) (t : List ℕ) wher
           → (at n end p : ℕ) (i₁ i₂ i₃ j : List ℕ) → at ≡ block-start r (place v blocks) → n ≡ length (the-block r (place v blocks) .instructions)
           → end ≡ at + 28 + length (code-of (the-block r (place v blocks) .instructions)) → p ≡ place v blocks
           → i₁ ≡ put (end + length t) (take (s .book .written - end) (drop end (s .image))) (s .image) → i₂ ≡ put end (flagged t) i₁ → i₃ ≡ put (at + 24) (bytes 4 (n + 1)) i₂
-          → j ≡ put (s .book .used) (trailer-bytes (named v p (length t) 3)) (s .journal)
+          → j ≡ put (s .book .used) (trailer-bytes (trailer-with v p (length t) 3)) (s .journal)
           → _≡_ {A = Answer × State}
           (accepted (record { written = s .book .written + length t; used = s .book .used + 20 }), record { image = i₃; journal = j; book = record { written = s .book .written + length t; used = s .book .used + 20 } })
           (step (edit (append v t)) s)

@@ -44,11 +44,11 @@ fn append_whole(
     let written = book.written as usize;
     let used = book.used as usize;
     let size = instruction.len();
-    let cost = trailer::TRAILER_SIZE;
-    let spot = image::find(image, vip);
-    let place = spot.place;
-    let at = spot.at;
-    if spot.count as usize <= place {
+    let cost = journal::TRAILER_SIZE;
+    let found = image::find(image, vip);
+    let place = found.place;
+    let at = found.at;
+    if found.count as usize <= place {
         return Answer {
             refusal: book::NO_SUCH_BLOCK,
             book,
@@ -66,18 +66,18 @@ fn append_whole(
             book,
         };
     }
-    let count = walk::word32(image, at + image::COUNT_AT);
+    let count = ends::word32(image, at + image::COUNT_AT);
     let end = image::instructions_end(image, at);
     buffer::move_within(image, end, end + size, written - end);
     put_instruction(image, end, instruction);
     buffer::put_u32(image, at + image::COUNT_AT, count + 1);
-    trailer::put_trailer(
+    journal::put_trailer(
         journal,
         used,
         vip,
         place as u32,
         size as u32,
-        trailer::APPEND,
+        journal::APPEND,
     );
     Answer {
         refusal: 0,

@@ -19,7 +19,7 @@ pub record Agrees (o : Opening) (cs : List Call) (x : Answer × State) : Type 0 
       x .0 ≡ last-of (accepted (o .book)) (machine-run (length (o .image)) (length (o .journal)) cs (start (o .routine)) .0)
   pub image : x .1 .image ≡ in-image (length (o .image)) (machine-after o cs .now)
   pub written : x .1 .book .written ≡ size (machine-after o cs .now)
-  pub used : x .1 .book .used ≡ used-by (machine-after o cs .pile)
+  pub used : x .1 .book .used ≡ used-by (machine-after o cs .stack)
 
 pub record Runs (file image journal words bytes : List ℕ) (x : Answer × State) : Type 0 where
   pub is : x ≡ opened-and-run file image journal words bytes

@@ -22,7 +22,7 @@ use Rattle.machine.proofs.Lists.{present-before, absent-after}
 use Rattle.machine.proofs.Parts.{routine-parts, empty-bytes}
 use Rattle.machine.proofs.Undo.{trailer-size}
 use Rattle.book.specs.Holding.{blocks-start, Sound}
-use Rattle.trailer.specs.Says.{named}
+use Rattle.journal.specs.Says.{trailer-with}
 use Rattle.edits.proofs.Steps.{refused-step, image-full-step, journal-full-step, accepted-step}
 
 -- the routine with one block more
@@ -84,7 +84,7 @@ module _ (s : State) (r : Routine) (o : Sound s r) (v : ℕ) where
     pub create-final : s .book .written + 36 ≤ length (s .image) → s .book .used + 20 ≤ length (s .journal)
         → (start n : ℕ) (i₁ i₂ j : List ℕ) → start ≡ blocks-start r → n ≡ length blocks
         → i₁ ≡ put (s .book .written) (bytes 8 v) (s .image) → i₂ ≡ put (start - 4) (bytes 4 (n + 1)) i₁
-        → j ≡ put (s .book .used) (trailer-bytes (named v n 0 1)) (s .journal)
+        → j ≡ put (s .book .used) (trailer-bytes (trailer-with v n 0 1)) (s .journal)
         → _≡_ {A = Answer × State}
         (accepted (record { written = s .book .written + 36; used = s .book .used + 20 }), record { image = i₂; journal = j; book = record { written = s .book .written + 36; used = s .book .used + 20 } })
         (step (edit (create v)) s)
@@ -95,4 +95,4 @@ module _ (s : State) (r : Routine) (o : Sound s r) (v : ℕ) where
         (omega (arith, costs))
         (e₂ ∙ ap₂ (λ m i. put (start - 4) (bytes 4 (m + 1)) i) en e₁
         ∙ created-image (length (s .image)) (s .image) (s .book .written) start r v (o .image) (o .written) k es)
-        (e₃ ∙ ap (λ m. put (s .book .used) (trailer-bytes (named v m 0 1)) (s .journal)) en)
+        (e₃ ∙ ap (λ m. put (s .book .used) (trailer-bytes (trailer-with v m 0 1)) (s .journal)) en)

@@ -22,9 +22,9 @@ pub fn create_block(book: Book, image: &mut [u8], journal: &mut [u8], vip: Vip) 
     let v = vip.0;
     let written = book.written as usize;
     let used = book.used as usize;
-    let spot = image::find(image, vip);
-    let count = spot.count;
-    if spot.place < count as usize {
+    let found = image::find(image, vip);
+    let count = found.count;
+    if found.place < count as usize {
         return Answer {
             refusal: book::BLOCK_PRESENT,
             book,
@@ -36,7 +36,7 @@ pub fn create_block(book: Book, image: &mut [u8], journal: &mut [u8], vip: Vip) 
             book,
         };
     }
-    if journal.len() - used < trailer::TRAILER_SIZE {
+    if journal.len() - used < journal::TRAILER_SIZE {
         return Answer {
             refusal: book::JOURNAL_FULL,
             book,
@@ -46,12 +46,12 @@ pub fn create_block(book: Book, image: &mut [u8], journal: &mut [u8], vip: Vip) 
     let start = blocks.start;
     buffer::put_u64(image, written, v);
     buffer::put_u32(image, start - 4, count + 1);
-    trailer::put_trailer(journal, used, vip, count, 0, trailer::CREATE);
+    journal::put_trailer(journal, used, vip, count, 0, journal::CREATE);
     Answer {
         refusal: 0,
         book: Book {
             written: (written + EMPTY_BLOCK_SIZE) as u64,
-            used: (used + trailer::TRAILER_SIZE) as u64,
+            used: (used + journal::TRAILER_SIZE) as u64,
         },
     }
 }

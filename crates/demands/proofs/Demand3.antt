@@ -1,5 +1,5 @@
 -- Demand 3, whole. Answers, image and book from the invariant at the list's end; books told apart since a written form is of one routine;
--- taking back from what stays on the pile.
+-- taking back from what stays on the stack.
 -- Assumes nothing.
 use mathlib.Core.Path.{_≡_, refl, sym, ap, ap₂, _∙_}
 use mathlib.Core.Bool.{true}
@@ -18,7 +18,7 @@ use Rattle.machine.proofs.Held.{take-image}
 use Rattle.machine.proofs.Simulation.{Sim, linked-used, holds-it, run-sim}
 use Rattle.demands.proofs.Openings.{small, journal-small, fresh-sim}
 use Rattle.demands.proofs.Refusals.{run-sound}
-use Rattle.demands.proofs.Piles.{run-append, edit-pile, undo-pile, bare, run-above, edit-stands}
+use Rattle.demands.proofs.Stacks.{run-append, edit-stack, undo-stack, bare, run-above, edit-stands}
 
 module _ (o : Opening) (cs : List Call) (f : Each Sendable cs) where
   abbrev N : ℕ
@@ -37,7 +37,7 @@ module _ (o : Opening) (cs : List Call) (f : Each Sendable cs) where
         answers = simulated .0;
         image = ap (λ x. x .image) (s .is);
         written = ap (λ x. x .book .written) (s .is);
-        used = ap (λ x. x .book .used) (s .is) ∙ sym (linked-used N (machine-after o cs .now) (machine-after o cs .pile) (s .j) (s .link));
+        used = ap (λ x. x .book .used) (s .is) ∙ sym (linked-used N (machine-after o cs .now) (machine-after o cs .stack) (s .j) (s .link));
         holds = ap held (s .is) ∙ holds-it N J (small o) (journal-small o) (machine-after o cs .now) (s .j) (s .holds) (s .room) (s .journal-room);
       }
 
@@ -74,8 +74,8 @@ module _ (N J : ℕ) (m : Machine) (e : Edit) (ds : List Call) (a : is-accepted 
 
   pub returns : (is-accepted (machine-step N J undo last .0) ≡ true) × (machine-step N J undo last .1 ≡ m)
   returns =
-      undo-pile N J last (m .now, cost e (m .now)) (m .pile)
-      (bare (run-above N J ((m .now, cost e (m .now)) ∷ m .pile) ds (machine-step N J (edit e) m .1) 0 0 (record { top = []; is = edit-pile N J e m a; many = refl }) s))
+      undo-stack N J last (m .now, cost e (m .now)) (m .stack)
+      (bare (run-above N J ((m .now, cost e (m .now)) ∷ m .stack) ds (machine-step N J (edit e) m .1) 0 0 (record { top = []; is = edit-stack N J e m a; many = refl }) s))
 
 -- where the machine is equal after two lists, image and book are
 module _ (o : Opening) (cs ds : List Call) (f : Each Sendable cs) (g : Each Sendable ds) (same : machine-after o cs ≡ machine-after o ds) where
@@ -86,7 +86,7 @@ module _ (o : Opening) (cs ds : List Call) (f : Each Sendable cs) (g : Each Send
   same-written = follows o cs f .written ∙ ap (λ m. size (m .now)) same ∙ sym (follows o ds g .written)
 
   same-used : after-calls o cs .book .used ≡ after-calls o ds .book .used
-  same-used = follows o cs f .used ∙ ap (λ m. used-by (m .pile)) same ∙ sym (follows o ds g .used)
+  same-used = follows o cs f .used ∙ ap (λ m. used-by (m .stack)) same ∙ sym (follows o ds g .used)
 
   same-book : after-calls o cs .book ≡ after-calls o ds .book
   same-book i = record { written = same-written i; used = same-used i }

@@ -1,6 +1,7 @@
 pub mod Openings
-pub mod Piles
+pub mod Stacks
 pub mod Refusals
 pub mod Demand1
 pub mod Demand2
 pub mod Demand3
+pub mod Instances

@@ -12,10 +12,10 @@ use mir.Syntax.{Width, w32, w64}
 use Rattle.fields.specs.Parse.{Res, ok, no, Reader, bind, choose, uint, int, part, many, counted, taken, pad, flag, u64}
 use Rattle.fields.specs.Outcome.{Outcome, refused, accepted}
 use Rattle.pod.specs.Values.{Instruction, Routine}
-use Rattle.pod.specs.Layout.{header, register, immediate, operand, named, opcode, after, instruction, convention, block, blocks, routine, as-it-comes}
+use Rattle.pod.specs.Layout.{header, register, immediate, operand, named, opcode, after-opcode, instruction, convention, block, blocks, routine, as-it-comes}
 use Rattle.machine.specs.Edits.{Edit, create, remove, append, present, appended, edited, cost}
 use Rattle.laws.specs.Holds.{Each}
-use Rattle.machine.specs.Machine.{Call, edit, undo, Pile, used-by, Machine, size, admitted, after-edit, after-undo, machine-step, machine-run}
+use Rattle.machine.specs.Machine.{Call, edit, undo, Stack, used-by, Machine, size, admitted, after-edit, after-undo, machine-step, machine-run}
 use Rattle.demands.specs.Demand3.{Unspoiled}
 
 pub record Reading (P : ℕ → Type 0) {A : Type 0} (r : Res A) : Type 0 where
@@ -105,7 +105,7 @@ module _ {P : ℕ → Type 0} where
             next (a-test 7 _ n₄ p₇) λ u n₅. next (a-test 8 _ n₅ p₈) λ u n₆. gives
 
         pub an-instruction : (o : ℕ) → Reading P (instruction as-it-comes s o)
-        unfolding instruction after
+        unfolding instruction after-opcode
         an-instruction o =
             next (an-opcode o) λ op n₁. next (a-list operand an-operand _ n₁) λ xs n₂. next (a-uint 8 n₂) λ vip n₃. next (an-int w64 8 n₃) λ sp n₄.
             next (a-uint 4 n₄) λ index n₅. next (a-flag n₅) λ reset n₆. gives
@@ -115,7 +115,7 @@ module _ {P : ℕ → Type 0} where
         a-block o =
             next (a-uint 8 o) λ vip n₁. next (an-int w64 8 n₁) λ sp n₂. next (a-uint 4 n₂) λ index n₃. next (a-uint 4 n₃) λ last n₄.
             next (a-count (instruction as-it-comes) an-instruction n₄) λ is n₅. next (a-count u64 (a-uint 8) n₅) λ prev n₆.
-            next (a-count u64 (a-uint 8) n₆) λ after n₇. gives
+            next (a-count u64 (a-uint 8) n₆) λ after-opcode n₇. gives
 
         module _ (p₃ : P 3) (p₄ : P 4) (p₉ : P 9) where
           a-header : (o : ℕ) → Reading P (header as-it-comes s o)
@@ -164,10 +164,10 @@ module _ (N J : ℕ) where
 
       go : (x : Outcome Routine) → Unspoiled x → Unspoiled (after-edit N J (cost e (m .now)) m x .0)
       go (refused k) h = h
-      go (accepted r) h = fit r (leb (size r) N) (leb (used-by (m .pile) + cost e (m .now)) J)
-  step-sound undo m = go (m .pile)
+      go (accepted r) h = fit r (leb (size r) N) (leb (used-by (m .stack) + cost e (m .now)) J)
+  step-sound undo m = go (m .stack)
     where
-      go : (ps : Pile) → Unspoiled (after-undo m ps .0)
+      go : (ps : Stack) → Unspoiled (after-undo m ps .0)
       go [] = named-refusal 16 (omega arith)
       go (p ∷ ps) = tt
 

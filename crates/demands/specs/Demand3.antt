@@ -75,7 +75,7 @@ pub record Follows (o : Opening) (cs : List Call) : Type 0 where
   pub answers : run cs (fresh o) .0 ≡ machine-run (length (o .image)) (length (o .journal)) cs (start (o .routine)) .0
   pub image : after-calls o cs .image ≡ in-image (length (o .image)) (machine-after o cs .now)
   pub written : after-calls o cs .book .written ≡ size (machine-after o cs .now)
-  pub used : after-calls o cs .book .used ≡ used-by (machine-after o cs .pile)
+  pub used : after-calls o cs .book .used ≡ used-by (machine-after o cs .stack)
   pub holds : held (after-calls o cs) ≡ accepted (machine-after o cs .now)
 
 -- two books hold equal written bytes exactly when the machine ends in equal routines

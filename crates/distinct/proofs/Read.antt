@@ -15,9 +15,9 @@ use Rattle.pod.specs.Blocks.{vips}
 use Rattle.sorting.specs.Counts.{hit, count}
 use Rattle.sorting.specs.Buffer.{TOP}
 use Rattle.sorting.proofs.Counts.{hit-le, hit-other}
-use Rattle.walk.specs.Ends.{word, blockEnd}
+use Rattle.ends.specs.Ends.{word, blockEnd}
 use Rattle.fields.proofs.Invert.{inv, inv-ok}
-use Rattle.walk.proofs.Same.{block-vip, block-ends}
+use Rattle.ends.proofs.Same.{block-vip, block-ends}
 use Rattle.distinct.specs.Walked.{vipsFrom}
 
 vips-more : (s : List ℕ) (o n : ℕ) → 0 < n → vipsFrom s o n ≡ word 8 s o ∷ vipsFrom s (blockEnd s o) (n - 1)

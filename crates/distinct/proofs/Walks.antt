@@ -13,7 +13,7 @@ use Rattle.sorting.specs.Buffer.{TOP, Cleared, Heap, Under, Sifted}
 use Rattle.sorting.proofs.Order.{equal?, below?, false-true, true-false}
 use Rattle.sorting.proofs.Counts.{hit-same, hit-other, count-set, count-at, count-only}
 use Rattle.sorting.proofs.Heaps.{root-max}
-use Rattle.walk.specs.Ends.{word, blockEnd}
+use Rattle.ends.specs.Ends.{word, blockEnd}
 use Rattle.distinct.specs.Walked.{vipsFrom, TopTwice, Gathered}
 use Rattle.distinct.proofs.Repeats.{rep-true}
 use Rattle.distinct.proofs.Read.{count-step, count-none}

@@ -7,7 +7,7 @@ use lib.ListN.{length}
 use Rattle.pod.specs.Blocks.{repeats}
 use Rattle.sorting.specs.Counts.{count}
 use Rattle.sorting.specs.Buffer.{TOP, Heap}
-use Rattle.walk.specs.Ends.{word, blockEnd}
+use Rattle.ends.specs.Ends.{word, blockEnd}
 
 -- the vips of n blocks from o
 unfoldable pub vipsFrom : List ℕ → ℕ → ℕ → List ℕ

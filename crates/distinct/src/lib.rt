@@ -20,7 +20,7 @@ fn top_twice(s: &[u8], start: usize, count: usize) -> bool
     let mut at = start;
     let mut seen: usize = 0;
     while 0 < left {
-        let b = walk::block_at(s, at);
+        let b = ends::block_at(s, at);
         at = b.next;
         left -= 1;
         if b.vip.0 == sorting::TOP {
@@ -45,7 +45,7 @@ fn gather(s: &[u8], start: usize, count: usize, lo: u64, b: &mut [u64]) -> u64
     let mut at = start;
     let mut hi: u64 = sorting::TOP;
     while 0 < left {
-        let k = walk::block_at(s, at);
+        let k = ends::block_at(s, at);
         let v = k.vip.0;
         at = k.next;
         left -= 1;

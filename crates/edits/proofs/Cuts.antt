@@ -14,7 +14,7 @@ use Rattle.laws.proofs.Back.{length-bytes}
 use Rattle.laws.proofs.Place.{many-append}
 use Rattle.laws.proofs.Sizes.{block-head-size, vips-size}
 use Rattle.machine.specs.Edits.{block-at, with-instructions, with-blocks}
-use Rattle.walk.specs.Ends.{word}
+use Rattle.ends.specs.Ends.{word}
 use Rattle.machine.specs.Machine.{size}
 use Rattle.machine.specs.Book.{State, in-image}
 use Rattle.machine.proofs.Parts.{routine-parts}

@@ -10,7 +10,7 @@ use lib.Seq.{split-at, take-at}
 use Rattle.pod.specs.Values.{BasicBlock, Routine}
 use Rattle.pod.specs.Written.{block-bytes}
 use Rattle.laws.proofs.At.{At}
-use Rattle.walk.specs.Ends.{blockEnd}
+use Rattle.ends.specs.Ends.{blockEnd}
 use Rattle.machine.specs.Edits.{empty-block, block-at}
 use Rattle.machine.specs.Machine.{size}
 use Rattle.machine.proofs.Keeps.{weight}

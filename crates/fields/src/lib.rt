@@ -162,7 +162,7 @@ pub fn u8_at(s: &[u8], at: usize) -> U8Read
     }
 }
 
-// The number of the 2, 4 and 8 bytes from `at`: without a loop, so that each is one load. Those of 4 and 8 are pub for the quick ways above, which have
+// The number of the 2, 4 and 8 bytes from `at`: without a loop, so that each is one load. Those of 4 and 8 are pub for the fast ways above, which have
 // tested one length for all that they load.
 fn two(s: &[u8], at: usize) -> u64
     requires { ⌜ at + 2 ≤ length (now s) ⌝ }

@@ -16,8 +16,8 @@ use Rattle.pod.specs.Values.{BasicBlock, Routine}
 use Rattle.pod.specs.Written.{bytes, block-bytes, block-head-bytes, instruction-bytes, many-bytes, counted-bytes}
 use Rattle.machine.specs.Edits.{block-at}
 use Rattle.book.specs.Holding.{Holding, block-start}
-use Rattle.walk.specs.Ends.{jump, word, times, instructionEnd}
-use Rattle.walk.proofs.Steps.{jump-in}
+use Rattle.ends.specs.Ends.{jump, word, times, instructionEnd}
+use Rattle.ends.proofs.Steps.{jump-in}
 use Rattle.image.specs.Places.{instruction-start}
 use Rattle.image.proofs.Stands.{named, word-at, jump-at, times-at, instruction-far, block-stands, block-holds}
 

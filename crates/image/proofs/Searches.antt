@@ -15,9 +15,9 @@ use Rattle.pod.specs.Values.{Routine}
 use Rattle.pod.specs.Written.{many-bytes}
 use Rattle.machine.specs.Edits.{place, block-at, empty-block}
 use Rattle.book.specs.Holding.{Holding, blocks-start, block-start}
-use Rattle.walk.specs.Ends.{word, blockEnd}
-use Rattle.image.specs.Places.{Spotted}
-use Rattle.image.specs.declared.Spot.{Spot}
+use Rattle.ends.specs.Ends.{word, blockEnd}
+use Rattle.image.specs.Places.{Finds}
+use Rattle.image.specs.declared.Found.{Found}
 use Rattle.image.proofs.Stands.{block-stands, block-holds, block-next, block-far, block-word}
 
 pub record Walked (x : Routine) (v i at : ℕ) : Type 0 where
@@ -29,31 +29,31 @@ module _ (x : Routine) (v : ℕ) where
   unfolding many-bytes
   walk-start e = record { stands = e ∙ sym (add-zero (blocks-start x)); passed = omega arith }
 
-  spotted : {i at : ℕ} (r : Spot) → at ≡ block-start x i → place v (x .explored-blocks) ≡ i → r .place ≡ i → r .at ≡ at
-      → r .count ≡ length (x .explored-blocks) → Spotted x v r
-  spotted r e p q t n = record { place = q ∙ sym p; at = t ∙ e ∙ ap (block-start x) (sym p); count = n }
+  finds : {i at : ℕ} (r : Found) → at ≡ block-start x i → place v (x .explored-blocks) ≡ i → r .place ≡ i → r .at ≡ at
+      → r .count ≡ length (x .explored-blocks) → Finds x v r
+  finds r e p q t n = record { place = q ∙ sym p; at = t ∙ e ∙ ap (block-start x) (sym p); count = n }
 
   module _ {s : List ℕ} (h : Holding s x) {i at : ℕ} (w : Walked x v i at) where
     -- past the last block
-    pub walk-end : (r : Spot) → i ≡ length (x .explored-blocks) → r .place ≡ i → r .at ≡ at → r .count ≡ length (x .explored-blocks) → Spotted x v r
+    pub walk-end : (r : Found) → i ≡ length (x .explored-blocks) → r .place ≡ i → r .at ≡ at → r .count ≡ length (x .explored-blocks) → Finds x v r
     unfolding place
     walk-end r e =
         let none : drop i (x .explored-blocks) ≡ [] = drop-of-length-le (x .explored-blocks) {i = i} (omega arith) in
         let p : place v (x .explored-blocks) ≡ i = omega (arith, w .passed, ap (place v) none) in
-        spotted r (w .stands) p
+        finds r (w .stands) p
 
     module _ (l : i < length (x .explored-blocks)) where
       here : word 8 s at ≡ block-at i (x .explored-blocks) .vip
       here = ap (word 8 s) (w .stands) ∙ block-word (block-start x i) _ (block-holds h i l) (block-stands h i l)
 
       -- at the block
-      pub walk-hit : (r : Spot) {u : ℕ} → u ≡ word 8 s at → u ≡ v → r .place ≡ i → r .at ≡ at → r .count ≡ length (x .explored-blocks) → Spotted x v r
+      pub walk-hit : (r : Found) {u : ℕ} → u ≡ word 8 s at → u ≡ v → r .place ≡ i → r .at ≡ at → r .count ≡ length (x .explored-blocks) → Finds x v r
       unfolding place choose
       walk-hit r p q =
           let e : place v (drop i (x .explored-blocks)) ≡ 0 =
           rw (drop-cons (x .explored-blocks) i (empty-block 0) l, eq-eqb _ v (sym here ∙ sym p ∙ q)) in
           let f : place v (x .explored-blocks) ≡ i = omega (arith, w .passed, e) in
-          spotted r (w .stands) f
+          finds r (w .stands) f
 
       -- past it
       pub walk-next : {u m : ℕ} → u ≡ word 8 s at → m ≡ blockEnd s at → (u ≡ v → ⊥) → Walked x v (i + 1) m

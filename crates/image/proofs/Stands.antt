@@ -22,9 +22,9 @@ use Rattle.machine.specs.Look.{conventions}
 use Rattle.machine.proofs.Lists.{each-at}
 use Rattle.book.specs.Holding.{Holding, blocks-start, block-start}
 use Rattle.image.specs.Places.{convention-start}
-use Rattle.walk.specs.Ends.{jump, word, times, instructionEnd, blockEnd, conventionEnd}
-use Rattle.walk.proofs.Steps.{jump-in, value, word-is}
-use Rattle.walk.proofs.Same.{instruction-ends, block-vip, block-ends, convention-ends}
+use Rattle.ends.specs.Ends.{jump, word, times, instructionEnd, blockEnd, conventionEnd}
+use Rattle.ends.proofs.Steps.{jump-in, value, word-is}
+use Rattle.ends.proofs.Same.{instruction-ends, block-vip, block-ends, convention-ends}
 
 -- at an offset that has another name
 pub named : {s l : List ℕ} {o p : ℕ} → o ≡ p → At s o l → At s p l

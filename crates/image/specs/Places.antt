@@ -11,7 +11,7 @@ use Rattle.pod.specs.Layout.{routine, as-written}
 use Rattle.pod.specs.Written.{convention-bytes, instruction-bytes, many-bytes}
 use Rattle.machine.specs.Edits.{place as place-of, block-at}
 use Rattle.book.specs.Holding.{block-start}
-use Rattle.image.specs.declared.Spot.{Spot}
+use Rattle.image.specs.declared.Found.{Found}
 
 -- what was passed over ends at n
 abbrev pub ends-at : ℕ → Res Unit → Bool
@@ -23,7 +23,7 @@ unfoldable pub is-routine : List ℕ → Bool
 is-routine s = ends-at (length s) (span (routine as-written s 0))
 
 -- the place of the block with the vip and where it begins; the number of blocks and the end of the last where no block has it
-pub record Spotted (x : Routine) (v : ℕ) (r : Spot) : Type 0 where
+pub record Finds (x : Routine) (v : ℕ) (r : Found) : Type 0 where
   pub place : r .place ≡ place-of v (x .explored-blocks)
   pub at : r .at ≡ block-start x (place-of v (x .explored-blocks))
   pub count : r .count ≡ length (x .explored-blocks)

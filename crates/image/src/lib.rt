@@ -9,7 +9,7 @@ ghost use Rattle.machine.specs.Look.{conventions};
 ghost use Rattle.machine.specs.Book.{held};
 ghost use Rattle.book.specs.Says.{state, refusal-of};
 ghost use Rattle.book.specs.Holding.{Holding, blocks-start, block-start};
-ghost use Rattle.image.specs.Places.{is-routine, Spotted, convention-start, instruction-start};
+ghost use Rattle.image.specs.Places.{is-routine, Finds, convention-start, instruction-start};
 use book::Book;
 use fields::Skip;
 use pod::Vip;
@@ -64,7 +64,7 @@ pub struct Blocks {
 
 // A block's place and the offset at which it begins; where no block has the vip, the number of blocks and the offset past them. And the number
 // of blocks, which tells the two apart.
-pub struct Spot {
+pub struct Found {
     pub place: usize,
     pub at: usize,
     pub count: u32,
@@ -74,28 +74,28 @@ pub struct Spot {
 pub fn special_count(image: &[u8]) -> u32
     ensures { λ r. ⌜ ((x : Routine) → Holding (now (image .entry)) x → r ≡ length (x .spec-subroutine-conventions)) ⌝ }
 {
-    let a = walk::convention_end(image, 16);
-    let b = walk::convention_end(image, a);
-    walk::word32(image, b)
+    let a = ends::convention_end(image, 16);
+    let b = ends::convention_end(image, a);
+    ends::word32(image, b)
 }
 
 // The header and the entry vip are 16 bytes; then the two conventions, the special ones after their count, and the count of blocks.
 pub fn blocks_of(image: &[u8]) -> Blocks
     ensures { λ r. ⌜ ((x : Routine) → Holding (now (image .entry)) x → (r .start ≡ blocks-start x) × (r .count ≡ length (x .explored-blocks))) ⌝ }
 {
-    let a = walk::convention_end(image, 16);
-    let b = walk::convention_end(image, a);
-    let special = walk::word32(image, b);
-    let c = walk::jump(image, b, 4);
-    let d = walk::conventions_end(image, c, special as usize);
-    let count = walk::word32(image, d);
-    let start = walk::jump(image, d, 4);
+    let a = ends::convention_end(image, 16);
+    let b = ends::convention_end(image, a);
+    let special = ends::word32(image, b);
+    let c = ends::jump(image, b, 4);
+    let d = ends::conventions_end(image, c, special as usize);
+    let count = ends::word32(image, d);
+    let start = ends::jump(image, d, 4);
     Blocks { start, count }
 }
 
 // The block with the vip.
-pub fn find(image: &[u8], vip: Vip) -> Spot
-    ensures { λ r. ⌜ ((x : Routine) → Holding (now (image .entry)) x → Spotted x (vip .0) r) ⌝ }
+pub fn find(image: &[u8], vip: Vip) -> Found
+    ensures { λ r. ⌜ ((x : Routine) → Holding (now (image .entry)) x → Finds x (vip .0) r) ⌝ }
 {
     let blocks = blocks_of(image);
     let count = blocks.count;
@@ -104,9 +104,9 @@ pub fn find(image: &[u8], vip: Vip) -> Spot
     let mut at = blocks.start;
     let mut i = 0;
     while i < n {
-        let b = walk::block_at(image, at);
+        let b = ends::block_at(image, at);
         if b.vip.0 == v {
-            return Spot {
+            return Found {
                 place: i,
                 at,
                 count,
@@ -115,7 +115,7 @@ pub fn find(image: &[u8], vip: Vip) -> Spot
         at = b.next;
         i += 1;
     }
-    Spot {
+    Found {
         place: n,
         at,
         count,
@@ -127,7 +127,7 @@ pub fn block_offset(image: &[u8], place: usize) -> usize
     ensures { λ r. ⌜ ((x : Routine) → Holding (now (image .entry)) x → place ≤ length (x .explored-blocks) → r ≡ block-start x place) ⌝ }
 {
     let blocks = blocks_of(image);
-    walk::blocks_end(image, blocks.start, place)
+    ends::blocks_end(image, blocks.start, place)
 }
 
 // The offset of the convention at a place: the routine's, the subroutine's, and after the count of the special ones these.
@@ -137,13 +137,13 @@ pub fn convention_offset(image: &[u8], place: usize) -> usize
     if place == 0 {
         return 16;
     }
-    let a = walk::convention_end(image, 16);
+    let a = ends::convention_end(image, 16);
     if place == 1 {
         return a;
     }
-    let b = walk::convention_end(image, a);
-    let c = walk::jump(image, b, 4);
-    walk::conventions_end(image, c, place - 2)
+    let b = ends::convention_end(image, a);
+    let c = ends::jump(image, b, 4);
+    ends::conventions_end(image, c, place - 2)
 }
 
 // The offset of instruction `k` of the block at offset `at`, or past its last where `k` is their number. The 28 bytes before them: the block's
@@ -151,16 +151,16 @@ pub fn convention_offset(image: &[u8], place: usize) -> usize
 pub fn instruction_offset(image: &[u8], at: usize, k: u32) -> usize
     ensures { λ r. ⌜ ((x : Routine) (i : ℕ) → Holding (now (image .entry)) x → i < length (x .explored-blocks) → at ≡ block-start x i → k ≤ length (block-at i (x .explored-blocks) .instructions) → r ≡ instruction-start x i k) ⌝ }
 {
-    let a = walk::jump(image, at, 28);
-    walk::instructions_end(image, a, k)
+    let a = ends::jump(image, at, 28);
+    ends::instructions_end(image, a, k)
 }
 
 // The offset past the instructions of the block at offset `at`.
 pub fn instructions_end(image: &[u8], at: usize) -> usize
     ensures { λ r. ⌜ ((x : Routine) (i : ℕ) → Holding (now (image .entry)) x → i < length (x .explored-blocks) → at ≡ block-start x i → r ≡ instruction-start x i (length (block-at i (x .explored-blocks) .instructions))) ⌝ }
 {
-    let a = walk::jump(image, at, COUNT_AT);
-    let count = walk::word32(image, a);
-    let b = walk::jump(image, a, 4);
-    walk::instructions_end(image, b, count)
+    let a = ends::jump(image, at, COUNT_AT);
+    let count = ends::word32(image, a);
+    let b = ends::jump(image, a, 4);
+    ends::instructions_end(image, b, count)
 }

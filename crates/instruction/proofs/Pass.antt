@@ -13,7 +13,7 @@ use Rattle.fields.proofs.Bound.{bounded-ok, flag-is}
 use Rattle.fields.proofs.Steps.{on-check, on-part}
 use Rattle.op.specs.Ops.{number, counts}
 use Rattle.op.proofs.Packed.{text-of}
-use Rattle.pod.specs.Layout.{operand, named, opcode, after, instruction}
+use Rattle.pod.specs.Layout.{operand, named, opcode, after-opcode, instruction}
 use Rattle.instruction.proofs.Skip.{after-skip}
 
 on-field : {A : Type 0} (k : ℕ) (s : List ℕ) (o : ℕ) (f : ℕ → ℕ → Res A) {x : Res A} → o + k ≤ length s → x ≡ f (le k s o) (o + k) → x ≡ bind (uint k s o) f
@@ -33,7 +33,7 @@ module _ (exact : Bool) (s : List ℕ) (at n k : ℕ) (h : at + 4 + n + 4 ≤ le
   opcode-ok c = on-field 4 s at _ (omega arith) (rw (← e) (on-part n s (at + 4) _ (omega arith) (name-ok c)))
 
   tail-ok : (o : ℕ) → o + 21 ≤ length s → taken exact 1 (getD s (o + 20) 0) ≡ true → span (many operand (getD counts k 0) s (at + 4 + n + 4)) ≡ ok tt o
-      → span (after exact k s (at + 4 + n + 4)) ≡ ok tt (o + 21)
+      → span (after-opcode exact k s (at + 4 + n + 4)) ≡ ok tt (o + 21)
   unfolding bind
   tail-ok o g t q =
       let e : o + 8 + 8 + 4 ≡ o + 20 = omega arith in
@@ -42,7 +42,7 @@ module _ (exact : Bool) (s : List ℕ) (at n k : ℕ) (h : at + 4 + n + 4 ≤ le
       ∙ rw (q, span-ok 8 s o (omega arith), span-ok 8 s (o + 8) (omega arith), span-ok 4 s (o + 8 + 8) (omega arith), f)
       (ap (λ x. ok tt x) (omega arith))
 
-  pub quick-ok : (o : ℕ) → le 4 s (at + 4 + n) ≡ getD counts k 0 → o + 21 ≤ length s → taken exact 1 (getD s (o + 20) 0) ≡ true
+  pub fast-ok : (o : ℕ) → le 4 s (at + 4 + n) ≡ getD counts k 0 → o + 21 ≤ length s → taken exact 1 (getD s (o + 20) 0) ≡ true
       → span (many operand (getD counts k 0) s (at + 4 + n + 4)) ≡ ok tt o → span (instruction exact s at) ≡ ok tt (o + 21)
   unfolding instruction bind
-  quick-ok o c g t q = rw (← opcode-ok c) (tail-ok o g t q)
+  fast-ok o c g t q = rw (← opcode-ok c) (tail-ok o g t q)

@@ -9,7 +9,7 @@ use mir.Syntax.{w64}
 use Rattle.fields.specs.Parse.{Res, bind, span, uint, int, many, flag}
 use Rattle.fields.proofs.Chain.{chain, chain-map}
 use Rattle.op.specs.Ops.{counts}
-use Rattle.pod.specs.Layout.{operand, after}
+use Rattle.pod.specs.Layout.{operand, after-opcode}
 
 module _ (exact : Bool) (op : ℕ) (s : List ℕ) (o : ℕ) where
   abbrev next : ℕ → Res Unit → Res Unit
@@ -19,8 +19,8 @@ module _ (exact : Bool) (op : ℕ) (s : List ℕ) (o : ℕ) where
   last q = bind q (λ _ n. span (flag exact s n))
 
   pub after-skip : bind (bind (bind (bind (span (many operand (getD counts op 0) s o)) (λ _ n. span (uint 8 s n))) (λ _ n. span (uint 8 s n)))
-      (λ _ n. span (uint 4 s n))) (λ _ n. span (flag exact s n)) ≡ span (after exact op s o)
-  unfolding bind span after
+      (λ _ n. span (uint 4 s n))) (λ _ n. span (flag exact s n)) ≡ span (after-opcode exact op s o)
+  unfolding bind span after-opcode
   after-skip =
       chain (many operand (getD counts op 0) s o) _ (λ q. last (next 4 (next 8 (next 8 q)))) (λ e. refl) (λ a n.
       chain (uint 8 s n) _ (λ q. last (next 4 (next 8 q))) (λ e. refl) (λ b m.

@@ -85,7 +85,7 @@ fn operands_run(s: &[u8], at: usize, count: u32) -> Skip
 }
 
 // The offset past the instruction at `at`, or 0 where this does not tell: near the end of the file, and where it is refused.
-fn quick(s: &[u8], at: usize, exact: bool) -> usize
+fn fast_end(s: &[u8], at: usize, exact: bool) -> usize
     ensures { λ r. ⌜ (0 < r → span (instruction exact (now (s .entry)) at) ≡ ok tt r) ⌝ }
 {
     if s.len() < at {
@@ -96,7 +96,7 @@ fn quick(s: &[u8], at: usize, exact: bool) -> usize
     }
     let a = at + 4;
     let n = fields::four(s, at) as usize;
-    let code = op::quick_lookup(s, a, n);
+    let code = op::fast_lookup(s, a, n);
     if 255 < code {
         return 0;
     }
@@ -108,7 +108,7 @@ fn quick(s: &[u8], at: usize, exact: bool) -> usize
     let mut o = b + 4;
     let mut left = count;
     while 0 < left {
-        o = pod::operand_quick(s, o);
+        o = pod::fast_operand(s, o);
         if o == 0 {
             return 0;
         }
@@ -125,7 +125,7 @@ fn quick(s: &[u8], at: usize, exact: bool) -> usize
 pub fn instruction_skip(s: &[u8], at: usize, exact: bool) -> Skip
     ensures { λ r. ⌜ of-skip r ≡ span (instruction exact (now (s .entry)) at) ⌝ }
 {
-    let end = quick(s, at, exact);
+    let end = fast_end(s, at, exact);
     if 0 < end {
         return Skip::Past(end);
     }

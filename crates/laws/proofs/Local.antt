@@ -14,7 +14,7 @@ use borrow.Author.Tests.{leb-true, leb-false, le-leb, lt-leb}
 use mir.Syntax.{Width}
 use Rattle.fields.specs.Parse.{Res, ok, no, Reader, bind, _>>=_, done, check, choose, le, uint, int, part, many, counted, flag, u32}
 use Rattle.fields.proofs.Le.{uint-ok, uint-no, uint-is}
-use Rattle.pod.specs.Layout.{register, immediate, operand, of-kind, named, opcode, after, instruction, convention, block}
+use Rattle.pod.specs.Layout.{register, immediate, operand, of-kind, named, opcode, after-opcode, instruction, convention, block}
 use Rattle.laws.specs.Moved.{moved}
 use Rattle.fields.proofs.Invert.{inv}
 
@@ -142,7 +142,7 @@ local-opcode =
 
 module _ (exact : Bool) where
   pub local-instruction : Local (instruction exact)
-  unfolding instruction after
+  unfolding instruction after-opcode
   local-instruction =
       local-bind _ _ local-opcode λ op. local-bind _ _ (local-many operand local-operand _) λ xs. local-bind _ _ (local-uint 8) λ vip.
       local-bind _ _ (local-int _ 8) λ sp. local-bind _ _ (local-uint 4) λ index. local-bind _ _ (local-flag exact) λ reset. local-done _

@@ -30,8 +30,8 @@ use Rattle.book.specs.Says.{refusal-of}
 use Rattle.book.specs.Holding.{Holding, block-start}
 use Rattle.value.specs.Answers.{instruction-read}
 use Rattle.value.specs.declared.InstructionRead.{InstructionRead}
-use Rattle.walk.specs.Ends.{word, vipsEnd}
-use Rattle.walk.proofs.Same.{vips-ends}
+use Rattle.ends.specs.Ends.{word, vipsEnd}
+use Rattle.ends.proofs.Same.{vips-ends}
 use Rattle.image.specs.Places.{instruction-start}
 use Rattle.image.proofs.Inspects.{refused-by}
 use Rattle.image.proofs.Stands.{named, word-at, block-word, element-at, block-stands, block-holds}

@@ -15,7 +15,7 @@ use Rattle.laws.proofs.Back.{length-bytes}
 use Rattle.laws.proofs.Sizes.{many-size}
 use Rattle.machine.specs.Look.{element}
 use Rattle.machine.proofs.Lists.{each-at}
-use Rattle.walk.specs.Ends.{word}
+use Rattle.ends.specs.Ends.{word}
 use Rattle.image.proofs.Stands.{named, word-at, element-at}
 
 module _ {A : Type 0} where

@@ -21,7 +21,7 @@ use Rattle.machine.specs.Book.{State, held}
 use Rattle.machine.specs.Look.{element, look-block}
 use Rattle.book.specs.Says.{refusal-of}
 use Rattle.book.specs.Holding.{Holding, blocks-start, block-start}
-use Rattle.walk.specs.Ends.{times, blockEnd}
+use Rattle.ends.specs.Ends.{times, blockEnd}
 use Rattle.image.proofs.Inspects.{Ready, never, one, refused-by, inspected, held-sound, sound-holding}
 use Rattle.image.proofs.Stands.{named, block-found, block-stands, block-holds}
 use Rattle.look.specs.Reached.{Reached-block}

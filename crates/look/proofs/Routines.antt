@@ -11,7 +11,7 @@ use Rattle.laws.proofs.At.{fits, first}
 use Rattle.laws.proofs.Back.{length-bytes}
 use Rattle.machine.specs.Book.{State, held}
 use Rattle.book.specs.Says.{refusal-of}
-use Rattle.walk.specs.Ends.{word}
+use Rattle.ends.specs.Ends.{word}
 use Rattle.image.proofs.Inspects.{Ready, refused-by}
 use Rattle.image.proofs.Stands.{word-at, machine-at, entry-at}
 use Rattle.look.specs.Answers.{routine-look}

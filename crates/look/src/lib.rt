@@ -70,7 +70,7 @@ pub fn look_routine(book: Book, image: &[u8], journal: &[u8]) -> RoutineLook
         };
     }
     let arch_id = image[4] as u64;
-    let vip = Vip(walk::word64(image, 8));
+    let vip = Vip(ends::word64(image, 8));
     let spec_conventions = image::special_count(image);
     let blocks = image::blocks_of(image);
     RoutineLook {
@@ -97,7 +97,7 @@ fn reach_block(book: Book, image: &[u8], journal: &[u8], place: u64) -> Reached
             at: 0,
         };
     }
-    let at = walk::blocks_end(image, blocks.start, place as usize);
+    let at = ends::blocks_end(image, blocks.start, place as usize);
     Reached { refusal: 0, at }
 }
 
@@ -126,15 +126,15 @@ pub fn look_block(book: Book, image: &[u8], journal: &[u8], place: u64) -> Block
         return no_block(b.refusal);
     }
     let at = b.at;
-    let vip = Vip(walk::word64(image, at));
-    let sp_offset = fields::signed64(walk::word64(image, at + 8));
-    let sp_index = walk::word32(image, at + 16);
-    let last_temporary_index = walk::word32(image, at + 20);
-    let instructions = walk::word32(image, at + 24);
+    let vip = Vip(ends::word64(image, at));
+    let sp_offset = fields::signed64(ends::word64(image, at + 8));
+    let sp_index = ends::word32(image, at + 16);
+    let last_temporary_index = ends::word32(image, at + 20);
+    let instructions = ends::word32(image, at + 24);
     let prev = image::instructions_end(image, at);
-    let prev_vips = walk::word32(image, prev);
-    let next = walk::vips_end(image, prev);
-    let next_vips = walk::word32(image, next);
+    let prev_vips = ends::word32(image, prev);
+    let next = ends::vips_end(image, prev);
+    let next_vips = ends::word32(image, next);
     BlockLook {
         refusal: 0,
         vip,
@@ -174,7 +174,7 @@ pub fn look_instruction(
         return no_instruction(b.refusal);
     }
     let start = b.at;
-    let count = walk::word32(image, start + 24);
+    let count = ends::word32(image, start + 24);
     if (count as u64) <= place {
         return no_instruction(book::NO_SUCH_BLOCK);
     }
@@ -195,7 +195,7 @@ fn vips_offset(image: &[u8], at: usize, list: u64) -> usize
     if list == 0 {
         return prev;
     }
-    walk::vips_end(image, prev)
+    ends::vips_end(image, prev)
 }
 
 fn no_vip(refusal: u64) -> VipLook
@@ -226,10 +226,10 @@ pub fn look_vip(
         return no_vip(book::NO_SUCH_BLOCK);
     }
     let at = vips_offset(image, b.at, list);
-    let count = walk::word32(image, at);
+    let count = ends::word32(image, at);
     if (count as u64) <= place {
         return no_vip(book::NO_SUCH_BLOCK);
     }
-    let vip = Vip(walk::word64(image, at + 4 + 8 * (place as usize)));
+    let vip = Vip(ends::word64(image, at + 4 + 8 * (place as usize)));
     VipLook { refusal: 0, vip }
 }

@@ -17,7 +17,7 @@ use Rattle.laws.proofs.Sizes.{register-size}
 use Rattle.machine.specs.Book.{State}
 use Rattle.machine.specs.Look.{element, look-convention, look-register, register-list}
 use Rattle.book.specs.Says.{refusal-of}
-use Rattle.walk.specs.Ends.{word, registersEnd}
+use Rattle.ends.specs.Ends.{word, registersEnd}
 use Rattle.image.proofs.Inspects.{refused-by}
 use Rattle.look.proofs.Elements.{listed-count, Listed, listed-none, the-element, element-stands, element-holds, element-room, element-found}
 use Rattle.look_convention.specs.Answers.{convention-look, register-look}

@@ -20,8 +20,8 @@ use Rattle.laws.proofs.At.{At, fits, left, right, first}
 use Rattle.laws.proofs.Back.{length-bytes, counted-reads}
 use Rattle.laws.proofs.Round.{register-reads}
 use Rattle.laws.proofs.Sizes.{register-size, registers-size}
-use Rattle.walk.specs.Ends.{word, registersEnd}
-use Rattle.walk.proofs.Same.{registers-ends}
+use Rattle.ends.specs.Ends.{word, registersEnd}
+use Rattle.ends.proofs.Same.{registers-ends}
 use Rattle.image.proofs.Stands.{named, word-at}
 use Rattle.look_convention.specs.Stands.{Stands-register, Stands-convention}
 

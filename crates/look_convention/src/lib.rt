@@ -56,10 +56,10 @@ fn register_there(image: &[u8], at: usize) -> RegisterDesc
     requires { ⌜ at + 24 ≤ length (now image) ⌝ }
     ensures { λ r. ⌜ ((x : Register) → Stands-register (now (image .entry)) at x → r ≡ x) ⌝ }
 {
-    let flags = walk::word64(image, at);
-    let combined_id = walk::word64(image, at + 8);
-    let bit_count = fields::signed32(walk::word32(image, at + 16));
-    let bit_offset = fields::signed32(walk::word32(image, at + 20));
+    let flags = ends::word64(image, at);
+    let combined_id = ends::word64(image, at + 8);
+    let bit_count = fields::signed32(ends::word32(image, at + 16));
+    let bit_offset = fields::signed32(ends::word32(image, at + 20));
     RegisterDesc {
         flags,
         combined_id,
@@ -97,14 +97,14 @@ pub fn look_convention(book: Book, image: &[u8], journal: &[u8], place: u64) -> 
         return no_convention(c.refusal);
     }
     let at = c.at;
-    let volatile_registers = walk::word32(image, at);
-    let param = walk::registers_end(image, at);
-    let param_registers = walk::word32(image, param);
-    let retval = walk::registers_end(image, param);
-    let retval_registers = walk::word32(image, retval);
-    let frame = walk::registers_end(image, retval);
+    let volatile_registers = ends::word32(image, at);
+    let param = ends::registers_end(image, at);
+    let param_registers = ends::word32(image, param);
+    let retval = ends::registers_end(image, param);
+    let retval_registers = ends::word32(image, retval);
+    let frame = ends::registers_end(image, retval);
     let frame_register = register_there(image, frame);
-    let shadow_space = walk::word64(image, frame + 24);
+    let shadow_space = ends::word64(image, frame + 24);
     let purge_stack = image[frame + 32] as u64;
     ConventionLook {
         refusal: 0,
@@ -124,11 +124,11 @@ fn registers_offset(image: &[u8], at: usize, list: u64) -> usize
     if list == 0 {
         return at;
     }
-    let param = walk::registers_end(image, at);
+    let param = ends::registers_end(image, at);
     if list == 1 {
         return param;
     }
-    walk::registers_end(image, param)
+    ends::registers_end(image, param)
 }
 
 // A refusal, and zeros.
@@ -165,7 +165,7 @@ pub fn look_register(
         return no_register(book::NO_SUCH_BLOCK);
     }
     let at = registers_offset(image, c.at, list);
-    let count = walk::word32(image, at);
+    let count = ends::word32(image, at);
     if (count as u64) <= place {
         return no_register(book::NO_SUCH_BLOCK);
     }

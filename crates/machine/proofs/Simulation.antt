@@ -1,5 +1,5 @@
 -- The calls on a book answer as the machine does. The invariant: the state is that of the machine's routine and of a used part of the journal
--- which is, entry by entry, what the edits on the machine's pile wrote. Every call keeps it.
+-- which is, entry by entry, what the edits on the machine's stack wrote. Every call keeps it.
 -- Assumes nothing.
 use mathlib.Core.Path.{_≡_, refl, sym, ap, ap₂, _∙_}
 use mathlib.Core.Bool.{Bool, true, false}
@@ -18,7 +18,7 @@ use Rattle.pod.specs.Values.{Routine}
 use Rattle.pod.specs.Descs.{most-lent}
 use Rattle.laws.specs.Holds.{Each, Routine-holds}
 use Rattle.machine.specs.Edits.{Edit, create, remove, append, edited, cost}
-use Rattle.machine.specs.Machine.{Call, edit, undo, Sendable, Answer, Pile, used-by, Machine, size, admitted, after-edit, after-undo, machine-step, machine-run}
+use Rattle.machine.specs.Machine.{Call, edit, undo, Sendable, Answer, Stack, used-by, Machine, size, admitted, after-edit, after-undo, machine-step, machine-run}
 use Rattle.machine.specs.Journal.{entry, undone}
 use Rattle.machine.specs.Book.{State, in-image, held, stored, edit-step, restored, undo-step, acted, step, run}
 use Rattle.machine.proofs.Held.{length-image, sound-held}
@@ -46,7 +46,7 @@ cost-least (create v) r = omega arith
 cost-least (remove v) r = omega arith
 cost-least (append v s) r = omega arith
 
--- an item (before, k) of the pile under the routine r: the used part j ends in the entry of an edit that made r of `before`, and cost k
+-- an item (before, k) of the stack under the routine r: the used part j ends in the entry of an edit that made r of `before`, and cost k
 pub record Came (N : ℕ) (before : Routine) (k : ℕ) (r : Routine) (j : List ℕ) : Type 0 where
   pub by : Edit
   pub rest : List ℕ
@@ -57,12 +57,12 @@ pub record Came (N : ℕ) (before : Routine) (k : ℕ) (r : Routine) (j : List �
   pub holds : Routine-holds before
   pub room : size before ≤ N
 
--- and so on down the pile
-abbrev pub Linked : ℕ → Routine → Pile → List ℕ → Type 0
+-- and so on down the stack
+abbrev pub Linked : ℕ → Routine → Stack → List ℕ → Type 0
 Linked N r [] j = j ≡ []
 Linked N r (p ∷ ps) j = (c : Came N (p .0) (p .1) r j) × Linked N (p .0) ps (c .rest)
 
-pub linked-used : (N : ℕ) (r : Routine) (ps : Pile) (j : List ℕ) → Linked N r ps j → used-by ps ≡ length j
+pub linked-used : (N : ℕ) (r : Routine) (ps : Stack) (j : List ℕ) → Linked N r ps j → used-by ps ≡ length j
 unfolding used-by
 linked-used N r [] j l = sym (ap length l)
 linked-used N r (p ∷ ps) j l =
@@ -78,7 +78,7 @@ pub record Sim (N J : ℕ) (m : Machine) (s : State) : Type 0 where
   pub room : size (m .now) ≤ N
   pub journal-room : length j ≤ J
   pub holds : Routine-holds (m .now)
-  pub link : Linked N (m .now) (m .pile) j
+  pub link : Linked N (m .now) (m .stack) j
 
 abbrev pub Agree : ℕ → ℕ → Answer × State → Answer × Machine → Type 0
 Agree N J x y = (x .0 ≡ y .0) × Sim N J (y .1) (x .1)
@@ -102,7 +102,7 @@ module _ (N J : ℕ) (small : N ≤ most-lent) (journal-small : J ≤ most-lent)
         holds = o;
       })
 
-  module _ (m : Machine) (j : List ℕ) (o : Routine-holds (m .now)) (h : size (m .now) ≤ N) (k : length j ≤ J) (l : Linked N (m .now) (m .pile) j) where
+  module _ (m : Machine) (j : List ℕ) (o : Routine-holds (m .now)) (h : size (m .now) ≤ N) (k : length j ≤ J) (l : Linked N (m .now) (m .stack) j) where
     stays : Sim N J m (state-of N J (m .now) j)
     stays = record { j = j; is = refl; room = h; journal-room = k; holds = o; link = l }
 
@@ -118,7 +118,7 @@ module _ (N J : ℕ) (small : N ≤ most-lent) (journal-small : J ≤ most-lent)
         let a : size r ≤ N = leb-true _ _ p in
         let b : length j + length x ≤ J = leb-true _ _ q in
         let c : length (j ++ x) ≡ length j + length x = length-append j x in
-        let w : used-by (m .pile) ≡ length j = linked-used N (m .now) (m .pile) j l in
+        let w : used-by (m .stack) ≡ length j = linked-used N (m .now) (m .stack) j l in
         let n : J - length j - length x ≡ J - length (j ++ x) = omega arith in
         let y : put (length j) x (j ++ zeros (J - length j)) ≡ (j ++ x) ++ zeros (J - length (j ++ x))
         = put-zeros j x (J - length j) ∙ ap (λ i. (j ++ x) ++ zeros i) n in (
@@ -138,10 +138,10 @@ module _ (N J : ℕ) (small : N ≤ most-lent) (journal-small : J ≤ most-lent)
     unfolding edit-step after-edit
     edit-sim e f (refused n) q = (refl, stays)
     edit-sim e f (accepted r) q =
-        rw (length-image N (m .now) h, length-journal j k, linked-used N (m .now) (m .pile) j l, ← entry-cost e (m .now))
+        rw (length-image N (m .now) h, length-journal j k, linked-used N (m .now) (m .stack) j l, ← entry-cost e (m .now))
         (stored-sim e r f (did e (m .now) r f q) _ _ refl refl)
 
-    undo-sim : (ps : Pile) → Linked N (m .now) ps j → Agree N J (undo-step (m .now) (state-of N J (m .now) j)) (after-undo m ps)
+    undo-sim : (ps : Stack) → Linked N (m .now) ps j → Agree N J (undo-step (m .now) (state-of N J (m .now) j)) (after-undo m ps)
     unfolding undo-step after-undo restored choose
     undo-sim [] z = rw (eq-eqb (length j) 0 (ap length z)) (refl, stays)
     undo-sim (p ∷ ps) c =
@@ -169,11 +169,11 @@ module _ (N J : ℕ) (small : N ≤ most-lent) (journal-small : J ≤ most-lent)
           },
         )
 
-  of-sim : (c : Call) (m : Machine) (j : List ℕ) → Sendable c → Routine-holds (m .now) → size (m .now) ≤ N → length j ≤ J → Linked N (m .now) (m .pile) j
+  of-sim : (c : Call) (m : Machine) (j : List ℕ) → Sendable c → Routine-holds (m .now) → size (m .now) ≤ N → length j ≤ J → Linked N (m .now) (m .stack) j
       → Agree N J (step c (state-of N J (m .now) j)) (machine-step N J c m)
   unfolding step acted machine-step
   of-sim (edit e) m j f o h k l = rw (holds-it (m .now) j o h k) (edit-sim m j o h k l e f (edited e (m .now)) refl)
-  of-sim undo m j f o h k l = rw (holds-it (m .now) j o h k) (undo-sim m j o h k l (m .pile) l)
+  of-sim undo m j f o h k l = rw (holds-it (m .now) j o h k) (undo-sim m j o h k l (m .stack) l)
 
   pub step-sim : (c : Call) (m : Machine) (s : State) → Sendable c → Sim N J m s → Agree N J (step c s) (machine-step N J c m)
   step-sim c m s f i = rw (i .is) (of-sim c m (i .j) f (i .holds) (i .room) (i .journal-room) (i .link))

@@ -35,21 +35,21 @@ abbrev pub Answer : Type 0
 Answer = Outcome Book
 
 -- earlier routines, the last one first, each with the cost of the edit that it was before
-abbrev pub Pile : Type 0
-Pile = List (Routine × ℕ)
+abbrev pub Stack : Type 0
+Stack = List (Routine × ℕ)
 
--- the sum of the pile's costs
-unfoldable pub used-by : Pile → ℕ
+-- the sum of the stack's costs
+unfoldable pub used-by : Stack → ℕ
 used-by [] = 0
 used-by (p ∷ ps) = p .1 + used-by ps
 
 pub record Machine : Type 0 where
   pub now : Routine
-  pub pile : Pile
+  pub stack : Stack
 
--- at the start: the routine read from the file, and an empty pile
+-- at the start: the routine read from the file, and an empty stack
 abbrev pub start : Routine → Machine
-start r = record { now = r; pile = [] }
+start r = record { now = r; stack = [] }
 
 -- the size of a routine's written form
 abbrev pub size : Routine → ℕ
@@ -60,22 +60,22 @@ unfoldable pub admitted : Bool → Bool → ℕ → Routine → Machine → Answ
 admitted false j k r m = (refused image-full, m)
 admitted true false k r m = (refused journal-full, m)
 admitted true true k r m =
-    (accepted (record { written = size r; used = used-by (m .pile) + k }), record { now = r; pile = (m .now, k) ∷ m .pile })
+    (accepted (record { written = size r; used = used-by (m .stack) + k }), record { now = r; stack = (m .now, k) ∷ m .stack })
 
 -- image-length and journal-length are the lent lengths; k is the edit's cost
 unfoldable pub after-edit : ℕ → ℕ → ℕ → Machine → Outcome Routine → Answer × Machine
 after-edit image-length journal-length k m (refused e) = (refused e, m)
 after-edit image-length journal-length k m (accepted r) =
-    admitted (leb (size r) image-length) (leb (used-by (m .pile) + k) journal-length) k r m
+    admitted (leb (size r) image-length) (leb (used-by (m .stack) + k) journal-length) k r m
 
--- take back: the top routine returns and leaves the pile
-unfoldable pub after-undo : Machine → Pile → Answer × Machine
+-- take back: the top routine returns and leaves the stack
+unfoldable pub after-undo : Machine → Stack → Answer × Machine
 after-undo m [] = (refused nothing-to-take-back, m)
-after-undo m (p ∷ ps) = (accepted (record { written = size (p .0); used = used-by ps }), record { now = p .0; pile = ps })
+after-undo m (p ∷ ps) = (accepted (record { written = size (p .0); used = used-by ps }), record { now = p .0; stack = ps })
 
 unfoldable pub machine-step : ℕ → ℕ → Call → Machine → Answer × Machine
 machine-step image-length journal-length (edit e) m = after-edit image-length journal-length (cost e (m .now)) m (edited e (m .now))
-machine-step image-length journal-length undo m = after-undo m (m .pile)
+machine-step image-length journal-length undo m = after-undo m (m .stack)
 
 -- every call of a list in turn: the answers, and the machine after it
 unfoldable pub machine-run : ℕ → ℕ → List Call → Machine → List Answer × Machine

@@ -14,9 +14,9 @@ use Rattle.laws.proofs.Back.{length-bytes}
 use Rattle.laws.proofs.Took.{uint-took}
 use Rattle.laws.proofs.Local.{Local, local-many}
 use Rattle.laws.proofs.Place.{counted-is, many-append}
-use Rattle.walk.specs.Ends.{jump, word}
+use Rattle.ends.specs.Ends.{jump, word}
 use Rattle.fields.proofs.Invert.{inv, inv-ok}
-use Rattle.walk.proofs.Steps.{jump-in, value, word-is}
+use Rattle.ends.proofs.Steps.{jump-in, value, word-is}
 use Rattle.normal.specs.Over.{Over, Normalised}
 use Rattle.normal.proofs.Puts.{stays, as-before, _beside_}
 

@@ -22,8 +22,8 @@ use Rattle.laws.proofs.Local.{Local, local-uint, local-counted, local-conventio
 use Rattle.laws.proofs.Layouts.{instruction-layout, convention-layout, routine-layout, read-to, read-within}
 use Rattle.laws.proofs.Sizes.{instruction-size, convention-size, block-head-size, header-size, routine-least}
 use Rattle.laws.proofs.Back.{length-bytes}
-use Rattle.walk.specs.Ends.{jump, instructionEnd, vipsEnd, conventionEnd}
-use Rattle.walk.proofs.Same.{instruction-ends, vips-ends, convention-ends}
+use Rattle.ends.specs.Ends.{jump, instructionEnd, vipsEnd, conventionEnd}
+use Rattle.ends.proofs.Same.{instruction-ends, vips-ends, convention-ends}
 use Rattle.normal.specs.Over.{Over, Normalised}
 use Rattle.normal.proofs.Puts.{stays, as-before, still, _beside_, changed, flagged}
 use Rattle.normal.proofs.Runs.{jumps}

@@ -18,7 +18,7 @@ const PAD: usize = 5;
 const CONVENTIONS: usize = 16;
 
 // The byte before `end`, as a flag is written: 0 stays, and all else becomes 1. It is stored without a branch, since a file's flags follow no pattern.
-fn settle_flag(a: &mut [u8], end: usize)
+fn normalise_flag(a: &mut [u8], end: usize)
     ensures { λ _. ⌜ (0 < end → end ≤ length (now (a .entry)) → now (a .exit) ≡ set (now (a .entry)) (end - 1) (normal flag (getD (now (a .entry)) (end - 1) 0))) ⌝ }
 {
     if end == 0 {
@@ -34,8 +34,8 @@ fn settle_flag(a: &mut [u8], end: usize)
 fn normalise_instruction(a: &mut [u8], at: usize) -> usize
     ensures { λ r. ⌜ Normalised (instruction as-it-comes) instruction-bytes (now (a .entry)) at r (now (a .exit)) ⌝ }
 {
-    let end = walk::instruction_end(a, at);
-    settle_flag(a, end);
+    let end = ends::instruction_end(a, at);
+    normalise_flag(a, end);
     end
 }
 
@@ -43,8 +43,8 @@ fn normalise_instruction(a: &mut [u8], at: usize) -> usize
 fn normalise_convention(a: &mut [u8], at: usize) -> usize
     ensures { λ r. ⌜ Normalised (convention as-it-comes) convention-bytes (now (a .entry)) at r (now (a .exit)) ⌝ }
 {
-    let end = walk::convention_end(a, at);
-    settle_flag(a, end);
+    let end = ends::convention_end(a, at);
+    normalise_flag(a, end);
     end
 }
 
@@ -52,8 +52,8 @@ fn normalise_convention(a: &mut [u8], at: usize) -> usize
 fn normalise_instructions(a: &mut [u8], at: usize) -> usize
     ensures { λ r. ⌜ Normalised (counted (instruction as-it-comes)) (counted-bytes instruction-bytes) (now (a .entry)) at r (now (a .exit)) ⌝ }
 {
-    let mut left = walk::word32(a, at);
-    let mut o = walk::jump(a, at, 4);
+    let mut left = ends::word32(a, at);
+    let mut o = ends::jump(a, at, 4);
     while 0 < left {
         o = normalise_instruction(a, o);
         left -= 1;
@@ -65,18 +65,18 @@ fn normalise_instructions(a: &mut [u8], at: usize) -> usize
 fn normalise_block(a: &mut [u8], at: usize) -> usize
     ensures { λ r. ⌜ Normalised (block as-it-comes) block-bytes (now (a .entry)) at r (now (a .exit)) ⌝ }
 {
-    let list = walk::jump(a, at, 24);
+    let list = ends::jump(a, at, 24);
     let prev = normalise_instructions(a, list);
-    let next = walk::vips_end(a, prev);
-    walk::vips_end(a, next)
+    let next = ends::vips_end(a, prev);
+    ends::vips_end(a, next)
 }
 
 // The list of conventions at `at`.
 fn normalise_conventions(a: &mut [u8], at: usize) -> usize
     ensures { λ r. ⌜ Normalised (counted (convention as-it-comes)) (counted-bytes convention-bytes) (now (a .entry)) at r (now (a .exit)) ⌝ }
 {
-    let mut left = walk::word32(a, at);
-    let mut o = walk::jump(a, at, 4);
+    let mut left = ends::word32(a, at);
+    let mut o = ends::jump(a, at, 4);
     while 0 < left {
         o = normalise_convention(a, o);
         left -= 1;
@@ -88,8 +88,8 @@ fn normalise_conventions(a: &mut [u8], at: usize) -> usize
 fn normalise_blocks(a: &mut [u8], at: usize) -> usize
     ensures { λ r. ⌜ Normalised (counted (block as-it-comes)) (counted-bytes block-bytes) (now (a .entry)) at r (now (a .exit)) ⌝ }
 {
-    let mut left = walk::word32(a, at);
-    let mut o = walk::jump(a, at, 4);
+    let mut left = ends::word32(a, at);
+    let mut o = ends::jump(a, at, 4);
     while 0 < left {
         o = normalise_block(a, o);
         left -= 1;

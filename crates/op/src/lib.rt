@@ -257,8 +257,8 @@ fn low(v: u64, n: usize) -> u64
 }
 
 // Of the operation whose name is the `n` bytes from `at`: its operand count and four times its number, found by a table, or 256 where the
-// table does not tell. It is pub for the quick way over an instruction, which has tested the length.
-pub fn quick_lookup(s: &[u8], at: usize, n: usize) -> u64
+// table does not tell. It is pub for the fast way over an instruction, which has tested the length.
+pub fn fast_lookup(s: &[u8], at: usize, n: usize) -> u64
     requires { ⌜ at + 8 ≤ length (now s) ⌝ }
     ensures { λ r. ⌜ (r < 256 → Known (take n (drop at (now (s .entry)))) n r) ⌝ }
 {

@@ -11,7 +11,7 @@ use Rattle.pod.specs.Values.{Instruction, RoutineConvention, BasicBlock, Routin
 use Rattle.pod.specs.declared.RegisterDesc.{RegisterDesc}
 use Rattle.pod.specs.declared.ImmediateDesc.{ImmediateDesc}
 use Rattle.pod.specs.declared.Operand.{Operand}
-use Rattle.pod.specs.Layout.{header, register, immediate, operand, of-kind, named, opcode, after, instruction, convention, block, blocks, routine}
+use Rattle.pod.specs.Layout.{header, register, immediate, operand, of-kind, named, opcode, after-opcode, instruction, convention, block, blocks, routine}
 
 pub record Kept (P : (A : Type 0) → Reader A → Type 0) : Type 1 where
   pub then : {A B : Type 0} (p : Reader A) (f : A → Reader B) → P A p → ((a : A) → P B (f a)) → P B (p >>= f)
@@ -76,7 +76,7 @@ module _ {P : (A : Type 0) → Reader A → Type 0} (k : Kept P) where
         k .then _ _ (tests 3 _ (omega arith)) λ t. k .gives _
 
     an-instruction : P Instruction (instruction exact)
-    unfolding instruction after
+    unfolding instruction after-opcode
     an-instruction =
         k .then _ _ an-opcode λ op. k .then _ _ (several operand an-operand _) λ xs. k .then _ _ (k .number 8) λ vip.
         k .then _ _ (signed _ 8) λ sp. k .then _ _ (k .number 4) λ index. k .then _ _ (a-flag exact) λ reset. k .gives _

@@ -72,8 +72,8 @@ opcode = do
   named name
 
 -- what follows the operation
-unfoldable pub after : Bool → ℕ → Reader Instruction
-after exact op = do
+unfoldable pub after-opcode : Bool → ℕ → Reader Instruction
+after-opcode exact op = do
   operands ← many operand (getD counts op 0)
   vip ← u64
   sp-offset ← i64
@@ -82,7 +82,7 @@ after exact op = do
   done (record { op = op; operands = operands; vip = vip; sp-offset = sp-offset; sp-index = sp-index; sp-reset = sp-reset })
 
 unfoldable pub instruction : Bool → Reader Instruction
-instruction exact = opcode >>= after exact
+instruction exact = opcode >>= after-opcode exact
 
 -- Convention, 45 + 24 × registers: three lists volatile, param, retval; frame register; u64 shadow space; u8 purge
 unfoldable pub convention : Bool → Reader RoutineConvention

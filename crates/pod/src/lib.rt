@@ -204,9 +204,9 @@ fn wide(x: u8) -> u64
     x as u64
 }
 
-// The offset past the operand at `at`, or 0 where this does not tell. It is pub for the quick way over an instruction, which has tested the length. It has no branch on the kind: an immediate's size and 12 more for a
+// The offset past the operand at `at`, or 0 where this does not tell. It is pub for the fast way over an instruction, which has tested the length. It has no branch on the kind: an immediate's size and 12 more for a
 // register, and the highest byte of the id of a register.
-pub fn operand_quick(s: &[u8], at: usize) -> usize
+pub fn fast_operand(s: &[u8], at: usize) -> usize
     requires { ⌜ at + 28 ≤ length (now s) ⌝ }
     ensures { λ r. ⌜ (0 < r → (span (operand (now (s .entry)) at) ≡ ok tt r) × (r ≤ at + 28)) ⌝ }
 {

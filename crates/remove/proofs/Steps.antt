@@ -23,7 +23,7 @@ use Rattle.book.specs.Says.{state, outcome}
 use Rattle.book.specs.Holding.{block-start, Sound}
 use Rattle.book.specs.declared.Book.{Book}
 use Rattle.book.specs.declared.Answer.{Answer}
-use Rattle.trailer.specs.Says.{named}
+use Rattle.journal.specs.Says.{trailer-with}
 use Rattle.edits.proofs.Steps.{refused-step, journal-full-step, accepted-step}
 
 module _ (image journal : List ℕ) (book : Book) (r : Routine) (g : Sound (state image journal book) r) (v : ℕ) where
@@ -56,11 +56,11 @@ module _ (image journal : List ℕ) (book : Book) (r : Routine) (g : Sound (stat
     fits = omega (arith, removed-size r i h, g .room)
 
     abbrev trailer : List ℕ
-    trailer = trailer-bytes (named v i (weight b) 2)
+    trailer = trailer-bytes (trailer-with v i (weight b) 2)
 
     cost : length (entry (remove v) r) ≡ weight b + 20
     unfolding entry
-    cost = length-append (block-bytes b) trailer ∙ ap (λ (n : ℕ). weight b + n) (trailer-size (named v i (weight b) 2))
+    cost = length-append (block-bytes b) trailer ∙ ap (λ (n : ℕ). weight b + n) (trailer-size (trailer-with v i (weight b) 2))
 
     pub no-room : length journal < book .used + (weight b + 20) → gives (record { refusal = 12; book = book }) image journal
     unfolding choose
@@ -69,12 +69,12 @@ module _ (image journal : List ℕ) (book : Book) (r : Routine) (g : Sound (stat
     -- what the stores leave
     pub removed : (at end pl : ℕ) → at ≡ block-start r i → end ≡ at + weight b → pl ≡ i → book .used + (end - at + 20) ≤ length journal
         → (x j₁ j₂ i₁ : List ℕ) → x ≡ block-bytes b → j₁ ≡ put (book .used) x journal
-        → j₂ ≡ put (book .used + (end - at)) (trailer-bytes (named v pl (end - at) 2)) j₁ → i₁ ≡ in-image (length image) r′
+        → j₂ ≡ put (book .used + (end - at)) (trailer-bytes (trailer-with v pl (end - at) 2)) j₁ → i₁ ≡ in-image (length image) r′
         → gives (record { refusal = 0; book = record { written = book .written - (end - at); used = book .used + (end - at) + 20 } }) i₁ j₂
     unfolding entry choose
     removed at end pl ha he hp m x j₁ j₂ i₁ ex e₁ e₂ e₃ =
         let k : end - at ≡ weight b = omega arith in
-        let t : length trailer ≡ 20 = trailer-size (named v i (weight b) 2) in
+        let t : length trailer ≡ 20 = trailer-size (trailer-with v i (weight b) 2) in
         let j : j₂ ≡ put (book .used) (entry (remove v) r) journal =
         e₂ ∙ rw (e₁, ex, hp, k) (put-put (book .used) (block-bytes b) trailer journal (omega arith)) in
         accepted-step (state image journal book) r g (remove v) r′ goes fits (omega (arith, cost)) _ _ i₁ j₂

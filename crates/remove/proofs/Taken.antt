@@ -1,4 +1,4 @@
--- What `take_out` leaves of an image that a block is to leave. The block ends where the routine does just where it is the last one.
+-- What `swap_remove` leaves of an image that a block is to leave. The block ends where the routine does just where it is the last one.
 -- Assumes nothing.
 use mathlib.Core.Path.{_≡_, refl, sym, ap, ap₂, _∙_}
 use mathlib.Core.List.{List, [], _∷_, _++_, append-assoc}
@@ -17,13 +17,13 @@ use Rattle.machine.specs.Book.{in-image}
 use Rattle.machine.proofs.Keeps.{weight}
 use Rattle.machine.proofs.Lists.{total-least, many-total}
 use Rattle.book.specs.Holding.{blocks-start, block-start, Holding}
-use Rattle.remove.specs.Leaving.{Leaving}
+use Rattle.remove.specs.Removable.{Removable}
 use Rattle.edits.proofs.Places.{remove-end, remove-mid, Between, between, but-end}
 use Rattle.edits.proofs.Laid.{written, written-size, length-written, length-cons}
 use Rattle.remove.proofs.Outs.{last-out, mid-out}
 use Rattle.edits.proofs.Stands.{split, tail-size}
 
-module _ (r : Routine) (i : ℕ) (image : List ℕ) (at end w : ℕ) (l : Leaving r i image at end w) where
+module _ (r : Routine) (i : ℕ) (image : List ℕ) (at end w : ℕ) (l : Removable r i image at end w) where
   abbrev blocks : List BasicBlock
   blocks = r .explored-blocks
 

@@ -10,7 +10,7 @@ ghost use Rattle.machine.specs.Machine.{edit};
 ghost use Rattle.machine.specs.Book.{in-image, step};
 ghost use Rattle.book.specs.Says.{state, outcome};
 ghost use Rattle.book.specs.Holding.{Is-sound};
-ghost use Rattle.remove.specs.Leaving.{Leaving, Leaves};
+ghost use Rattle.remove.specs.Removable.{Removable, Has-removable};
 use book::Answer;
 use book::Book;
 use pod::Vip;
@@ -18,9 +18,9 @@ use pod::Vip;
 // The block from `at` to `end` leaves the routine that ends at `written`, and the last block takes its place: no other block moves further than by
 // the difference of the two sizes, and what is freed at the end becomes 0. A block that ends where the routine does is the last itself, and nothing
 // moves. The count of blocks stands in the 4 bytes before them.
-fn take_out(image: &mut [u8], at: usize, end: usize, written: usize)
-    requires { ⌜ Leaves (now image) at end written ⌝ }
-    ensures { λ _. ⌜ ((r : Routine) (i : ℕ) → Leaving r i (now (image .entry)) at end written → now (image .exit) ≡ in-image (length (now (image .entry))) (with-blocks (remove-at i (r .explored-blocks)) r)) ⌝ }
+fn swap_remove(image: &mut [u8], at: usize, end: usize, written: usize)
+    requires { ⌜ Has-removable (now image) at end written ⌝ }
+    ensures { λ _. ⌜ ((r : Routine) (i : ℕ) → Removable r i (now (image .entry)) at end written → now (image .exit) ≡ in-image (length (now (image .entry))) (with-blocks (remove-at i (r .explored-blocks)) r)) ⌝ }
 {
     let blocks = image::blocks_of(image);
     let start = blocks.start;
@@ -44,38 +44,38 @@ pub fn remove_block(book: Book, image: &mut [u8], journal: &mut [u8], vip: Vip) 
 {
     let written = book.written as usize;
     let used = book.used as usize;
-    let spot = image::find(image, vip);
-    let place = spot.place;
-    let at = spot.at;
-    if spot.count as usize <= place {
+    let found = image::find(image, vip);
+    let place = found.place;
+    let at = found.at;
+    if found.count as usize <= place {
         return Answer {
             refusal: book::NO_SUCH_BLOCK,
             book,
         };
     }
-    let end = walk::block_end(image, at);
+    let end = ends::block_end(image, at);
     let size = end - at;
-    if journal.len() - used < size + trailer::TRAILER_SIZE {
+    if journal.len() - used < size + journal::TRAILER_SIZE {
         return Answer {
             refusal: book::JOURNAL_FULL,
             book,
         };
     }
     buffer::copy_at(journal, used, &image[at..end]);
-    trailer::put_trailer(
+    journal::put_trailer(
         journal,
         used + size,
         vip,
         place as u32,
         size as u32,
-        trailer::REMOVE,
+        journal::REMOVE,
     );
-    take_out(image, at, end, written);
+    swap_remove(image, at, end, written);
     Answer {
         refusal: 0,
         book: Book {
             written: (written - size) as u64,
-            used: (used + size + trailer::TRAILER_SIZE) as u64,
+            used: (used + size + journal::TRAILER_SIZE) as u64,
         },
     }
 }

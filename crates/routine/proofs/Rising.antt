@@ -11,9 +11,9 @@ use Rattle.fields.specs.Parse.{ok, choose, many, span}
 use Rattle.pod.specs.Values.{BasicBlock}
 use Rattle.pod.specs.Blocks.{has, vips, repeats}
 use Rattle.pod.specs.Layout.{block}
-use Rattle.walk.specs.Ends.{word}
+use Rattle.ends.specs.Ends.{word}
 use Rattle.fields.proofs.Invert.{inv, inv-ok}
-use Rattle.walk.proofs.Same.{block-vip}
+use Rattle.ends.proofs.Same.{block-vip}
 
 -- each is over the one before it, and the first is at least the floor
 Rises : ℕ → List ℕ → Type 0

@@ -6,7 +6,7 @@ use mathlib.Core.List.{List}
 use Prim.Native.Nat.{ℕ}
 use lib.Dec.{leb, eqb}
 use Rattle.fields.specs.Parse.{Res, ok, no, Reader, bind, choose, span, uint, counted, pad}
-use Rattle.routine.specs.Header.{marked, machine-byte}
+use Rattle.routine.specs.Header.{marked, arch-id-byte}
 use Rattle.fields.proofs.Chain.{chain}
 use Rattle.pod.specs.Values.{BasicBlock}
 use Rattle.pod.specs.Blocks.{vips, repeats}
@@ -43,10 +43,10 @@ module _ (exact : Bool) (s : List ℕ) (o : ℕ) where
   abbrev on : (ℕ → Res Unit) → Res Unit → Res Unit
   on p q = bind q (λ _ n. p n)
 
-  pub header-skip : on (marked 2 0xdead s) (on (λ n. span (pad exact s n)) (on (machine-byte s) (on (marked 4 0x4c495456 s) (ok tt o)))) ≡ span (header exact s o)
-  unfolding bind span header marked machine-byte
+  pub header-skip : on (marked 2 0xdead s) (on (λ n. span (pad exact s n)) (on (arch-id-byte s) (on (marked 4 0x4c495456 s) (ok tt o)))) ≡ span (header exact s o)
+  unfolding bind span header marked arch-id-byte
   header-skip =
-      chain-check (uint 4 s o) (λ v. eqb v 0x4c495456) 3 _ (λ q. on (marked 2 0xdead s) (on (λ n. span (pad exact s n)) (on (machine-byte s) q))) (λ e. refl) (λ a n.
+      chain-check (uint 4 s o) (λ v. eqb v 0x4c495456) 3 _ (λ q. on (marked 2 0xdead s) (on (λ n. span (pad exact s n)) (on (arch-id-byte s) q))) (λ e. refl) (λ a n.
       chain-check (uint 1 s n) (λ v. leb v 2) 4 _ (λ q. on (marked 2 0xdead s) (on (λ n. span (pad exact s n)) q)) (λ e. refl) (λ b m.
       chain (pad exact s m) _ (λ q. on (marked 2 0xdead s) q) (λ e. refl) (λ d l.
       chain-check (uint 2 s l) (λ v. eqb v 0xdead) 3 _ (λ q. q) (λ e. refl) (λ f k. refl))))

@@ -8,5 +8,5 @@ use Rattle.fields.specs.Parse.{Reader, _>>=_, check, uint, u8}
 unfoldable pub marked : ℕ → ℕ → Reader Unit
 marked k mark = uint k >>= λ v. check wrong-mark (eqb v mark)
 
-unfoldable pub machine-byte : Reader Unit
-machine-byte = u8 >>= λ m. check unknown-machine (leb m 2)
+unfoldable pub arch-id-byte : Reader Unit
+arch-id-byte = u8 >>= λ m. check unknown-machine (leb m 2)

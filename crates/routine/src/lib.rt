@@ -2,7 +2,7 @@
 ghost use mathlib.Core.Path.{_≡_};
 ghost use Rattle.fields.specs.Parse.{many, counted, bind, span, refusal-in};
 ghost use Rattle.fields.specs.Answers.{of-skip};
-ghost use Rattle.routine.specs.Header.{marked, machine-byte};
+ghost use Rattle.routine.specs.Header.{marked, arch-id-byte};
 ghost use mathlib.Core.Bool.{true};
 ghost use Prim.Native.Nat.{_+_, _≤_, _<_};
 ghost use Rattle.sorting.specs.Buffer.{TOP};
@@ -40,8 +40,8 @@ fn then_mark(s: &[u8], far: Skip, k: usize, mark: u64) -> Skip
 }
 
 // The machine byte, after what was passed over so far.
-fn then_machine(s: &[u8], far: Skip) -> Skip
-    ensures { λ r. ⌜ of-skip r ≡ bind (of-skip far) (λ _ n. machine-byte (now (s .entry)) n) ⌝ }
+fn then_arch_id(s: &[u8], far: Skip) -> Skip
+    ensures { λ r. ⌜ of-skip r ≡ bind (of-skip far) (λ _ n. arch-id-byte (now (s .entry)) n) ⌝ }
 {
     if let Skip::Past(at) = far {
         let machine = fields::u8_at(s, at);
@@ -64,7 +64,7 @@ fn header_skip(s: &[u8], at: usize, exact: bool) -> Skip
     ensures { λ r. ⌜ of-skip r ≡ span (header exact (now (s .entry)) at) ⌝ }
 {
     let a = then_mark(s, Skip::Past(at), 4, VTIL_MAGIC_1);
-    let b = then_machine(s, a);
+    let b = then_arch_id(s, a);
     let c = fields::then_pad(s, b, exact);
     then_mark(s, c, 2, VTIL_MAGIC_2)
 }
@@ -128,7 +128,7 @@ fn blocks_run(s: &[u8], at: usize, count: u32, exact: bool) -> BlocksSkip
     while 0 < left {
         let far = block::block_skip(s, o, exact);
         if let Skip::Past(n) = far {
-            floor = floor_after(floor, Vip(walk::word64(s, o)));
+            floor = floor_after(floor, Vip(ends::word64(s, o)));
             o = n;
         } else {
             return BlocksSkip::Refused(fields::skip_refusal(far));

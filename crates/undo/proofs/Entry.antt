@@ -17,7 +17,7 @@ use Rattle.book.specs.Says.{state, outcome}
 use Rattle.book.specs.Holding.{Sound}
 use Rattle.book.specs.declared.Book.{Book}
 use Rattle.image.proofs.Inspects.{sound-held}
-use Rattle.trailer.proofs.Trailers.{undone-by}
+use Rattle.journal.proofs.Trailers.{undone-by}
 
 module _ (image journal : List ℕ) (book : Book) (r : Routine) (g : Sound (state image journal book) r) where
   abbrev s : State

@@ -21,21 +21,21 @@ pub fn undo(book: Book, image: &mut [u8], journal: &mut [u8]) -> Answer
             book,
         };
     }
-    if used < trailer::TRAILER_SIZE {
+    if used < journal::TRAILER_SIZE {
         return Answer {
             refusal: book::SPOILED_BOOK,
             book,
         };
     }
-    let last = trailer::read_trailer(journal, used - trailer::TRAILER_SIZE);
+    let last = journal::read_trailer(journal, used - journal::TRAILER_SIZE);
     let kind = last.kind;
-    if kind == trailer::CREATE {
+    if kind == journal::CREATE {
         return undo_create::undo_create(book, image, journal, last);
     }
-    if kind == trailer::REMOVE {
+    if kind == journal::REMOVE {
         return undo_remove::undo_remove(book, image, journal, last);
     }
-    if kind == trailer::APPEND {
+    if kind == journal::APPEND {
         return undo_append::undo_append(book, image, journal, last);
     }
     Answer {

@@ -10,10 +10,10 @@ ghost use Rattle.machine.specs.Journal.{undo-append};
 ghost use Rattle.machine.specs.Book.{held, restored};
 ghost use Rattle.book.specs.Says.{state, outcome};
 ghost use Rattle.book.specs.Holding.{Is-sound};
-ghost use Rattle.trailer.specs.Says.{trailer-of};
+ghost use Rattle.journal.specs.Says.{trailer-of};
 use book::Answer;
 use book::Book;
-use trailer::Trailer;
+use journal::Trailer;
 
 // Taking back an append: the last instruction of the block, which must have the size that was appended, goes, and what stands after it moves down.
 pub fn undo_append(book: Book, image: &mut [u8], journal: &mut [u8], last: Trailer) -> Answer
@@ -32,13 +32,13 @@ pub fn undo_append(book: Book, image: &mut [u8], journal: &mut [u8], last: Trail
         };
     }
     let at = image::block_offset(image, place as usize);
-    if walk::word64(image, at) != last.vip.0 {
+    if ends::word64(image, at) != last.vip.0 {
         return Answer {
             refusal: book::SPOILED_BOOK,
             book,
         };
     }
-    let count = walk::word32(image, at + image::COUNT_AT);
+    let count = ends::word32(image, at + image::COUNT_AT);
     if count == 0 {
         return Answer {
             refusal: book::SPOILED_BOOK,
@@ -56,7 +56,7 @@ pub fn undo_append(book: Book, image: &mut [u8], journal: &mut [u8], last: Trail
     buffer::move_within(image, end, from, written - end);
     buffer::clear(image, written - size, written);
     buffer::put_u32(image, at + image::COUNT_AT, count - 1);
-    let before = trailer::clear_trailer(journal, used);
+    let before = journal::clear_trailer(journal, used);
     Answer {
         refusal: 0,
         book: Book {

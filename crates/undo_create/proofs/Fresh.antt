@@ -14,7 +14,7 @@ use Rattle.pod.specs.Values.{BasicBlock}
 use Rattle.pod.specs.Written.{bytes, many-bytes, counted-bytes, instruction-bytes, block-bytes}
 use Rattle.laws.specs.Holds.{Block-holds}
 use Rattle.laws.proofs.At.{At, left}
-use Rattle.walk.specs.Ends.{word}
+use Rattle.ends.specs.Ends.{word}
 use Rattle.machine.specs.Journal.{none, is-fresh}
 use Rattle.image.proofs.Stands.{named, word-at}
 use Rattle.image.proofs.Parts.{offset-read, index-read, temporary-read, instruction-count, prev-at, next-at}

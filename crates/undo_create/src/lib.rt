@@ -14,10 +14,10 @@ ghost use Rattle.machine.specs.Journal.{is-fresh, undo-create};
 ghost use Rattle.machine.specs.Book.{held, restored};
 ghost use Rattle.book.specs.Says.{state, outcome};
 ghost use Rattle.book.specs.Holding.{Is-sound};
-ghost use Rattle.trailer.specs.Says.{trailer-of};
+ghost use Rattle.journal.specs.Says.{trailer-of};
 use book::Answer;
 use book::Book;
-use trailer::Trailer;
+use journal::Trailer;
 
 // Whether the block at `at` is as create left it: no list has an element, and the fields before them but the vip are 0. Where a list is empty, the
 // count of the next follows its own.
@@ -25,22 +25,22 @@ fn is_fresh(image: &[u8], at: usize) -> bool
     requires { ⌜ at + 36 ≤ length (now image) ⌝ }
     ensures { λ r. ⌜ ((b : BasicBlock) → Block-holds b → At (now (image .entry)) at (block-bytes b) → r ≡ is-fresh b) ⌝ }
 {
-    if walk::word64(image, at + 8) != 0 {
+    if ends::word64(image, at + 8) != 0 {
         return false;
     }
-    if walk::word32(image, at + 16) != 0 {
+    if ends::word32(image, at + 16) != 0 {
         return false;
     }
-    if walk::word32(image, at + 20) != 0 {
+    if ends::word32(image, at + 20) != 0 {
         return false;
     }
-    if walk::word32(image, at + 24) != 0 {
+    if ends::word32(image, at + 24) != 0 {
         return false;
     }
-    if walk::word32(image, at + 28) != 0 {
+    if ends::word32(image, at + 28) != 0 {
         return false;
     }
-    walk::word32(image, at + 32) == 0
+    ends::word32(image, at + 32) == 0
 }
 
 // Taking back a create: the last block, which must be the one that was created and as it was then, becomes zeros.
@@ -66,7 +66,7 @@ pub fn undo_create(book: Book, image: &mut [u8], journal: &mut [u8], last: Trail
         };
     }
     let at = image::block_offset(image, place as usize);
-    if walk::word64(image, at) != last.vip.0 {
+    if ends::word64(image, at) != last.vip.0 {
         return Answer {
             refusal: book::SPOILED_BOOK,
             book,
@@ -80,7 +80,7 @@ pub fn undo_create(book: Book, image: &mut [u8], journal: &mut [u8], last: Trail
     }
     buffer::clear(image, at, written);
     buffer::put_u32(image, start - 4, place);
-    let before = trailer::clear_trailer(journal, used);
+    let before = journal::clear_trailer(journal, used);
     Answer {
         refusal: 0,
         book: Book {

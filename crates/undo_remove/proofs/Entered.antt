@@ -1,4 +1,4 @@
--- What `put_in` leaves of an image that a block is to enter: the block is put last where its place is the number of blocks, and else at the place of
+-- What `swap_insert` leaves of an image that a block is to enter: the block is put last where its place is the number of blocks, and else at the place of
 -- another, which goes last.
 -- Assumes nothing.
 use mathlib.Core.Path.{_≡_, sym, ap, ap₂, _∙_}
@@ -19,10 +19,10 @@ use Rattle.book.specs.Holding.{blocks-start, block-start, Holding}
 use Rattle.edits.proofs.Places.{insert-end, insert-mid}
 use Rattle.edits.proofs.Laid.{written-size}
 use Rattle.edits.proofs.Stands.{split}
-use Rattle.undo_remove.specs.Entering.{Entering}
+use Rattle.undo_remove.specs.Insertable.{Insertable}
 use Rattle.undo_remove.proofs.Inserted.{last-in, mid-in}
 
-module _ (r : Routine) (image : List ℕ) (i w : ℕ) (block : List ℕ) (l : Entering r image i w block) where
+module _ (r : Routine) (image : List ℕ) (i w : ℕ) (block : List ℕ) (l : Insertable r image i w block) where
   abbrev blocks : List BasicBlock
   blocks = r .explored-blocks
 

@@ -28,7 +28,7 @@ use Rattle.book.specs.Holding.{Sound}
 use Rattle.book.specs.declared.Book.{Book}
 use Rattle.book.specs.declared.Answer.{Answer}
 use Rattle.edits.proofs.Places.{total-insert}
-use Rattle.undo_remove.specs.Blocks.{fits-block, is-block, may-enter}
+use Rattle.undo_remove.specs.Blocks.{fits-block, is-block, entry-fits}
 
 -- the first of two tests, and the second
 and-left : (a b : Bool) → (a && b) ≡ true → a ≡ true
@@ -76,7 +76,7 @@ module _ (N : ℕ) (r : Routine) (t : Trailer) (s : List ℕ) (k : length s ≡ 
   abbrev others : Bool
   others = not (present (t .vip) blocks) && (leb (t .place) (length blocks) && leb (size r + t .length) N)
 
-  -- the definition's tests are those of `may-enter`
+  -- the definition's tests are those of `entry-fits`
   tests : (x : Res BasicBlock) → fits-block (t .vip) (t .length) x && others ≡ false → undo-remove-block N r t x ≡ refused 13
   unfolding undo-remove-block choose
   tests (no e) h = refl
@@ -88,20 +88,20 @@ module _ (N : ℕ) (r : Routine) (t : Trailer) (s : List ℕ) (k : length s ≡ 
       go true false h = refl
       go true true h = rw h
 
-  pub misfits : may-enter N r (t .vip) (t .place) s ≡ false → undo-remove-block N r t (block as-written s 0) ≡ refused 13
-  unfolding may-enter is-block
+  pub misfits : entry-fits N r (t .vip) (t .place) s ≡ false → undo-remove-block N r t (block as-written s 0) ≡ refused 13
+  unfolding entry-fits is-block
   misfits h = tests (block as-written s 0) (rw k at h)
 
-  module _ (h : may-enter N r (t .vip) (t .place) s ≡ true) where
+  module _ (h : entry-fits N r (t .vip) (t .place) s ≡ true) where
     is-one : is-block (t .vip) s ≡ true
-    unfolding may-enter
+    unfolding entry-fits
     is-one = and-left (is-block (t .vip) s) _ h
 
     pub whole : One (t .vip) s
     whole = one (t .vip) s is-one
 
     other : others ≡ true
-    unfolding may-enter
+    unfolding entry-fits
     other = rw k at (and-right (is-block (t .vip) s) _ h)
 
     far : leb (t .place) (length blocks) && leb (size r + t .length) N ≡ true
@@ -153,11 +153,11 @@ module _ (image journal : List ℕ) (book : Book) (r : Routine) (g : Sound (stat
         rw (used-size, le-leb (t .length) (book .used - 20) k)
         (ap (λ (s : List ℕ). undo-remove-block N r t (block as-written s 0)) (part-of from (book .used - 20) journal (omega arith)))
 
-    pub misfit : may-enter N r (t .vip) (t .place) entry ≡ false → gives (record { refusal = 13; book = book }) image journal
+    pub misfit : entry-fits N r (t .vip) (t .place) entry ≡ false → gives (record { refusal = 13; book = book }) image journal
     unfolding restored choose
     misfit e = rw (cut, misfits N r t entry entry-size e)
 
-    module _ (e : may-enter N r (t .vip) (t .place) entry ≡ true) where
+    module _ (e : entry-fits N r (t .vip) (t .place) entry ≡ true) where
       abbrev pub back : BasicBlock
       back = whole N r t entry entry-size e .b
 

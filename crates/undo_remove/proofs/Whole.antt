@@ -15,12 +15,12 @@ use Rattle.pod.specs.Values.{BasicBlock, Routine}
 use Rattle.pod.specs.Layout.{block, as-written}
 use Rattle.laws.proofs.Layouts.{block-layout, read-to}
 use Rattle.laws.proofs.Sizes.{block-least}
-use Rattle.walk.specs.Ends.{word}
-use Rattle.walk.proofs.Same.{block-vip}
+use Rattle.ends.specs.Ends.{word}
+use Rattle.ends.proofs.Same.{block-vip}
 use Rattle.machine.specs.Edits.{place}
 use Rattle.machine.specs.Machine.{size}
 use Rattle.machine.proofs.Lists.{present-before, absent-after}
-use Rattle.undo_remove.specs.Blocks.{is-block, may-enter}
+use Rattle.undo_remove.specs.Blocks.{is-block, entry-fits}
 
 module _ (v : ℕ) (s : List ℕ) where
   pub not-read : {e : ℕ} → no e ≡ span (block as-written s 0) → false ≡ is-block v s
@@ -46,24 +46,24 @@ module _ (v : ℕ) (s : List ℕ) where
         let w : le 8 s 0 ≡ p .0 .vip = rw (le-leb 8 (length s) long-enough) at (block-vip s true 0 (p .1)) in
         rw (p .1, eq-eqb n (length s) h) (ap (λ (k : ℕ). eqb k v) (e ∙ w))
 
--- the tests of `may_enter` in turn
+-- the tests of `entry_fits` in turn
 module _ (N : ℕ) (r : Routine) (v i : ℕ) (s : List ℕ) where
-  pub no-block : (t : Bool) → t ≡ is-block v s → t ≡ false → false ≡ may-enter N r v i s
-  unfolding may-enter
+  pub no-block : (t : Bool) → t ≡ is-block v s → t ≡ false → false ≡ entry-fits N r v i s
+  unfolding entry-fits
   no-block t e f = rw (sym e ∙ f)
 
   module _ (b : is-block v s ≡ true) where
-    pub vip-there : place v (r .explored-blocks) < length (r .explored-blocks) → false ≡ may-enter N r v i s
-    unfolding may-enter
+    pub vip-there : place v (r .explored-blocks) < length (r .explored-blocks) → false ≡ entry-fits N r v i s
+    unfolding entry-fits
     vip-there h = rw (b, present-before v (r .explored-blocks) h)
 
     module _ (a : length (r .explored-blocks) ≤ place v (r .explored-blocks)) where
-      pub no-place : length (r .explored-blocks) < i → false ≡ may-enter N r v i s
-      unfolding may-enter
+      pub no-place : length (r .explored-blocks) < i → false ≡ entry-fits N r v i s
+      unfolding entry-fits
       no-place h = rw (b, absent-after v (r .explored-blocks) a, lt-leb i (length (r .explored-blocks)) h)
 
-      pub by-room : i ≤ length (r .explored-blocks) → (w : ℕ) → w ≡ size r → w ≤ N → leb (length s) (N - w) ≡ may-enter N r v i s
-      unfolding may-enter
+      pub by-room : i ≤ length (r .explored-blocks) → (w : ℕ) → w ≡ size r → w ≤ N → leb (length s) (N - w) ≡ entry-fits N r v i s
+      unfolding entry-fits
       by-room h w e l =
           rw (b, absent-after v (r .explored-blocks) a, le-leb i (length (r .explored-blocks)) h)
           (leb-sub _ _ _ l ∙ ap (λ (k : ℕ). leb (k + length s) N) e)

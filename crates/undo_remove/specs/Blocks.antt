@@ -20,6 +20,6 @@ unfoldable pub is-block : ℕ → List ℕ → Bool
 is-block v s = fits-block v (length s) (block as-written s 0)
 
 -- it is one, no block of r has the vip, r has the place or it is the next, and an image of n bytes has room
-unfoldable pub may-enter : ℕ → Routine → ℕ → ℕ → List ℕ → Bool
-may-enter n r v i s =
+unfoldable pub entry-fits : ℕ → Routine → ℕ → ℕ → List ℕ → Bool
+entry-fits n r v i s =
     is-block v s && (not (present v (r .explored-blocks)) && (leb i (length (r .explored-blocks)) && leb (size r + length s) n))

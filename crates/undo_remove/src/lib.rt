@@ -13,15 +13,15 @@ ghost use Rattle.machine.specs.Journal.{undo-remove};
 ghost use Rattle.machine.specs.Book.{in-image, held, restored};
 ghost use Rattle.book.specs.Says.{state, outcome};
 ghost use Rattle.book.specs.Holding.{Holding};
-ghost use Rattle.trailer.specs.Says.{trailer-of};
+ghost use Rattle.journal.specs.Says.{trailer-of};
 ghost use Rattle.book.specs.Holding.{Is-sound};
-ghost use Rattle.undo_remove.specs.Blocks.{is-block, may-enter};
-ghost use Rattle.undo_remove.specs.Entering.{Entering, Enters};
+ghost use Rattle.undo_remove.specs.Blocks.{is-block, entry-fits};
+ghost use Rattle.undo_remove.specs.Insertable.{Insertable, Has-insertable};
 use book::Answer;
 use book::Book;
 use fields::Skip;
 use pod::Vip;
-use trailer::Trailer;
+use journal::Trailer;
 
 // Whether `s` is exactly one block in written form, with the vip.
 fn is_block(s: &[u8], vip: Vip) -> bool
@@ -40,9 +40,9 @@ fn is_block(s: &[u8], vip: Vip) -> bool
 
 // The block goes to its place, and the one standing there goes last: it is written after the last block, and then the two change places. Where its
 // place is the number of blocks, it stays there. The count of blocks stands in the 4 bytes before them.
-fn put_in(image: &mut [u8], place: usize, written: usize, block: &[u8])
-    requires { ⌜ Enters (now image) place written (now block) ⌝ }
-    ensures { λ _. ⌜ ((r : Routine) (b : BasicBlock) → Entering r (now (image .entry)) place written (now (block .entry)) → now (block .entry) ≡ block-bytes b → now (image .exit) ≡ in-image (length (now (image .entry))) (with-blocks (insert-at place b (r .explored-blocks)) r)) ⌝ }
+fn swap_insert(image: &mut [u8], place: usize, written: usize, block: &[u8])
+    requires { ⌜ Has-insertable (now image) place written (now block) ⌝ }
+    ensures { λ _. ⌜ ((r : Routine) (b : BasicBlock) → Insertable r (now (image .entry)) place written (now (block .entry)) → now (block .entry) ≡ block-bytes b → now (image .exit) ≡ in-image (length (now (image .entry))) (with-blocks (insert-at place b (r .explored-blocks)) r)) ⌝ }
 {
     let blocks = image::blocks_of(image);
     let start = blocks.start;
@@ -53,7 +53,7 @@ fn put_in(image: &mut [u8], place: usize, written: usize, block: &[u8])
         return;
     }
     let at = image::block_offset(image, place);
-    let next = walk::block_end(image, at);
+    let next = ends::block_end(image, at);
     buffer::copy_at(image, written, block);
     exchange::exchange(image, at, next, written, written + block.len());
     buffer::put_u32(image, start - 4, count + 1);
@@ -61,16 +61,16 @@ fn put_in(image: &mut [u8], place: usize, written: usize, block: &[u8])
 
 // Whether the bytes of the block may enter the routine that ends at `written`: they are one written block with the vip, no block has it, the place is
 // one of the blocks' or the next, and there is room.
-fn may_enter(image: &[u8], written: usize, block: &[u8], vip: Vip, place: u32) -> bool
+fn entry_fits(image: &[u8], written: usize, block: &[u8], vip: Vip, place: u32) -> bool
     requires { ⌜ written ≤ length (now image) ⌝ }
-    ensures { λ x. ⌜ ((r : Routine) → Holding (now (image .entry)) r → written ≡ size r → x ≡ may-enter (length (now (image .entry))) r (vip .0) place (now (block .entry))) ⌝ }
+    ensures { λ x. ⌜ ((r : Routine) → Holding (now (image .entry)) r → written ≡ size r → x ≡ entry-fits (length (now (image .entry))) r (vip .0) place (now (block .entry))) ⌝ }
 {
     if !is_block(block, vip) {
         return false;
     }
-    let spot = image::find(image, vip);
-    let count = spot.count;
-    if spot.place < count as usize {
+    let found = image::find(image, vip);
+    let count = found.count;
+    if found.place < count as usize {
         return false;
     }
     if count < place {
@@ -87,7 +87,7 @@ pub fn undo_remove(book: Book, image: &mut [u8], journal: &mut [u8], last: Trail
 {
     let written = book.written as usize;
     let used = book.used as usize;
-    let before = used - trailer::TRAILER_SIZE;
+    let before = used - journal::TRAILER_SIZE;
     let size = last.length as usize;
     let place = last.place;
     if before < size {
@@ -97,13 +97,13 @@ pub fn undo_remove(book: Book, image: &mut [u8], journal: &mut [u8], last: Trail
         };
     }
     let from = before - size;
-    if !may_enter(image, written, &journal[from..before], last.vip, place) {
+    if !entry_fits(image, written, &journal[from..before], last.vip, place) {
         return Answer {
             refusal: book::SPOILED_BOOK,
             book,
         };
     }
-    put_in(image, place as usize, written, &journal[from..before]);
+    swap_insert(image, place as usize, written, &journal[from..before]);
     buffer::clear(journal, from, used);
     Answer {
         refusal: 0,

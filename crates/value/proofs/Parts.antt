@@ -17,7 +17,7 @@ use Rattle.fields.proofs.Invert.{inv}
 use Rattle.op.specs.Ops.{number, counts}
 use Rattle.pod.specs.Values.{Instruction}
 use Rattle.pod.specs.Written.{bit}
-use Rattle.pod.specs.Layout.{operand, named, opcode, after, instruction, as-it-comes}
+use Rattle.pod.specs.Layout.{operand, named, opcode, after-opcode, instruction, as-it-comes}
 use Rattle.pod.specs.Descs.{places, instruction-desc}
 use Rattle.pod.specs.declared.Operand.{Operand}
 use Rattle.pod.specs.declared.OperandDesc.{OperandDesc}
@@ -59,8 +59,8 @@ flagged : {B : Type 0} (s : List ℕ) (o : ℕ) (f : Bool → ℕ → Res B) →
 unfolding flag taken choose bind
 flagged s o f = sym (step (uint 1 s o) _ f _ (λ b n. refl))
 
-after-parts : (k : ℕ) (s : List ℕ) (o : ℕ) → after as-it-comes k s o ≡ bind (many operand (getD counts k 0) s o) (λ xs n. bind (tail s n) (λ t m. ok (made k xs t) m))
-unfolding after tail
+after-parts : (k : ℕ) (s : List ℕ) (o : ℕ) → after-opcode as-it-comes k s o ≡ bind (many operand (getD counts k 0) s o) (λ xs n. bind (tail s n) (λ t m. ok (made k xs t) m))
+unfolding after-opcode tail
 after-parts k s o =
     under _ _ _ (λ xs n. step _ _ _ _ (λ v a. step _ _ _ _ (λ z b. step _ _ _ _ (λ i c. flagged s c _ ∙ step _ _ _ _ (λ r d. here _ _ _)))))
 

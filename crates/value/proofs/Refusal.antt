@@ -7,7 +7,7 @@ use mathlib.Core.List.{List}
 use Prim.Native.Nat.{ℕ, zero, suc, _<_}
 use native.Mathlib.Omega.{arith}
 use Rattle.fields.specs.Parse.{Res, ok, no, Reader, bind, choose, uint, part, many, taken, flag}
-use Rattle.pod.specs.Layout.{register, immediate, operand, named, opcode, after, instruction, as-it-comes}
+use Rattle.pod.specs.Layout.{register, immediate, operand, named, opcode, after-opcode, instruction, as-it-comes}
 
 -- an answer that is accepted, or refused with a number over 0
 abbrev pub Told : {A : Type 0} → Res A → Type 0
@@ -83,7 +83,7 @@ unfolding flag taken choose bind
 told-flag s o = told-bind _ _ (told-uint 1 s o) (λ b a. told-ok _ _)
 
 pub told-instruction : (s : List ℕ) (o : ℕ) → Told (instruction as-it-comes s o)
-unfolding instruction after
+unfolding instruction after-opcode
 told-instruction s o =
     told-bind _ _ (told-opcode s o) (λ op a.
     told-bind _ _ (told-operands _ s a) (λ xs b.

@@ -12,7 +12,7 @@ use Rattle.machine.proofs.Keeps.{blocks-few}
 use Rattle.laws.proofs.Sizes.{routine-size}
 use Rattle.book.specs.Says.{state}
 use Rattle.book.specs.Holding.{blocks-start}
-use Rattle.image.specs.Places.{Spotted}
+use Rattle.image.specs.Places.{Finds}
 use Rattle.image.proofs.Inspects.{sound-holding}
 use Rattle.create.proofs.Creates as C
 use borrow.Author.Needs.{needs}
@@ -29,14 +29,14 @@ S s = state (s .args .image .now) (s .args .journal .now) (s .args .book)
 abbrev R : tie.Start → Routine
 R s = s .pre .r
 
-spotted : (c : tie.After-find) → Spotted (R (found-from c)) (found-from c .args .vip .0) (c .find .result)
-spotted c = let s = found-from c in c .find .ensures (R s) (sound-holding (s .pre .sound))
+finds : (c : tie.After-find) → Finds (R (found-from c)) (found-from c .args .vip .0) (c .find .result)
+finds c = let s = found-from c in c .find .ensures (R s) (sound-holding (s .pre .sound))
 
 few : (s : tie.Start) → length (R s .explored-blocks) ≤ 16777216
 few s = omega (arith, blocks-few (R s) (R s .explored-blocks), s .pre .sound .room, s .pre .sound .image-lent)
 
 absent : (c : tie.Else1) → length (R (found-from (c .before .before)) .explored-blocks) ≤ place (found-from (c .before .before) .args .vip .0) (R (found-from (c .before .before)) .explored-blocks)
-absent c = let f = spotted (c .before .before) in omega (arith, c .if1 .left, f .place, f .count)
+absent c = let f = finds (c .before .before) in omega (arith, c .if1 .left, f .place, f .count)
 
 begins : (c : tie.After-blocks-of) → c .blocks-of .result .start ≡ blocks-start (R (found-from (c .before .before .before .before .before .before)))
 begins c = let s = found-from (c .before .before .before .before .before .before) in c .blocks-of .ensures (R s) (sound-holding (s .pre .sound)) .0
@@ -52,7 +52,7 @@ same-length c = search needs
 
 returns : tie.Need-returns
 unfolding choose
-returns c = let f = c .before .before in let s = found-from f in C.create-present (S s) (R s) (s .pre .sound) (s .args .vip .0) (omega (arith, c .if1 .taken, spotted f .place, spotted f .count))
+returns c = let f = c .before .before in let s = found-from f in C.create-present (S s) (R s) (s .pre .sound) (s .args .vip .0) (omega (arith, c .if1 .taken, finds f .place, finds f .count))
 
 sub-if2 : tie.Need-sub-if2
 sub-if2 c = search needs
@@ -84,7 +84,7 @@ sub-put-u32 : tie.Need-sub-put-u32
 sub-put-u32 c = let b = c .before .before .before .before .before in omega (arith, begins b)
 
 add-put-u32 : tie.Need-add-put-u32
-add-put-u32 c = let f = c .before .before .before .before .before .before .before .before .before .before .before in omega (arith, spotted f .count, few (found-from f))
+add-put-u32 c = let f = c .before .before .before .before .before .before .before .before .before .before .before in omega (arith, finds f .count, few (found-from f))
 
 put-u32-requires : tie.Need-put-u32-requires
 put-u32-requires c κs = let b = c .before .before .before .before .before in let s = found-from (b .before .before .before .before .before .before) in omega (arith, begins b, routine-size (R s), s .pre .sound .room, c .before .before .before .put-u64 .kept .0)
@@ -115,7 +115,7 @@ returns-4 c =
     let f = e .before .before .before .before in
     let s = found-from f in
     C.create-final (S s) (R s) (s .pre .sound) (s .args .vip .0) (absent (e .before .before)) (omega (arith, e .before .if2 .left)) (omega (arith, e .if3 .left))
-    (b .blocks-of .result .start) (f .find .result .count) _ _ _ (begins b) (spotted f .count) (t .put-u64 .ensures) (q .put-u32 .ensures) (p .put-trailer .ensures)
+    (b .blocks-of .result .start) (f .find .result .count) _ _ _ (begins b) (finds f .count) (t .put-u64 .ensures) (q .put-u32 .ensures) (p .put-trailer .ensures)
 
 pub create-block-spec : {M : Type 1} → statement M
 create-block-spec =

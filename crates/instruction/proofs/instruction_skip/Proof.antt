@@ -1,4 +1,4 @@
--- An instruction passed over: the quick way's answer where it has one, else the parts one after the other.
+-- An instruction passed over: the fast way's answer where it has one, else the parts one after the other.
 use mathlib.Core.Path.{sym}
 use Rattle.instruction.proofs.Skip.{after-skip}
 use Rattle.pod.specs.Layout.{instruction}
@@ -12,15 +12,15 @@ use Rattle.fields.proofs.then_flag.Reads as then-flag-reads
 use Rattle.fields.proofs.then_uint.Reads as then-uint-reads
 use Rattle.instruction.proofs.op_at.Reads as op-at-reads
 use Rattle.instruction.proofs.operands_run.Reads as operands-run-reads
-use Rattle.instruction.proofs.quick.Reads as quick-reads
+use Rattle.instruction.proofs.fast_end.Reads as fast-end-reads
 use Rattle.op.proofs.operand_count.Reads as operand-count-reads
 use Rattle.instruction.proofs.op_refusal.Reads as op-refusal-reads
 
-quick-requires : tie.Need-quick-requires
-quick-requires c κs = search needs
+fast-end-requires : tie.Need-fast-end-requires
+fast-end-requires c κs = search needs
 
 returns : tie.Need-returns
-returns c = sym (c .before .quick .ensures (c .if1 .taken))
+returns c = sym (c .before .fast-end .ensures (c .if1 .taken))
 
 op-at-requires : tie.Need-op-at-requires
 op-at-requires c κs = search needs
@@ -74,7 +74,7 @@ pub instruction-skip-spec : {M : Type 1} → statement M
 instruction-skip-spec =
     tie.close
     (tie.spec
-    quick-requires
+    fast-end-requires
     returns
     op-at-requires
     enum-known-op

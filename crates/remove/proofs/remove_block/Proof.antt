@@ -12,8 +12,8 @@ use Rattle.machine.specs.Book.{State}
 use Rattle.machine.proofs.Keeps.{weight}
 use Rattle.book.specs.Says.{state}
 use Rattle.book.specs.Holding.{Holding}
-use Rattle.image.specs.Places.{Spotted}
-use Rattle.remove.specs.Leaving.{Leaving}
+use Rattle.image.specs.Places.{Finds}
+use Rattle.remove.specs.Removable.{Removable}
 use Rattle.image.proofs.Inspects.{sound-holding}
 use Rattle.edits.proofs.Stands as B
 use Rattle.remove.proofs.Steps as K
@@ -40,14 +40,14 @@ holding s = sound-holding (s .pre .sound)
 abbrev start : tie.After-find → tie.Start
 start c = c .before .before .before .before
 
-spotted : (c : tie.After-find) → Spotted (R (start c)) (start c .args .vip .0) (c .find .result)
-spotted c = c .find .ensures (R (start c)) (holding (start c))
+finds : (c : tie.After-find) → Finds (R (start c)) (start c .args .vip .0) (c .find .result)
+finds c = c .find .ensures (R (start c)) (holding (start c))
 
 abbrev found : tie.Else1 → tie.After-find
 found c = c .before .before
 
 there : (c : tie.Else1) → P (start (found c)) < length (R (start (found c)) .explored-blocks)
-there c = let f = found c in omega (arith, c .if1 .left, spotted f .place, spotted f .count)
+there c = let f = found c in omega (arith, c .if1 .left, finds f .place, finds f .count)
 
 abbrev passed : tie.After-block-end → tie.Else1
 passed c = c .before .before
@@ -57,10 +57,10 @@ ends : (c : tie.After-block-end) → c .block-end .result ≡ found (passed c) .
 ends c =
     let e = passed c in
     let s = start (found e) in
-    c .block-end .ensures ∙ B.end-here (R s) (P s) (there e) (s .args .image .now) (holding s) _ (spotted (found e) .at)
+    c .block-end .ensures ∙ B.end-here (R s) (P s) (there e) (s .args .image .now) (holding s) _ (finds (found e) .at)
 
 whole : (c : tie.After-block-end) → c .block-end .result ≤ size (R (start (found (passed c))))
-whole c = let e = passed c in let s = start (found e) in omega (arith, ends c, spotted (found e) .at, B.tail-size (R s) (P s) (there e))
+whole c = let e = passed c in let s = start (found e) in omega (arith, ends c, finds (found e) .at, B.tail-size (R s) (P s) (there e))
 
 in-image : (c : tie.After-block-end) → c .block-end .result ≤ start (found (passed c)) .args .book .written
 in-image c = let s = start (found (passed c)) in omega (arith, whole c, s .pre .sound .written)
@@ -68,13 +68,13 @@ in-image c = let s = start (found (passed c)) in omega (arith, whole c, s .pre .
 lent : (c : tie.After-block-end) → start (found (passed c)) .args .book .written ≤ length (start (found (passed c)) .args .image .now)
 lent c = let s = start (found (passed c)) in omega (arith, s .pre .sound .written, s .pre .sound .room)
 
-leaving : (c : tie.After-block-end)
-    → (let s = start (found (passed c)) in Leaving (R s) (P s) (s .args .image .now) (found (passed c) .find .result .at) (c .block-end .result) (s .args .book .written))
-leaving c =
+removable : (c : tie.After-block-end)
+    → (let s = start (found (passed c)) in Removable (R s) (P s) (s .args .image .now) (found (passed c) .find .result .at) (c .block-end .result) (s .args .book .written))
+removable c =
     let e = passed c in
     let s = start (found e) in
     let g = s .pre .sound in
-    record { holds = g .holds; is = g .image; whole = g .written; room = g .room; lent = g .image-lent; within = there e; start = spotted (found e) .at; stop = ends c }
+    record { holds = g .holds; is = g .image; whole = g .written; room = g .room; lent = g .image-lent; within = there e; start = finds (found e) .at; stop = ends c }
 
 find-requires : tie.Need-find-requires
 find-requires c κs = search needs
@@ -86,7 +86,7 @@ same-length : tie.Need-same-length
 same-length c = search needs
 
 returns : tie.Need-returns
-returns c = let f = c .before .before in let s = start f in K.no-block _ _ _ (R s) (s .pre .sound) _ (omega (arith, c .if1 .taken, spotted f .place, spotted f .count))
+returns c = let f = c .before .before in let s = start f in K.no-block _ _ _ (R s) (s .pre .sound) _ (omega (arith, c .if1 .taken, finds f .place, finds f .count))
 
 block-end-requires : tie.Need-block-end-requires
 block-end-requires c κs = search needs
@@ -134,8 +134,8 @@ cast-put-trailer-2 c = search needs
 put-trailer-requires : tie.Need-put-trailer-requires
 put-trailer-requires c κs = search needs
 
-take-out-requires : tie.Need-take-out-requires
-take-out-requires c κs = let u = c .before .before .before .before .before .before .before .before .before .before .before .before in let s = start (found (passed u)) in record { r = R s; i = P s; leaving = leaving u }
+swap-remove-requires : tie.Need-swap-remove-requires
+swap-remove-requires c κs = let u = c .before .before .before .before .before .before .before .before .before .before .before .before in let s = start (found (passed u)) in record { r = R s; i = P s; removable = removable u }
 
 sub-t14 : tie.Need-sub-t14
 sub-t14 c = omega (arith, ends (c .before .before .before .before .before .before .before .before .before .before .before .before .before .before .before), in-image (c .before .before .before .before .before .before .before .before .before .before .before .before .before .before .before))
@@ -158,11 +158,11 @@ returns-3 c =
     let e = passed u in
     let f = found e in
     let s = start f in
-    K.removed _ _ _ (R s) (s .pre .sound) _ (there e) _ _ _ (spotted f .at) (ends u) (spotted f .place) (omega (arith, c .before .before .before .before .before .before .before .before .before .before .before .before .before .before .if2 .left)) _ _ _ _
-    (B.part-here (R s) (P s) (there e) (s .args .image .now) (holding s) _ _ (spotted f .at) (ends u))
+    K.removed _ _ _ (R s) (s .pre .sound) _ (there e) _ _ _ (finds f .at) (ends u) (finds f .place) (omega (arith, c .before .before .before .before .before .before .before .before .before .before .before .before .before .before .if2 .left)) _ _ _ _
+    (B.part-here (R s) (P s) (there e) (s .args .image .now) (holding s) _ _ (finds f .at) (ends u))
     (c .before .before .before .before .before .before .before .before .before .before .copy-at .ensures)
     (c .before .before .before .before .before .before .put-trailer .ensures)
-    (c .before .before .take-out .ensures (R s) (P s) (leaving u))
+    (c .before .before .swap-remove .ensures (R s) (P s) (removable u))
 
 pub remove-block-spec : {M : Type 1} → statement M
 remove-block-spec =
@@ -186,7 +186,7 @@ remove-block-spec =
     cast-put-trailer
     cast-put-trailer-2
     put-trailer-requires
-    take-out-requires
+    swap-remove-requires
     sub-t14
     add-t19
     add-t18

@@ -20,7 +20,7 @@ use Rattle.routine.proofs.blocks_run.Lts as lts
 use Rattle.block.proofs.block_skip.Reads as block-skip-reads
 use Rattle.fields.proofs.skip_refusal.Reads as skip-refusal-reads
 use Rattle.routine.proofs.floor_after.Reads as floor-after-reads
-use Rattle.walk.proofs.word64.Reads as word64-reads
+use Rattle.ends.proofs.word64.Reads as word64-reads
 
 abbrev Inv-loop : tie.InvT-loop
 Inv-loop s at count exact left₀ o₀ floor₀ left o floor =

@@ -6,14 +6,14 @@ use Rattle.routine.proofs.header_skip.Tie as tie
 use Rattle.routine.proofs.header_skip.Reads as reads
 use Rattle.routine.proofs.header_skip.Lts as lts
 use Rattle.fields.proofs.then_pad.Reads as then-pad-reads
-use Rattle.routine.proofs.then_machine.Reads as then-machine-reads
+use Rattle.routine.proofs.then_arch_id.Reads as then-arch-id-reads
 use Rattle.routine.proofs.then_mark.Reads as then-mark-reads
 
 then-mark-requires : tie.Need-then-mark-requires
 then-mark-requires c κs = search needs
 
-then-machine-requires : tie.Need-then-machine-requires
-then-machine-requires c κs = search needs
+then-arch-id-requires : tie.Need-then-arch-id-requires
+then-arch-id-requires c κs = search needs
 
 then-pad-requires : tie.Need-then-pad-requires
 then-pad-requires c κs = search needs
@@ -26,7 +26,7 @@ returns c =
     rw (
       c .then-mark2 .ensures,
       c .before .then-pad .ensures,
-      c .before .before .then-machine .ensures,
+      c .before .before .then-arch-id .ensures,
       c .before .before .before .then-mark .ensures,
     ) (header-skip _ _ _)
 
@@ -35,7 +35,7 @@ header-skip-spec =
     tie.close
     (tie.spec
     then-mark-requires
-    then-machine-requires
+    then-arch-id-requires
     then-pad-requires
     then-mark-requires-2
     returns)

@@ -9,13 +9,13 @@ use Rattle.fields.specs.Parse.{choose}
 use Rattle.fields.specs.Outcome.{accepted}
 use Rattle.pod.specs.Values.{BasicBlock, Routine}
 use Rattle.pod.specs.Written.{instruction-bytes}
-use Rattle.walk.specs.Ends.{word}
+use Rattle.ends.specs.Ends.{word}
 use Rattle.machine.specs.Machine.{Answer}
 use Rattle.machine.specs.Journal.{Trailer, undo-append}
 use Rattle.machine.specs.Book.{State, held, restored}
 use Rattle.book.specs.Says.{state}
 use Rattle.book.specs.Holding.{block-start}
-use Rattle.trailer.specs.Says.{trailer-of}
+use Rattle.journal.specs.Says.{trailer-of}
 use Rattle.image.proofs.Inspects.{of-held, sound-holding}
 use Rattle.image.proofs.Stands.{block-holds, block-word}
 use Rattle.image.proofs.Parts.{stands-here}

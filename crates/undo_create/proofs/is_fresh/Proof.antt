@@ -3,7 +3,7 @@
 use mathlib.Core.Path.{_≡_, sym, ap, _∙_}
 use Prim.Native.Nat.{_+_}
 use lib.Dec.{eqb}
-use Rattle.walk.specs.Ends.{word}
+use Rattle.ends.specs.Ends.{word}
 use Rattle.undo_create.proofs.Fresh as F
 use borrow.Author.Needs.{needs}
 use Rattle.undo_create.proofs.is_fresh.Statement.{statement}

@@ -15,7 +15,7 @@ use Rattle.machine.specs.Book.{State, held, restored}
 use Rattle.laws.proofs.Sizes.{routine-size}
 use Rattle.book.specs.Says.{state}
 use Rattle.book.specs.Holding.{blocks-start, block-start}
-use Rattle.trailer.specs.Says.{trailer-of}
+use Rattle.journal.specs.Says.{trailer-of}
 use Rattle.image.proofs.Inspects.{of-held, sound-holding}
 use Rattle.image.proofs.Stands.{block-holds, block-word}
 use Rattle.image.proofs.Parts.{stands-here}

@@ -16,9 +16,9 @@ use Rattle.machine.specs.Journal as journal
 use Rattle.book.specs.Says.{state}
 use Rattle.book.specs.Holding.{Sound}
 use Rattle.image.proofs.Inspects.{of-held, sound-holding}
-use Rattle.trailer.specs.Says.{trailer-of}
-use Rattle.undo_remove.specs.Blocks.{may-enter}
-use Rattle.undo_remove.specs.Entering.{Entering}
+use Rattle.journal.specs.Says.{trailer-of}
+use Rattle.undo_remove.specs.Blocks.{entry-fits}
+use Rattle.undo_remove.specs.Insertable.{Insertable}
 use Rattle.undo_remove.proofs.Entries as K
 use borrow.Author.Needs.{needs}
 use Rattle.undo_remove.proofs.undo_remove.Statement.{statement}
@@ -52,21 +52,21 @@ whole c = c .if1 .left
 abbrev entry : tie.Else1 → List ℕ
 entry c = let s = start c in K.entry _ _ _ (R s) (sound s) (T s) (s .pre .1) (whole c)
 
--- what `may_enter` said
-tested : (c : tie.After-may-enter)
-    → (let s = start (c .before .before .before .before) in c .may-enter .result ≡ may-enter (length (s .args .image .now)) (R s) (T s .vip) (T s .place) (entry (c .before .before .before .before)))
-tested c = let s = start (c .before .before .before .before) in c .may-enter .ensures (R s) (sound-holding (sound s)) (sound s .written)
+-- what `entry_fits` said
+tested : (c : tie.After-entry-fits)
+    → (let s = start (c .before .before .before .before) in c .entry-fits .result ≡ entry-fits (length (s .args .image .now)) (R s) (T s .vip) (T s .place) (entry (c .before .before .before .before)))
+tested c = let s = start (c .before .before .before .before) in c .entry-fits .ensures (R s) (sound-holding (sound s)) (sound s .written)
 
 enters : (c : tie.Else2)
-    → (let s = start (c .before .before .before .before .before) in may-enter (length (s .args .image .now)) (R s) (T s .vip) (T s .place) (entry (c .before .before .before .before .before)) ≡ true)
+    → (let s = start (c .before .before .before .before .before) in entry-fits (length (s .args .image .now)) (R s) (T s .vip) (T s .place) (entry (c .before .before .before .before .before)) ≡ true)
 enters c = sym (tested (c .before)) ∙ not-false _ (c .if2 .left)
 
 abbrev back : tie.Else2 → BasicBlock
 back c = let s = start (c .before .before .before .before .before) in K.back _ _ _ (R s) (sound s) (T s) (s .pre .1) (whole (c .before .before .before .before .before)) (enters c)
 
-entering : (c : tie.Else2)
-    → (let s = start (c .before .before .before .before .before) in Entering (R s) (s .args .image .now) (T s .place) (s .args .book .written) (entry (c .before .before .before .before .before)))
-entering c =
+insertable : (c : tie.Else2)
+    → (let s = start (c .before .before .before .before .before) in Insertable (R s) (s .args .image .now) (T s .place) (s .args .book .written) (entry (c .before .before .before .before .before)))
+insertable c =
     let e = c .before .before .before .before .before in
     let s = start e in
     let g = sound s in
@@ -89,17 +89,17 @@ cast-size c = search needs
 returns : tie.Need-returns
 returns c = let s = c .before .before .before .before in over s _ (K.long _ _ _ (R s) (sound s) (T s) (s .pre .1) (c .if1 .taken))
 
-sub-may-enter : tie.Need-sub-may-enter
-sub-may-enter c = search needs
+sub-entry-fits : tie.Need-sub-entry-fits
+sub-entry-fits c = search needs
 
-part-may-enter-start : tie.Need-part-may-enter-start
-part-may-enter-start c = search needs
+part-entry-fits-start : tie.Need-part-entry-fits-start
+part-entry-fits-start c = search needs
 
-part-may-enter-end : tie.Need-part-may-enter-end
-part-may-enter-end c = search needs
+part-entry-fits-end : tie.Need-part-entry-fits-end
+part-entry-fits-end c = search needs
 
-may-enter-requires : tie.Need-may-enter-requires
-may-enter-requires c κs = search needs
+entry-fits-requires : tie.Need-entry-fits-requires
+entry-fits-requires c κs = search needs
 
 same-length : tie.Need-same-length
 same-length c = search needs
@@ -113,20 +113,20 @@ returns-2 c =
     let s = start e in
     over s _ (K.misfit _ _ _ (R s) (sound s) (T s) (s .pre .1) (whole e) (sym (tested (c .before)) ∙ not-true _ (c .if2 .taken)))
 
-cast-put-in : tie.Need-cast-put-in
-cast-put-in c = search needs
+cast-swap-insert : tie.Need-cast-swap-insert
+cast-swap-insert c = search needs
 
-sub-put-in : tie.Need-sub-put-in
-sub-put-in c = search needs
+sub-swap-insert : tie.Need-sub-swap-insert
+sub-swap-insert c = search needs
 
-part-put-in-start : tie.Need-part-put-in-start
-part-put-in-start c = search needs
+part-swap-insert-start : tie.Need-part-swap-insert-start
+part-swap-insert-start c = search needs
 
-part-put-in-end : tie.Need-part-put-in-end
-part-put-in-end c = search needs
+part-swap-insert-end : tie.Need-part-swap-insert-end
+part-swap-insert-end c = search needs
 
-put-in-requires : tie.Need-put-in-requires
-put-in-requires c κs = let u = c .before .before .before in record { r = R (start (u .before .before .before .before .before)); entering = entering u }
+swap-insert-requires : tie.Need-swap-insert-requires
+swap-insert-requires c κs = let u = c .before .before .before in record { r = R (start (u .before .before .before .before .before)); insertable = insertable u }
 
 clear-requires : tie.Need-clear-requires
 clear-requires c κs = search needs
@@ -147,7 +147,7 @@ returns-3 c =
     let s = start e in
     let y = c .before .before .before .before .before .before .before .before .before .before .before .before .before .before .before .before .before .slice-known2 .given in
     let b = K.written-back _ _ _ (R s) (sound s) (T s) (s .pre .1) (whole e) (enters u) y in
-    over s _ (K.restores _ _ _ (R s) (sound s) (T s) (s .pre .1) (whole e) (enters u) y _ _ (c .before .before .before .before .before .before .put-in .ensures (R s) (back u) (entering u) b) (c .before .before .clear .ensures))
+    over s _ (K.restores _ _ _ (R s) (sound s) (T s) (s .pre .1) (whole e) (enters u) y _ _ (c .before .before .before .before .before .before .swap-insert .ensures (R s) (back u) (insertable u) b) (c .before .before .clear .ensures))
 
 pub undo-remove-spec : {M : Type 1} → statement M
 undo-remove-spec =
@@ -156,18 +156,18 @@ undo-remove-spec =
     sub-before
     cast-size
     returns
-    sub-may-enter
-    part-may-enter-start
-    part-may-enter-end
-    may-enter-requires
+    sub-entry-fits
+    part-entry-fits-start
+    part-entry-fits-end
+    entry-fits-requires
     same-length
     same-length-2
     returns-2
-    cast-put-in
-    sub-put-in
-    part-put-in-start
-    part-put-in-end
-    put-in-requires
+    cast-swap-insert
+    sub-swap-insert
+    part-swap-insert-start
+    part-swap-insert-end
+    swap-insert-requires
     clear-requires
     add-t23
     same-length-3

@@ -1,1 +1,0 @@
-// Document 01's starred instances, computed. No code.
