@@ -9,10 +9,10 @@ use native.Mathlib.Omega.{arith}
 use lib.ListN.{length, take, drop, length-append, length-replicate}
 use lib.Dec.{eqb}
 use borrow.Author.Tests.{ne-eqb, lt-ltb, le-ltb}
-use Rattle.fields.specs.Bytes.{zeros, put}
-use Rattle.fields.specs.Parse.{Res, ok, no, choose, span}
+use Rattle.fields.specs.Bytes.{zeros, put, Bytes}
+use Rattle.fields.specs.Parse.{Res, ok, no, span}
 use Rattle.fields.specs.Outcome.{refused, accepted}
-use Rattle.fields.proofs.Le.{Bytes}
+use Rattle.fields.specs.Lists.{choose}
 use Rattle.pod.specs.Values.{Instruction, BasicBlock, Routine}
 use Rattle.pod.specs.Layout.{instruction, as-it-comes}
 use Rattle.pod.specs.Written.{bytes, many-bytes, instruction-bytes, routine-bytes}

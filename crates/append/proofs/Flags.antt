@@ -9,9 +9,8 @@ use lib.Dec.{eqb}
 use lib.ListN.{length, take, getD, drop-of-length-le}
 use lib.Seq.{split-at, length-take-le, take-length}
 use borrow.Author.Tests.{ne-eqb}
-use Rattle.fields.specs.Bytes.{put}
+use Rattle.fields.specs.Bytes.{put, Bytes}
 use Rattle.fields.specs.Parse.{ok}
-use Rattle.fields.proofs.Le.{Bytes}
 use Rattle.pod.specs.Values.{Instruction}
 use Rattle.pod.specs.Layout.{instruction, as-it-comes}
 use Rattle.pod.specs.Written.{bytes, bit, instruction-bytes}

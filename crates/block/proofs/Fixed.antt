@@ -9,8 +9,9 @@ use native.Mathlib.Omega.{arith}
 use lib.ListN.{length}
 use lib.Dec.{leb}
 use borrow.Author.Tests.{le-leb, lt-leb, leb-true, leb-false}
-use Rattle.fields.specs.Parse.{Res, ok, no, choose, le, uint, many, span}
+use Rattle.fields.specs.Parse.{Res, ok, no, le, uint, many, span}
 use Rattle.fields.proofs.Many.{run-next, run-stop}
+use Rattle.fields.specs.Lists.{choose}
 
 module _ (k : ℕ) (s : List ℕ) where
   read : (o : ℕ) → o + k ≤ length s → uint k s o ≡ ok (le k s o) (o + k)

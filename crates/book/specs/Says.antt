@@ -3,8 +3,8 @@
 use Prim.Native.Nat.{ℕ}
 use mathlib.Core.List.{List}
 use lib.Dec.{eqb}
-use Rattle.fields.specs.Parse.{choose}
 use Rattle.fields.specs.Outcome.{Outcome, refused, accepted}
+use Rattle.fields.specs.Lists.{choose}
 use Rattle.machine.specs.Machine as machine
 use Rattle.machine.specs.Book.{State}
 use Rattle.book.specs.declared.Book.{Book}

@@ -10,10 +10,9 @@ use lib.Dec.{leb}
 use borrow.Author.Tests.{leb-true, leb-false}
 use lib.ListN.{length, drop, getD, length-drop, length-replicate}
 use lib.Seq.{ext-getD, getD-drop}
-use Rattle.fields.specs.Bytes.{zeros}
+use Rattle.fields.specs.Bytes.{zeros, Bytes}
 use Rattle.fields.specs.Parse.{le}
-use Rattle.fields.proofs.Le.{Bytes}
-use Rattle.op.specs.Ops.{same}
+use Rattle.fields.specs.Lists.{same}
 use Rattle.op.proofs.Same.{same-yes, same-no}
 
 -- s and t have the same bytes from index f up to, not including, index e

@@ -5,7 +5,7 @@ ghost use mathlib.Core.Path.{_≡_};
 ghost use Prim.Native.Nat.{_+_, _-_, _≤_};
 ghost use lib.ListN.{length, take, drop};
 ghost use Rattle.fields.specs.Bytes.{put, zeros};
-ghost use Rattle.op.specs.Ops.{same};
+ghost use Rattle.fields.specs.Lists.{same};
 ghost use Rattle.pod.specs.Written.{bytes};
 
 // Zeros from index `from` up to, not including, index `to`. A loop of plain stores, which the compiler makes one memset.

@@ -10,10 +10,10 @@ use lib.ListN.{length, take, drop, getD, length-append, length-drop}
 use lib.Seq.{take-append-le, drop-append-le, drop-append-seam, take-length}
 use lib.Dec.{leb}
 use borrow.Author.Tests.{le-leb, leb-true}
+use Rattle.fields.specs.Lists.{Each, choose}
+use Rattle.fields.specs.Bytes.{Bytes}
 use Rattle.machine.specs.Edits.{create, remove, append}
-use Rattle.laws.specs.Holds.{Each}
-use Rattle.machine.specs.Machine.{Call, edit, undo, Bytes, Sendable}
-use Rattle.fields.specs.Parse.{choose}
+use Rattle.machine.specs.Machine.{Call, edit, undo, Sendable}
 use Rattle.call_list.specs.Encoding.{is-call-list, call-of, between, calls}
 use Rattle.call_list.specs.Runs.{Encoded}
 use Rattle.call_list.proofs.Words.{both}

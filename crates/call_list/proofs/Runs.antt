@@ -9,12 +9,12 @@ use native.Mathlib.Omega.{arith}
 use lib.ListN.{length, drop, getD}
 use lib.Dec.{eqb}
 use borrow.Author.Tests.{eq-eqb, ne-eqb}
-use Rattle.fields.specs.Parse.{choose}
 use Rattle.fields.specs.Outcome.{Outcome, refused, accepted}
-use Rattle.fields.proofs.Le.{each-taken, each-dropped}
-use Rattle.machine.specs.Edits.{create, remove, append, last-of}
-use Rattle.laws.specs.Holds.{Each}
-use Rattle.machine.specs.Machine.{Call, edit, undo, Bytes, Sendable, Answer}
+use Rattle.fields.proofs.Le.{bytes-take, bytes-drop}
+use Rattle.fields.specs.Lists.{choose, last-of, Each}
+use Rattle.fields.specs.Bytes.{Bytes}
+use Rattle.machine.specs.Edits.{create, remove, append}
+use Rattle.machine.specs.Machine.{Call, edit, undo, Sendable, Answer}
 use Rattle.machine.specs.Book.{State, unopened, open-book, step, run}
 use Rattle.demands.specs.Demand3.{Opening}
 use Rattle.demands.proofs.Demand3.{follows}
@@ -106,9 +106,6 @@ module _ (file image journal words bytes : List ℕ) where
     opened-ran {b} a = rw (h, ← e, a)
 
 -- the calls can be sent
-abbrev byte : ℕ → Type 0
-byte x = x < 256
-
 sent-one : (vip : ℕ) (bytes : List ℕ) → vip < 2 ^ 64 → Bytes bytes → (t u v : Bool)
     → Sendable (choose t (edit (create vip)) (choose u (edit (remove vip)) (choose v (edit (append vip bytes)) undo)))
 unfolding choose
@@ -124,7 +121,7 @@ sent (kind ∷ []) bytes w b = tt
 sent (kind ∷ vip ∷ []) bytes w b = tt
 sent (kind ∷ vip ∷ begin ∷ []) bytes w b = tt
 sent (kind ∷ vip ∷ begin ∷ end ∷ words) bytes w b = (
-  sent-one vip _ (w 1) (each-taken byte (omega arith) (end - begin) (drop begin bytes) (each-dropped byte begin bytes b)) (eqb kind 0) (eqb kind 1) (eqb kind 2),
+  sent-one vip _ (w 1) (bytes-take (end - begin) (drop begin bytes) (bytes-drop begin bytes b)) (eqb kind 0) (eqb kind 1) (eqb kind 2),
   sent words bytes (λ i. w (suc (suc (suc (suc i))))) b,
 )
 

@@ -6,9 +6,9 @@ use mathlib.Core.List.{List, [], _∷_}
 use lib.ListN.{length, take, drop, getD}
 use lib.Dec.{leb, eqb}
 use Rattle.fields.specs.Refusals.{no-such-block}
-use Rattle.fields.specs.Parse.{choose}
 use Rattle.fields.specs.Outcome.{refused, accepted}
-use Rattle.machine.specs.Edits.{create, remove, append, last-of}
+use Rattle.fields.specs.Lists.{choose, last-of}
+use Rattle.machine.specs.Edits.{create, remove, append}
 use Rattle.machine.specs.Machine.{Call, edit, undo, Answer}
 use Rattle.machine.specs.Book.{State, unopened, open-book, run}
 

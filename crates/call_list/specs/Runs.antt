@@ -6,8 +6,9 @@ use mathlib.Core.List.{List}
 use Prim.Native.Nat.{ℕ, _<_, _^_}
 use lib.ListN.{length, getD}
 use Rattle.fields.specs.Outcome.{accepted}
-use Rattle.machine.specs.Edits.{last-of}
-use Rattle.machine.specs.Machine.{Call, Bytes, Answer, start, size, used-by, machine-run}
+use Rattle.fields.specs.Lists.{last-of}
+use Rattle.fields.specs.Bytes.{Bytes}
+use Rattle.machine.specs.Machine.{Call, Answer, start, size, used-by, machine-run}
 use Rattle.machine.specs.Book.{State, in-image}
 use Rattle.demands.specs.Demand3.{Opening, machine-after}
 use Rattle.call_list.specs.Encoding.{is-call-list, calls, opened-and-run}

@@ -4,8 +4,8 @@ use mathlib.Core.Path.{_≡_, sym}
 use mathlib.Core.List.{List}
 use Prim.Native.Nat.{ℕ}
 use borrow.Author.Tests.{ne-eqb}
-use Rattle.fields.specs.Parse.{choose}
-use Rattle.fields.proofs.Le.{Bytes}
+use Rattle.fields.specs.Lists.{choose}
+use Rattle.fields.specs.Bytes.{Bytes}
 use Rattle.machine.specs.Machine.{Call}
 use Rattle.machine.specs.Book.{held, step}
 use Rattle.machine.proofs.Calls.{step-refused}

@@ -11,8 +11,8 @@ use Rattle.pod.specs.Written.{bytes, many-bytes, block-bytes, routine-head-byte
 use Rattle.buffer.proofs.Put.{put-parts, zeros-split}
 use Rattle.laws.proofs.Back.{length-bytes}
 use Rattle.laws.proofs.Place.{many-append}
-use Rattle.fields.specs.Parse.{choose}
 use Rattle.fields.specs.Outcome.{refused, accepted}
+use Rattle.fields.specs.Lists.{choose}
 use Rattle.machine.specs.Edits.{create, edited, place, empty-block, with-blocks}
 use Rattle.machine.specs.Machine.{Answer, edit, size}
 use Rattle.machine.specs.Journal.{trailer-bytes, entry}

@@ -9,10 +9,10 @@ use native.Mathlib.Omega.{arith}
 use lib.ListN.{length, take}
 use lib.Dec.{leb, eqb}
 use borrow.Author.Tests.{le-leb}
-use Rattle.fields.specs.Parse.{Res, ok, no, choose}
+use Rattle.fields.specs.Parse.{Res, ok, no}
 use Rattle.fields.specs.Outcome.{Outcome, refused, accepted, after}
+use Rattle.fields.specs.Lists.{choose, has}
 use Rattle.pod.specs.Values.{Instruction, RoutineConvention, BasicBlock, Routine}
-use Rattle.pod.specs.Blocks.{has}
 use Rattle.pod.specs.Layout.{instruction, read-file, as-it-comes}
 use Rattle.pod.specs.Descs.{writing, written-over}
 use Rattle.pod.specs.declared.InstructionDesc.{InstructionDesc}

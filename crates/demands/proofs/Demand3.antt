@@ -7,8 +7,8 @@ use mathlib.Core.List.{List, [], _∷_, _++_}
 use Prim.Native.Nat.{ℕ}
 use lib.ListN.{length, take}
 use Rattle.fields.specs.Outcome.{accepted}
+use Rattle.fields.specs.Lists.{Each}
 use Rattle.pod.specs.Written.{routine-bytes}
-use Rattle.laws.specs.Holds.{Each}
 use Rattle.laws.proofs.Layouts.{routine-layout, injective}
 use Rattle.machine.specs.Edits.{Edit, cost}
 use Rattle.machine.specs.Machine.{Call, edit, undo, Sendable, Machine, start, size, used-by, machine-step, machine-run}

@@ -9,14 +9,15 @@ use native.Mathlib.Omega.{arith}
 use lib.ListN.{length}
 use lib.Dec.{leb}
 use borrow.Author.Tests.{le-leb, leb-true}
-use Rattle.fields.specs.Parse.{Res, ok, no, choose}
-use Rattle.fields.specs.Bytes.{zeros}
+use Rattle.fields.specs.Parse.{Res, ok, no}
+use Rattle.fields.specs.Bytes.{zeros, Bytes}
 use Rattle.fields.specs.Outcome.{Outcome, refused, accepted}
+use Rattle.fields.specs.Lists.{choose}
 use Rattle.pod.specs.Values.{Routine}
 use Rattle.pod.specs.Layout.{read-file}
 use Rattle.pod.specs.Descs.{most-lent}
 use Rattle.laws.proofs.Layouts.{routine-layout, read-holds}
-use Rattle.machine.specs.Machine.{Bytes, Book, size, start}
+use Rattle.machine.specs.Machine.{Book, size, start}
 use Rattle.machine.specs.Book.{in-image, unopened, opened, open-book}
 use Rattle.demands.specs.Demand3.{Opening, fresh}
 use Rattle.machine.proofs.Simulation.{Sim, state-of}
@@ -109,6 +110,6 @@ module _ (o : Opening) where
         is = fresh-is (o .file) (o .image) (o .journal) (o .reads) small journal-small room;
         room = room;
         journal-room = omega arith;
-        holds = read-holds routine-layout false (λ k. record { fits = o .bytes k }) (o .reads);
+        holds = read-holds routine-layout false (o .bytes) (o .reads);
         link = refl;
       }

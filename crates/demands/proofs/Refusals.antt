@@ -9,12 +9,12 @@ use native.Mathlib.Omega.{arith}
 use lib.ListN.{length}
 use lib.Dec.{leb, ltb}
 use mir.Syntax.{Width, w32, w64}
-use Rattle.fields.specs.Parse.{Res, ok, no, Reader, bind, choose, uint, int, part, many, counted, taken, pad, flag, u64}
+use Rattle.fields.specs.Parse.{Res, ok, no, Reader, bind, uint, int, part, many, counted, taken, pad, flag, u64}
 use Rattle.fields.specs.Outcome.{Outcome, refused, accepted}
+use Rattle.fields.specs.Lists.{choose, Each}
 use Rattle.pod.specs.Values.{Instruction, Routine}
 use Rattle.pod.specs.Layout.{header, register, immediate, operand, named, opcode, after-opcode, instruction, convention, block, blocks, routine, as-it-comes}
 use Rattle.machine.specs.Edits.{Edit, create, remove, append, present, appended, edited, cost}
-use Rattle.laws.specs.Holds.{Each}
 use Rattle.machine.specs.Machine.{Call, edit, undo, Stack, used-by, Machine, size, admitted, after-edit, after-undo, machine-step, machine-run}
 use Rattle.demands.specs.Demand3.{Unspoiled}
 

@@ -7,7 +7,7 @@ use mathlib.Core.List.{List, [], _∷_}
 use Rattle.fields.specs.Refusals.{short-file, name-not-text, wrong-mark, unknown-machine, foreign-register, unknown-operand-kind, unknown-operation, wrong-operand-count, repeated-block, lending-too-large, image-full, journal-full, spoiled-book, block-present, no-such-block, nothing-to-take-back, leftover}
 use Rattle.fields.specs.Parse.{no}
 use Rattle.fields.specs.Outcome.{Outcome, refused}
-use Rattle.pod.specs.Blocks.{has}
+use Rattle.fields.specs.Lists.{has}
 use Rattle.pod.specs.Layout.{read-file}
 use Rattle.pod.specs.Descs.{writing, written-over}
 use Rattle.pod.specs.declared.InstructionDesc.{InstructionDesc}

@@ -6,12 +6,13 @@ use mathlib.Core.Path.{_≡_}
 use mathlib.Core.List.{List, _++_}
 use lib.ListN.{length, take}
 use Rattle.fields.specs.Parse.{ok}
+use Rattle.fields.specs.Bytes.{Bytes}
 use Rattle.pod.specs.Values.{Routine}
 use Rattle.pod.specs.Layout.{read-file}
 use Rattle.pod.specs.Written.{routine-bytes}
 use Rattle.laws.specs.Holds.{Routine-holds}
 use Rattle.laws.specs.Normal.{normalise, routine-roles}
-use Rattle.machine.specs.Machine.{Bytes, size}
+use Rattle.machine.specs.Machine.{size}
 
 -- a file that says r in its first n bytes
 pub record Says (file : List ℕ) (r : Routine) (n : ℕ) : Type 0 where

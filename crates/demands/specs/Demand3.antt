@@ -7,11 +7,12 @@ use lib.ListN.{length, take}
 use Rattle.fields.specs.Refusals.{lending-too-large, spoiled-book, nothing-to-take-back}
 use Rattle.fields.specs.Parse.{ok}
 use Rattle.fields.specs.Outcome.{Outcome, refused, accepted, after}
+use Rattle.fields.specs.Lists.{Each}
+use Rattle.fields.specs.Bytes.{Bytes}
 use Rattle.pod.specs.Values.{Routine}
 use Rattle.pod.specs.Layout.{read-file}
-use Rattle.laws.specs.Holds.{Each}
 use Rattle.machine.specs.Edits.{Edit}
-use Rattle.machine.specs.Machine.{Call, edit, undo, Bytes, Sendable, Answer, Book, Machine, start, size, used-by, machine-run, machine-step}
+use Rattle.machine.specs.Machine.{Call, edit, undo, Sendable, Answer, Book, Machine, start, size, used-by, machine-run, machine-step}
 use Rattle.machine.specs.Book.{State, in-image, held, open-book, run}
 
 -- an accepted opening of a file into two lendings

@@ -7,8 +7,8 @@ use native.Mathlib.Nat.{not-suc-le-zero}
 use native.Mathlib.Omega.{arith}
 use lib.ListN.{length}
 use lib.Dec.{leb}
-use Rattle.fields.specs.Parse.{ok, choose, le, many}
-use Rattle.fields.proofs.Le.{Bytes, le-lt}
+use Rattle.fields.specs.Parse.{ok, le, many}
+use Rattle.fields.proofs.Le.{le-lt}
 use Rattle.pod.specs.Values.{BasicBlock}
 use Rattle.pod.specs.Layout.{block}
 use Rattle.pod.specs.Blocks.{vips}
@@ -17,6 +17,8 @@ use Rattle.sorting.specs.Buffer.{TOP}
 use Rattle.sorting.proofs.Counts.{hit-le, hit-other}
 use Rattle.ends.specs.Ends.{word, blockEnd}
 use Rattle.fields.proofs.Invert.{inv, inv-ok}
+use Rattle.fields.specs.Lists.{choose}
+use Rattle.fields.specs.Bytes.{Bytes}
 use Rattle.ends.proofs.Same.{block-vip, block-ends}
 use Rattle.distinct.specs.Walked.{vipsFrom}
 

@@ -7,8 +7,8 @@ use Prim.Native.Nat.{ℕ, _≤_}
 use native.Mathlib.Nat.{not-suc-le-zero}
 use native.Mathlib.Omega.{arith}
 use borrow.Author.Tests.{eq-eqb, ne-eqb}
-use Rattle.fields.specs.Parse.{choose}
-use Rattle.pod.specs.Blocks.{has, repeats}
+use Rattle.fields.specs.Lists.{choose, has}
+use Rattle.pod.specs.Blocks.{repeats}
 use Rattle.sorting.specs.Counts.{count}
 use Rattle.sorting.proofs.Order.{equal?, false-true, true-false}
 use Rattle.sorting.proofs.Counts.{hit-same, hit-other, hit-le}

@@ -7,7 +7,7 @@ use mathlib.Core.Bool.{Bool, true, false}
 use Prim.Native.Nat.{ℕ, _≤_, _<_}
 use native.Mathlib.Omega.{arith}
 use lib.ListN.{length}
-use Rattle.fields.proofs.Le.{Bytes}
+use Rattle.fields.specs.Bytes.{Bytes}
 use Rattle.pod.specs.Blocks.{repeats}
 use Rattle.sorting.specs.Counts.{count}
 use Rattle.sorting.specs.Buffer.{TOP, Sorted, Has-repeat}

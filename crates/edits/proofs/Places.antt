@@ -7,8 +7,9 @@ use Prim.Native.Nat.{ℕ, zero, suc, _+_, _-_, _<_}
 use native.Mathlib.Omega.{arith}
 use lib.ListN.{length, take, drop, length-append, length-drop}
 use lib.Seq.{split-at, take-at}
+use Rattle.fields.specs.Lists.{last-of, but-last}
 use Rattle.pod.specs.Values.{BasicBlock}
-use Rattle.machine.specs.Edits.{empty-block, block-at, last-of, but-last, remove-at, insert-at}
+use Rattle.machine.specs.Edits.{empty-block, block-at, remove-at, insert-at}
 use Rattle.machine.proofs.Lists.{total, total-snoc, but-last-snoc, snoc-but-last, snoc-last}
 
 -- the last block goes

@@ -7,9 +7,9 @@ use Prim.Native.Nat.{ℕ, suc, _+_, _-_, _<_}
 use native.Mathlib.Omega.{arith}
 use lib.ListN.{length, take, drop}
 use lib.Seq.{split-at, take-at}
+use Rattle.laws.specs.At.{At}
 use Rattle.pod.specs.Values.{BasicBlock, Routine}
 use Rattle.pod.specs.Written.{block-bytes}
-use Rattle.laws.proofs.At.{At}
 use Rattle.ends.specs.Ends.{blockEnd}
 use Rattle.machine.specs.Edits.{empty-block, block-at}
 use Rattle.machine.specs.Machine.{size}

@@ -11,7 +11,7 @@ use lib.Dec.{leb, eqb}
 use lib.IntN.{ℤ}
 use mir.Syntax.{Width, w32, w64}
 use borrow.Author.Tests.{leb-true, eqb-true, eqb-false}
-use Rattle.fields.specs.Parse.{ok, no, Reader, bind, choose, uint, int, part, many, counted, flag, u64}
+use Rattle.fields.specs.Parse.{ok, no, Reader, bind, uint, int, part, many, counted, flag, u64}
 use Rattle.fields.proofs.Le.{uint-is}
 use Rattle.op.specs.Ops.{number, counts}
 use Rattle.pod.specs.Layout.{register, immediate, operand, named, opcode, after-opcode, instruction, convention, block}
@@ -22,6 +22,7 @@ use Rattle.pod.specs.declared.Operand.{Operand}
 use Rattle.pod.specs.declared.Operand.the-variants.{Imm, Reg}
 use Rattle.ends.specs.Ends.{jump, word, operandEnd, times, instructionEnd, vipsEnd, blockEnd, registersEnd, conventionEnd}
 use Rattle.fields.proofs.Invert.{inv, inv-check, inv-ok}
+use Rattle.fields.specs.Lists.{choose}
 use Rattle.ends.proofs.Steps.{jump-in, value, word-is, imm-end, reg-end}
 
 -- n is k further than o, and within

@@ -7,7 +7,8 @@ use native.Mathlib.Omega.{arith}
 use lib.ListN.{length}
 use lib.Dec.{leb}
 use borrow.Author.Tests.{le-leb, lt-leb, eq-eqb, ne-eqb}
-use Rattle.fields.specs.Parse.{Res, ok, no, choose, le, uint}
+use Rattle.fields.specs.Parse.{Res, ok, no, le, uint}
+use Rattle.fields.specs.Lists.{choose}
 use Rattle.ends.specs.Ends.{jump, word, times, operandEnd, instructionEnd, vipsEnd, blockEnd, registersEnd, conventionEnd}
 
 pub jump-in : (s : List ℕ) (o k : ℕ) → o + k ≤ length s → jump s o k ≡ o + k

@@ -4,7 +4,8 @@ use Prim.Native.Nat.{ℕ, zero, suc, _+_, _*_}
 use mathlib.Core.List.{List}
 use lib.ListN.{length}
 use lib.Dec.{leb, eqb}
-use Rattle.fields.specs.Parse.{choose, le}
+use Rattle.fields.specs.Parse.{le}
+use Rattle.fields.specs.Lists.{choose}
 
 -- k bytes from o, and at most the end
 unfoldable pub jump : List ℕ → ℕ → ℕ → ℕ

@@ -7,9 +7,10 @@ use Prim.Native.Nat.{ℕ, _+_, _≤_, _<_}
 use native.Mathlib.Omega.{arith}
 use lib.ListN.{length, getD}
 use lib.Dec.{eqb}
-use Rattle.fields.specs.Parse.{Res, ok, no, bind, choose, span, le, uint, taken, pad, flag}
+use Rattle.fields.specs.Parse.{Res, ok, no, bind, span, le, uint, taken, pad, flag}
 use Rattle.fields.specs.Bounded.{bounded}
 use Rattle.fields.proofs.Le.{uint-ok, uint-no}
+use Rattle.fields.specs.Lists.{choose}
 
 pub le-one : (s : List ℕ) (o : ℕ) → le 1 s o ≡ getD s o 0
 unfolding le

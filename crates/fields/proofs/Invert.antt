@@ -3,7 +3,8 @@ use mathlib.Core.Path.{_≡_, refl, sym, ap}
 use mathlib.Core.Bool.{Bool, true, false}
 use Prim.Native.Nat.{ℕ}
 use native.Mathlib.Omega.{arith}
-use Rattle.fields.specs.Parse.{Res, ok, no, bind, choose, span}
+use Rattle.fields.specs.Parse.{Res, ok, no, bind, span}
+use Rattle.fields.specs.Lists.{choose}
 
 -- a value came of both parts
 pub inv : {A B : Type 0} (q : Res A) (f : A → ℕ → Res B) {b : B} {n : ℕ} → bind q f ≡ ok b n

@@ -1,7 +1,13 @@
--- Bytes put over others, and zeros.
+-- Lists of bytes; bytes put over others, and zeros.
 use Prim.Native.Nat.{ℕ, _+_}
 use mathlib.Core.List.{List, _++_}
-use lib.ListN.{length, take, drop, replicate}
+use mir.Syntax.{w8}
+use mir.Val.{Fits}
+use lib.ListN.{length, getD, take, drop, replicate}
+
+-- a list of bytes: each element is below 2^8
+abbrev pub Bytes : List ℕ → Type 0
+Bytes s = (i : ℕ) → Fits w8 (getD s i 0)
 
 abbrev pub zeros : ℕ → List ℕ
 zeros n = replicate n 0

@@ -1,4 +1,5 @@
 pub mod Refusals
+pub mod Lists
 pub mod Bytes
 pub mod Parse
 pub mod Answers

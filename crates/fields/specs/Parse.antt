@@ -8,6 +8,7 @@ use lib.Dec.{leb, eqb}
 use mir.Syntax.{Width, w32, w64}
 use mir.Val.{toZ}
 use Rattle.fields.specs.Refusals.{short-file, spoiled-book}
+use Rattle.fields.specs.Lists.{choose}
 
 pub data Res (A : Type 0) : Type 0 where
   ok : A → ℕ → Res A
@@ -33,10 +34,6 @@ _>>_ p q s o = bind (p s o) (λ a n. q s n)
 -- reads nothing, and answers a
 abbrev pub done : {A : Type 0} → A → Reader A
 done a s o = ok a o
-
-unfoldable pub choose : {A : Type 0} → Bool → A → A → A
-choose true a b = a
-choose false a b = b
 
 -- reads nothing: the refusal e where the test fails
 abbrev pub check : ℕ → Bool → Reader Unit

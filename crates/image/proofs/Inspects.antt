@@ -9,17 +9,17 @@ use native.Mathlib.Omega.{arith}
 use lib.Dec.{leb}
 use lib.ListN.{length, take, drop}
 use borrow.Author.Tests.{le-leb, lt-leb, eq-eqb, eqb-true}
-use Rattle.fields.specs.Bytes.{zeros}
-use Rattle.fields.specs.Parse.{Res, ok, no, choose, span}
+use Rattle.fields.specs.Bytes.{zeros, Bytes}
+use Rattle.fields.specs.Parse.{Res, ok, no, span}
 use Rattle.fields.specs.Outcome.{Outcome, refused, accepted}
-use Rattle.fields.proofs.Le.{Bytes, bytes-take}
-use Rattle.op.specs.Ops.{same}
+use Rattle.fields.proofs.Le.{bytes-take}
+use Rattle.fields.specs.Lists.{choose, same}
 use Rattle.op.proofs.Same.{same-yes, same-no}
 use Rattle.pod.specs.Values.{Routine}
 use Rattle.pod.specs.Layout.{routine, read-file, as-written}
 use Rattle.pod.specs.Written.{routine-bytes}
-use Rattle.laws.proofs.At.{At}
 use Rattle.laws.proofs.Layouts.{routine-layout, read-to, exact-whole, exact-lenient, lenient-exact}
+use Rattle.laws.specs.At.{At}
 use Rattle.machine.specs.Machine.{size}
 use Rattle.machine.specs.Book.{State, in-image, lent, whole, held}
 pub use Rattle.machine.proofs.Held.{held-sound, sound-held}

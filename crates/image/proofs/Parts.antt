@@ -9,9 +9,10 @@ use mir.Syntax.{w64}
 use mir.Val.{ofZ}
 use mir.ValLaws.{ofZ-fits}
 use Rattle.laws.specs.Holds.{Block-holds}
-use Rattle.laws.proofs.At.{At, fits, left, right}
+use Rattle.laws.proofs.At.{fits, left, right}
 use Rattle.laws.proofs.Back.{length-bytes}
 use Rattle.laws.proofs.Sizes.{block-head-size, counted-size, vips-size}
+use Rattle.laws.specs.At.{At}
 use Rattle.pod.specs.Values.{BasicBlock, Routine}
 use Rattle.pod.specs.Written.{bytes, block-bytes, block-head-bytes, instruction-bytes, many-bytes, counted-bytes}
 use Rattle.machine.specs.Edits.{block-at}

@@ -10,7 +10,7 @@ use native.Mathlib.Omega.{arith}
 use lib.ListN.{length, drop, drop-of-length-le}
 use lib.Seq.{drop-cons}
 use borrow.Author.Tests.{eq-eqb, ne-eqb}
-use Rattle.fields.specs.Parse.{choose}
+use Rattle.fields.specs.Lists.{choose}
 use Rattle.pod.specs.Values.{Routine}
 use Rattle.pod.specs.Written.{many-bytes}
 use Rattle.machine.specs.Edits.{place, block-at, empty-block}

@@ -9,12 +9,14 @@ use native.Mathlib.Nat.{add-zero, zero-add, le-of-suc-le-suc}
 use native.Mathlib.Omega.{arith}
 use lib.ListN.{length, take, drop, getD, length-append}
 use lib.Seq.{take-suc, take-length}
-use Rattle.laws.specs.Holds.{Each, Convention-holds, Block-holds, Instruction-holds}
-use Rattle.laws.proofs.At.{At, fits, left, right}
+use Rattle.fields.specs.Lists.{Each}
+use Rattle.laws.specs.Holds.{Convention-holds, Block-holds, Instruction-holds}
+use Rattle.laws.proofs.At.{fits, left, right}
 use Rattle.laws.proofs.Back.{length-bytes, uint-reads}
 use Rattle.laws.proofs.Layouts.{convention-layout, block-layout, instruction-layout}
 use Rattle.laws.proofs.Place.{many-append, many-split}
 use Rattle.laws.proofs.Sizes.{header-size, routine-head-size}
+use Rattle.laws.specs.At.{At}
 use Rattle.pod.specs.Values.{Instruction, RoutineConvention, BasicBlock, Routine}
 use Rattle.pod.specs.Written.{header-bytes, bytes, convention-bytes, block-bytes, instruction-bytes, many-bytes, counted-bytes, routine-head-bytes, routine-bytes}
 use Rattle.machine.specs.Edits.{block-at, empty-block}

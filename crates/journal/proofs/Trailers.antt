@@ -10,8 +10,9 @@ use lib.ListN.{length, take, drop, length-append, length-drop}
 use lib.Seq.{getD-drop, getD-take, take-take, length-take-le}
 use borrow.Author.Tests.{le-leb}
 use Rattle.fields.specs.Bytes.{put}
-use Rattle.fields.specs.Parse.{ok, bind, choose, le}
+use Rattle.fields.specs.Parse.{ok, bind, le}
 use Rattle.fields.proofs.Le.{uint-ok}
+use Rattle.fields.specs.Lists.{choose}
 use Rattle.pod.specs.Values.{Routine}
 use Rattle.pod.specs.Written.{bytes}
 use Rattle.buffer.proofs.Put.{put-put}

@@ -7,11 +7,7 @@ use native.Mathlib.Omega.{arith}
 use lib.ListN.{length, getD, drop, length-append, length-drop}
 use lib.Seq.{drop-at, drop-drop, getD-drop}
 use native.Mathlib.Nat.{add-zero}
-
-pub record At (s : List ℕ) (o : ℕ) (l : List ℕ) : Type 0 where
-  pub rest : List ℕ
-  pub is : drop o s ≡ l ++ rest
-  pub within : o ≤ length s
+use Rattle.laws.specs.At.{At}
 
 -- at the start
 pub front : (l rest : List ℕ) → At (l ++ rest) 0 l

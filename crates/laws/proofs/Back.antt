@@ -15,12 +15,14 @@ use borrow.Author.Tests.{le-leb}
 use mir.Syntax.{Width}
 use mir.Val.{ofZ, SFits, bits}
 use mir.ValLaws.{toZ-ofZ, ofZ-fits}
-use Rattle.fields.specs.Parse.{ok, Reader, bind, _>>=_, _>>_, done, check, choose, le, uint, int, part, many, counted, taken, pad, flag}
+use Rattle.fields.specs.Parse.{ok, Reader, bind, _>>=_, _>>_, done, check, le, uint, int, part, many, counted, taken, pad, flag}
 use Rattle.fields.proofs.Le.{uint-ok}
+use Rattle.fields.specs.Lists.{choose, Each}
 use Rattle.pod.specs.Written.{bytes, bit, many-bytes, counted-bytes}
 pub use Rattle.pod.proofs.Sizes.{length-bytes}
-use Rattle.laws.specs.Holds.{Each, List-holds}
-use Rattle.laws.proofs.At.{At, fits, left, right, first, more}
+use Rattle.laws.specs.Holds.{List-holds}
+use Rattle.laws.proofs.At.{fits, left, right, first, more}
+use Rattle.laws.specs.At.{At}
 
 abbrev pub Reads : {A : Type 0} → Reader A → A → List ℕ → Type 0
 Reads p a l = (s : List ℕ) (o : ℕ) → At s o l → p s o ≡ ok a (o + length l)

@@ -10,7 +10,7 @@ use lib.ListN.{length, getD}
 use borrow.Author.Tests.{leb-true, eqb-true, ltb-true, not-true}
 use mir.Syntax.{w32, w64}
 use Rattle.fields.specs.Parse.{u64}
-use Rattle.fields.proofs.Le.{Bytes}
+use Rattle.fields.specs.Bytes.{Bytes}
 use Rattle.op.specs.Ops.{names, counts, number}
 use Rattle.op.proofs.Same.{names-many}
 use Rattle.op.proofs.Packed.{placed}

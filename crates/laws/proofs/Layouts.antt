@@ -9,18 +9,19 @@ use native.Mathlib.Omega.{arith}
 use lib.ListN.{length, take, drop}
 use lib.Seq.{take-length, take-at}
 use Rattle.fields.specs.Parse.{ok, Reader}
-use Rattle.fields.proofs.Le.{Bytes}
+use Rattle.fields.specs.Bytes.{Bytes}
 use Rattle.pod.specs.Layout.{instruction, convention, block, routine}
 use Rattle.pod.specs.Written.{instruction-bytes, convention-bytes, block-bytes, routine-bytes}
 use Rattle.laws.specs.Holds.{Instruction-holds, Convention-holds, Block-holds, Routine-holds}
 use Rattle.laws.specs.Normal.{Role, normalise, instruction-roles, convention-roles, block-roles, routine-roles}
-use Rattle.laws.proofs.At.{At, Spans, front}
+use Rattle.laws.proofs.At.{Spans, front}
 use Rattle.laws.proofs.Back.{Reads}
 use Rattle.laws.proofs.Post.{Post}
 use Rattle.laws.proofs.Took.{Took, exactly, took-to, took-within, took-normal}
 use Rattle.laws.proofs.Octets.{Octets, instruction-octets, convention-octets, block-octets, routine-octets}
 use Rattle.laws.proofs.Round.{instruction-reads, convention-reads, block-reads, routine-reads}
 use Rattle.laws.proofs.Consumed.{instruction-took, convention-took, block-took, routine-took}
+use Rattle.laws.specs.At.{At}
 
 -- p reads the values of H; m are the roles of a value's written form, and w is that form
 pub record Layout {A : Type 0} (p : Bool → Reader A) (H : A → Type 0) (m : A → List Role) (w : A → List ℕ) : Type 0 where

@@ -12,11 +12,12 @@ use lib.ListN.{length, take, drop, length-drop}
 use lib.Seq.{getD-drop, drop-drop}
 use borrow.Author.Tests.{leb-true, leb-false, le-leb, lt-leb}
 use mir.Syntax.{Width}
-use Rattle.fields.specs.Parse.{Res, ok, no, Reader, bind, _>>=_, done, check, choose, le, uint, int, part, many, counted, flag, u32}
+use Rattle.fields.specs.Parse.{Res, ok, no, Reader, bind, _>>=_, done, check, le, uint, int, part, many, counted, flag, u32}
 use Rattle.fields.proofs.Le.{uint-ok, uint-no, uint-is}
 use Rattle.pod.specs.Layout.{register, immediate, operand, of-kind, named, opcode, after-opcode, instruction, convention, block}
 use Rattle.laws.specs.Moved.{moved}
 use Rattle.fields.proofs.Invert.{inv}
+use Rattle.fields.specs.Lists.{choose}
 
 pub record Local {A : Type 0} (p : Reader A) : Type 0 where
   pub moves : (s : List ℕ) (o : ℕ) → o ≤ length s → p s o ≡ moved o (p (drop o s) 0)

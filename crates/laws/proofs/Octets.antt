@@ -4,7 +4,8 @@ use mathlib.Core.List.{List, [], _∷_, _++_}
 use Prim.Native.Nat.{ℕ, zero, suc, _/_, _<_}
 use native.Mathlib.Omega.{arith}
 use lib.ListN.{length}
-use Rattle.fields.proofs.Le.{Bytes}
+use Rattle.fields.specs.Bytes.{Bytes}
+use Rattle.fields.specs.Lists.{Each}
 use Rattle.op.proofs.Packed.{listed-bytes}
 use Rattle.pod.specs.Values.{Instruction, RoutineConvention, BasicBlock, Routine}
 use Rattle.pod.specs.Written.{bytes, many-bytes, counted-bytes, header-bytes, register-bytes, immediate-bytes, operand-bytes, name-bytes, instruction-bytes, convention-bytes, block-head-bytes, block-bytes, routine-head-bytes, routine-bytes}
@@ -12,7 +13,7 @@ use Rattle.pod.specs.declared.RegisterDesc.{RegisterDesc}
 use Rattle.pod.specs.declared.ImmediateDesc.{ImmediateDesc}
 use Rattle.pod.specs.declared.Operand.{Operand}
 use Rattle.pod.specs.declared.Operand.the-variants.{Imm, Reg}
-use Rattle.laws.specs.Holds.{Each, List-holds, Register-holds, Instruction-holds, Convention-holds, Block-holds, Routine-holds}
+use Rattle.laws.specs.Holds.{List-holds, Register-holds, Instruction-holds, Convention-holds, Block-holds, Routine-holds}
 
 pub record Octets (l : List ℕ) : Type 0 where
   pub bytes : Bytes l

@@ -4,8 +4,9 @@ use mathlib.Core.Path.{_≡_, refl, subst₂}
 use mathlib.Core.Bool.{Bool, true, false}
 use Prim.Native.Nat.{ℕ}
 use native.Mathlib.Omega.{arith}
-use Rattle.fields.specs.Parse.{Res, ok, no, bind, choose}
+use Rattle.fields.specs.Parse.{Res, ok, no, bind}
 use Rattle.fields.proofs.Invert.{inv}
+use Rattle.fields.specs.Lists.{choose}
 
 pub record Post {A : Type 0} (r : Res A) (Q : A → ℕ → Type 0) : Type 0 where
   pub when : (a : A) (n : ℕ) → r ≡ ok a n → Q a n

@@ -8,7 +8,8 @@ use native.Mathlib.Omega.{arith}
 use lib.ListN.{length, getD}
 use borrow.Author.Tests.{le-leb, lt-ltb, eq-eqb}
 use mir.Syntax.{w32, w64}
-use Rattle.fields.specs.Parse.{ok, choose, u64}
+use Rattle.fields.specs.Parse.{ok, u64}
+use Rattle.fields.specs.Lists.{choose}
 use Rattle.op.specs.Ops.{names, counts, number}
 use Rattle.op.specs.Text.{is-text}
 use Rattle.op.proofs.Same.{short}

@@ -15,10 +15,12 @@ use borrow.Author.Tests.{leb-true}
 use mir.Syntax.{Width}
 use mir.Val.{Fits, SFits, ofZ, bits}
 use mir.ValLaws.{ofZ-toZ, toZ-fits}
-use Rattle.fields.specs.Parse.{Reader, choose, done, _>>=_, le, uint, int, part, many, counted, taken, pad, flag}
-use Rattle.fields.proofs.Le.{Bytes, uint-is, le-lt}
+use Rattle.fields.specs.Parse.{Reader, done, _>>=_, le, uint, int, part, many, counted, taken, pad, flag}
+use Rattle.fields.proofs.Le.{uint-is, le-lt}
+use Rattle.fields.specs.Lists.{choose, Each}
+use Rattle.fields.specs.Bytes.{Bytes}
 use Rattle.pod.specs.Written.{bytes, bit, many-bytes, counted-bytes}
-use Rattle.laws.specs.Holds.{Each, List-holds}
+use Rattle.laws.specs.Holds.{List-holds}
 use Rattle.laws.specs.Normal.{Role, keep, normalise, keeps, last-flag, many-roles, counted-roles}
 use Rattle.laws.specs.Normal as N
 use Rattle.laws.proofs.At.{fits, none, Spans, within, _then_}

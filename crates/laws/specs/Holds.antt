@@ -6,6 +6,7 @@ use mathlib.Core.Bool.{false}
 use lib.ListN.{length, getD}
 use mir.Syntax.{w32, w64}
 use mir.Val.{SFits}
+use Rattle.fields.specs.Lists.{Each}
 use Rattle.op.specs.Ops.{counts}
 use Rattle.pod.specs.Values.{Instruction, RoutineConvention, BasicBlock, Routine}
 use Rattle.pod.specs.Blocks.{vips, repeats}
@@ -13,10 +14,6 @@ use Rattle.pod.specs.declared.RegisterDesc.{RegisterDesc}
 use Rattle.pod.specs.declared.ImmediateDesc.{ImmediateDesc}
 use Rattle.pod.specs.declared.Operand.{Operand}
 use Rattle.pod.specs.declared.Operand.the-variants.{Imm, Reg}
-
-abbrev pub Each : {A : Type 0} → (A → Type 0) → List A → Type 0
-Each P [] = Unit
-Each P (x ∷ xs) = P x × Each P xs
 
 pub record List-holds {A : Type 0} (P : A → Type 0) (xs : List A) : Type 0 where
   pub count : length xs < 2 ^ 32

@@ -1,3 +1,4 @@
 pub mod Holds
 pub mod Normal
 pub mod Moved
+pub mod At

@@ -13,15 +13,17 @@ use mir.Val.{toZ, ofZ}
 use mir.ValLaws.{toZ-ofZ}
 use borrow.Author.Tests.{ne-eqb}
 use Rattle.fields.specs.Outcome.{refused, after}
-use Rattle.fields.specs.Parse.{choose, int, u64}
+use Rattle.fields.specs.Parse.{int, u64}
+use Rattle.fields.specs.Lists.{choose}
 use Rattle.pod.specs.Values.{Instruction, BasicBlock, Routine}
 use Rattle.pod.specs.Layout.{instruction, as-it-comes}
 use Rattle.pod.specs.Written.{bytes, block-bytes, instruction-bytes, many-bytes}
 use Rattle.laws.specs.Holds.{Vip-holds, Instruction-holds, Block-holds}
-use Rattle.laws.proofs.At.{At, fits}
+use Rattle.laws.proofs.At.{fits}
 use Rattle.laws.proofs.Back.{length-bytes, uint-reads, counted-reads}
 use Rattle.laws.proofs.Layouts.{instruction-layout}
 use Rattle.laws.proofs.Sizes.{vips-size}
+use Rattle.laws.specs.At.{At}
 use Rattle.machine.specs.Edits.{block-at}
 use Rattle.machine.specs.Book.{State}
 use Rattle.machine.specs.Look.{element, look-block, look-instruction, look-vip, vip-list}

@@ -10,9 +10,10 @@ use lib.ListN.{length, getD, take, length-take}
 use Rattle.fields.specs.Outcome.{Outcome, refused, accepted, after}
 use Rattle.pod.specs.Written.{bytes, many-bytes, counted-bytes}
 use Rattle.laws.specs.Holds.{List-holds}
-use Rattle.laws.proofs.At.{At, fits, left, right}
+use Rattle.laws.proofs.At.{fits, left, right}
 use Rattle.laws.proofs.Back.{length-bytes}
 use Rattle.laws.proofs.Sizes.{many-size}
+use Rattle.laws.specs.At.{At}
 use Rattle.machine.specs.Look.{element}
 use Rattle.machine.proofs.Lists.{each-at}
 use Rattle.ends.specs.Ends.{word}

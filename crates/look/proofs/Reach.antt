@@ -11,11 +11,11 @@ use mir.Syntax.{w64}
 use mir.Val.{Fits}
 use borrow.Author.Tests.{leb-true, leb-false}
 use Rattle.fields.specs.Outcome.{Outcome, refused, accepted, after}
-use Rattle.fields.proofs.Le.{Bytes}
+use Rattle.fields.specs.Bytes.{Bytes}
 use Rattle.pod.specs.Values.{BasicBlock, Routine}
 use Rattle.pod.specs.Written.{block-bytes}
 use Rattle.laws.specs.Holds.{Block-holds}
-use Rattle.laws.proofs.At.{At}
+use Rattle.laws.specs.At.{At}
 use Rattle.machine.specs.Edits.{block-at, empty-block}
 use Rattle.machine.specs.Book.{State, held}
 use Rattle.machine.specs.Look.{element, look-block}

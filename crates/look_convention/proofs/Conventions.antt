@@ -7,7 +7,7 @@ use native.Mathlib.Omega.{arith}
 use lib.ListN.{length, getD}
 use borrow.Author.Tests.{ne-eqb}
 use Rattle.fields.specs.Outcome.{refused, after}
-use Rattle.fields.specs.Parse.{choose}
+use Rattle.fields.specs.Lists.{choose}
 use Rattle.pod.specs.Values.{RoutineConvention}
 use Rattle.pod.specs.Written.{bit, register-bytes}
 use Rattle.pod.specs.Descs.{no-register}

@@ -7,7 +7,7 @@ use native.Mathlib.Nat.{le-of-suc-le-suc}
 use native.Mathlib.Omega.{arith}
 use lib.ListN.{length, getD}
 use Rattle.fields.specs.Outcome.{refused, accepted, after}
-use Rattle.fields.proofs.Le.{Bytes}
+use Rattle.fields.specs.Bytes.{Bytes}
 use Rattle.pod.specs.Values.{RoutineConvention, Routine}
 use Rattle.pod.specs.Written.{convention-bytes}
 use Rattle.laws.specs.Holds.{Convention-holds}

@@ -16,10 +16,11 @@ use Rattle.pod.specs.Layout.{register}
 use Rattle.pod.specs.Written.{bytes, bit, register-bytes, convention-bytes, counted-bytes}
 use Rattle.pod.specs.declared.RegisterDesc.{RegisterDesc}
 use Rattle.laws.specs.Holds.{List-holds, Register-holds}
-use Rattle.laws.proofs.At.{At, fits, left, right, first}
+use Rattle.laws.proofs.At.{fits, left, right, first}
 use Rattle.laws.proofs.Back.{length-bytes, counted-reads}
 use Rattle.laws.proofs.Round.{register-reads}
 use Rattle.laws.proofs.Sizes.{register-size, registers-size}
+use Rattle.laws.specs.At.{At}
 use Rattle.ends.specs.Ends.{word, registersEnd}
 use Rattle.ends.proofs.Same.{registers-ends}
 use Rattle.image.proofs.Stands.{named, word-at}

@@ -8,7 +8,7 @@ use Rattle.pod.specs.Values.{RoutineConvention, Routine}
 use Rattle.pod.specs.Written.{register-bytes, convention-bytes}
 use Rattle.pod.specs.declared.RegisterDesc.{RegisterDesc}
 use Rattle.laws.specs.Holds.{Register-holds, Convention-holds}
-use Rattle.laws.proofs.At.{At}
+use Rattle.laws.specs.At.{At}
 use Rattle.machine.specs.Book.{State, held}
 use Rattle.machine.specs.Look.{conventions, look-convention}
 use Rattle.book.specs.Says.{refusal-of}

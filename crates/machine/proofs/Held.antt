@@ -10,10 +10,11 @@ use lib.ListN.{length, take, drop, length-append, length-replicate, take-append-
 use lib.Seq.{length-take-le, take-append-seam, drop-append-seam}
 use lib.Dec.{leb}
 use borrow.Author.Tests.{le-leb, leb-true}
-use Rattle.fields.specs.Parse.{Res, ok, no, choose}
-use Rattle.fields.specs.Bytes.{zeros}
+use Rattle.fields.specs.Parse.{Res, ok, no}
+use Rattle.fields.specs.Bytes.{zeros, Bytes}
 use Rattle.fields.specs.Outcome.{Outcome, refused, accepted}
-use Rattle.fields.proofs.Le.{Bytes, bytes-take}
+use Rattle.fields.proofs.Le.{bytes-take}
+use Rattle.fields.specs.Lists.{choose}
 use Rattle.op.proofs.Same.{same-yes, same-eq}
 use Rattle.pod.specs.Values.{Routine}
 use Rattle.pod.specs.Written.{routine-bytes}

@@ -9,18 +9,20 @@ use native.Mathlib.Omega.{arith}
 use lib.ListN.{length}
 use lib.Dec.{ltb, eqb}
 use borrow.Author.Tests.{ltb-false, eqb-true, eqb-false}
-use Rattle.fields.specs.Parse.{Res, ok, no, choose}
+use Rattle.fields.specs.Parse.{Res, ok, no}
 use Rattle.fields.specs.Outcome.{Outcome, refused, accepted}
+use Rattle.fields.specs.Lists.{choose, Each}
+use Rattle.fields.specs.Bytes.{Bytes}
 use Rattle.pod.specs.Values.{Instruction, BasicBlock, Routine}
 use Rattle.pod.specs.Blocks.{vips, repeats}
 use Rattle.pod.specs.Layout.{instruction, as-it-comes}
 use Rattle.pod.specs.Written.{many-bytes, instruction-bytes, block-bytes, routine-head-bytes}
 use Rattle.pod.specs.Descs.{most-lent}
-use Rattle.laws.specs.Holds.{Each, Instruction-holds, Block-holds, Routine-holds}
+use Rattle.laws.specs.Holds.{Instruction-holds, Block-holds, Routine-holds}
 use Rattle.laws.proofs.Layouts.{instruction-layout, read-holds, read-to, read-within}
 use Rattle.laws.proofs.Sizes.{instruction-size, block-size, block-least, block-empty, routine-size}
 use Rattle.machine.specs.Edits.{Edit, create, remove, append, present, place, empty-block, block-at, remove-at, change-at, append-to, with-blocks, appended, edited}
-use Rattle.machine.specs.Machine.{edit, Bytes, Sendable, size}
+use Rattle.machine.specs.Machine.{edit, Sendable, size}
 use Rattle.machine.proofs.Lists.{total, total-snoc, total-least, many-total, total-remove, total-change, each-snoc, each-at, each-remove, each-change, one, one-same, one-other, found, absent-count, once-count, count-once}
 
 -- What an accepted edit did
@@ -60,13 +62,13 @@ did-append v s b r r′ (ok i n) q d =
     let p = past (ltb n (length s)) 17 _ r′ d in
     let t = on-true (present v (r .explored-blocks)) 15 _ r′ (p .1) in
     let l = ltb-false n (length s) (p .0) in
-    let h = read-within instruction-layout false (λ k. record { fits = b k }) q in
+    let h = read-within instruction-layout false b q in
     let e : n ≡ length s = omega arith in
     record {
       instruction′ = i;
       read = q ∙ ap (ok i) e;
-      holds = read-holds instruction-layout false (λ k. record { fits = b k }) q;
-      long = omega (arith, read-to instruction-layout false (λ k. record { fits = b k }) q);
+      holds = read-holds instruction-layout false b q;
+      long = omega (arith, read-to instruction-layout false b q);
       there = t .0;
       is = t .1;
     }

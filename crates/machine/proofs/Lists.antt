@@ -9,12 +9,11 @@ use native.Mathlib.Omega.{arith}
 use lib.ListN.{length, getD, length-append}
 use lib.Dec.{eqb}
 use borrow.Author.Tests.{eqb-true, eqb-false, eq-eqb, ne-eqb}
-use Rattle.fields.specs.Parse.{choose}
+use Rattle.fields.specs.Lists.{choose, has, Each, last-of, but-last}
 use Rattle.pod.specs.Values.{BasicBlock}
-use Rattle.pod.specs.Blocks.{vips, has, repeats}
+use Rattle.pod.specs.Blocks.{vips, repeats}
 use Rattle.pod.specs.Written.{many-bytes}
-use Rattle.laws.specs.Holds.{Each}
-use Rattle.machine.specs.Edits.{present, place, block-at, last-of, but-last, remove-at, insert-at, change-at}
+use Rattle.machine.specs.Edits.{present, place, block-at, remove-at, insert-at, change-at}
 
 -- a sum over a list
 unfoldable pub total : {A : Type 0} → (A → ℕ) → List A → ℕ

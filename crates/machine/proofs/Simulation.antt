@@ -11,12 +11,12 @@ use lib.ListN.{length, take, drop, length-append, length-replicate, replicate-ap
 use lib.Seq.{take-append-seam, drop-append-add, drop-append-seam}
 use lib.Dec.{leb, eqb}
 use borrow.Author.Tests.{eq-eqb, ne-eqb, leb-true}
-use Rattle.fields.specs.Parse.{choose}
 use Rattle.fields.specs.Bytes.{zeros, put}
 use Rattle.fields.specs.Outcome.{Outcome, refused, accepted}
+use Rattle.fields.specs.Lists.{choose, Each}
 use Rattle.pod.specs.Values.{Routine}
 use Rattle.pod.specs.Descs.{most-lent}
-use Rattle.laws.specs.Holds.{Each, Routine-holds}
+use Rattle.laws.specs.Holds.{Routine-holds}
 use Rattle.machine.specs.Edits.{Edit, create, remove, append, edited, cost}
 use Rattle.machine.specs.Machine.{Call, edit, undo, Sendable, Answer, Stack, used-by, Machine, size, admitted, after-edit, after-undo, machine-step, machine-run}
 use Rattle.machine.specs.Journal.{entry, undone}

@@ -8,8 +8,9 @@ use native.Mathlib.Omega.{arith}
 use lib.ListN.{length, drop, length-append}
 use lib.Seq.{take-append-seam, take-at, drop-at, getD-append-seam}
 use borrow.Author.Tests.{eq-eqb, le-leb, lt-ltb}
-use Rattle.fields.specs.Parse.{ok, choose}
+use Rattle.fields.specs.Parse.{ok}
 use Rattle.fields.specs.Outcome.{accepted}
+use Rattle.fields.specs.Lists.{choose, last-of, but-last}
 use Rattle.pod.specs.Values.{Instruction, BasicBlock, Routine}
 use Rattle.pod.specs.Layout.{block, as-written}
 use Rattle.pod.specs.Written.{instruction-bytes, block-bytes}
@@ -17,7 +18,7 @@ use Rattle.pod.specs.Descs.{most-lent}
 use Rattle.laws.specs.Holds.{Block-holds, Routine-holds}
 use Rattle.laws.proofs.Back.{Reads, seq, last, uint-reads, done-reads, length-bytes}
 use Rattle.laws.proofs.Layouts.{block-layout, read-all}
-use Rattle.machine.specs.Edits.{Edit, create, remove, append, present, place, empty-block, block-at, remove-at, insert-at, change-at, append-to, with-instructions, with-blocks, last-of, but-last, cost}
+use Rattle.machine.specs.Edits.{Edit, create, remove, append, present, place, empty-block, block-at, remove-at, insert-at, change-at, append-to, with-instructions, with-blocks, cost}
 use Rattle.machine.specs.Machine.{edit, Sendable, size}
 use Rattle.machine.specs.Journal.{Trailer, trailer-bytes, trailer, read-size, entry, is-fresh, undo-create, undo-remove-block, undo-remove, last-size-is, without-last, undo-append, undo-entry, undone}
 use Rattle.machine.proofs.Lists.{total-remove, each-at, length-remove, length-change, at-change, snoc-but-last, snoc-last, insert-remove, change-back, one, one-same, Found, found, once-count, count-absent}

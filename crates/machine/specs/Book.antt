@@ -6,10 +6,10 @@ use mathlib.Core.List.{List, [], _∷_, _++_}
 use lib.ListN.{length, take, drop}
 use lib.Dec.{leb, eqb}
 use Rattle.fields.specs.Refusals.{lending-too-large, image-full, journal-full, spoiled-book, nothing-to-take-back}
-use Rattle.fields.specs.Parse.{Res, ok, no, choose}
+use Rattle.fields.specs.Parse.{Res, ok, no}
 use Rattle.fields.specs.Bytes.{zeros, put}
 use Rattle.fields.specs.Outcome.{Outcome, refused, accepted}
-use Rattle.op.specs.Ops.{same}
+use Rattle.fields.specs.Lists.{choose, same}
 use Rattle.pod.specs.Values.{Routine}
 use Rattle.pod.specs.Layout.{read-file}
 use Rattle.pod.specs.Written.{routine-bytes}

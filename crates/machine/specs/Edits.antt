@@ -6,10 +6,11 @@ use lib.ListN.{length, getD}
 use lib.Dec.{eqb, ltb}
 use lib.IntN.{pos}
 use Rattle.fields.specs.Refusals.{block-present, no-such-block, leftover}
-use Rattle.fields.specs.Parse.{Res, ok, no, choose}
+use Rattle.fields.specs.Parse.{Res, ok, no}
 use Rattle.fields.specs.Outcome.{Outcome, refused, accepted}
+use Rattle.fields.specs.Lists.{choose, has, last-of, but-last}
 use Rattle.pod.specs.Values.{Instruction, BasicBlock, Routine}
-use Rattle.pod.specs.Blocks.{vips, has}
+use Rattle.pod.specs.Blocks.{vips}
 use Rattle.pod.specs.Layout.{instruction, as-it-comes}
 use Rattle.pod.specs.Written.{block-bytes}
 
@@ -30,15 +31,6 @@ empty-block v =
 -- the block at a place
 abbrev pub block-at : ℕ → List BasicBlock → BasicBlock
 block-at i bs = getD bs i (empty-block 0)
-
--- the last of x ∷ xs, and all but the last
-unfoldable pub last-of : {A : Type 0} → A → List A → A
-last-of x [] = x
-last-of x (y ∷ ys) = last-of y ys
-
-unfoldable pub but-last : {A : Type 0} → A → List A → List A
-but-last x [] = []
-but-last x (y ∷ ys) = x ∷ but-last y ys
 
 -- the block at a place goes, and the last block takes its place; nothing moves if it was last
 unfoldable pub remove-at : ℕ → List BasicBlock → List BasicBlock

@@ -7,12 +7,13 @@ use lib.Dec.{leb, ltb, eqb}
 use mir.Syntax.{w64}
 use mir.Val.{ofZ}
 use Rattle.fields.specs.Refusals.{spoiled-book}
-use Rattle.fields.specs.Parse.{Res, ok, no, Reader, _>>=_, _>>_, done, choose, u32, u64}
+use Rattle.fields.specs.Parse.{Res, ok, no, Reader, _>>=_, _>>_, done, u32, u64}
 use Rattle.fields.specs.Outcome.{Outcome, refused, accepted}
+use Rattle.fields.specs.Lists.{choose, none, last-of, but-last}
 use Rattle.pod.specs.Values.{Instruction, BasicBlock, Routine}
 use Rattle.pod.specs.Layout.{instruction, block, as-it-comes, as-written}
 use Rattle.pod.specs.Written.{bytes, instruction-bytes, block-bytes, routine-bytes}
-use Rattle.machine.specs.Edits.{Edit, create, remove, append, present, place, block-at, last-of, but-last, insert-at, change-at, with-instructions, with-blocks}
+use Rattle.machine.specs.Edits.{Edit, create, remove, append, present, place, block-at, insert-at, change-at, with-instructions, with-blocks}
 
 -- the 20 bytes that end an entry: u64 vip, u32 place, u32 length, u32 kind (1 create, 2 remove, 3 append)
 pub record Trailer : Type 0 where
@@ -51,11 +52,6 @@ entry (remove v) r =
     })
 entry (append v s) r =
     trailer-bytes (record { vip = v; place = place v (r .explored-blocks); length = read-size (instruction as-it-comes s 0); kind = 3 })
-
--- a list is empty
-abbrev pub none : {A : Type 0} → List A → Bool
-none [] = true
-none (x ∷ xs) = false
 
 -- a block as create leaves it: empty, and its other fields 0
 unfoldable pub is-fresh : BasicBlock → Bool

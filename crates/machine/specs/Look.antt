@@ -3,8 +3,8 @@ use Prim.Native.Nat.{ℕ, zero, suc}
 use mathlib.Core.List.{List, [], _∷_}
 use lib.Dec.{eqb}
 use Rattle.fields.specs.Refusals.{no-such-block}
-use Rattle.fields.specs.Parse.{choose}
 use Rattle.fields.specs.Outcome.{Outcome, refused, accepted, after}
+use Rattle.fields.specs.Lists.{choose}
 use Rattle.pod.specs.Values.{Instruction, RoutineConvention, BasicBlock, Routine}
 use Rattle.pod.specs.declared.RegisterDesc.{RegisterDesc}
 use Rattle.machine.specs.Book.{State, held}

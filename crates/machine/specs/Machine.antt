@@ -5,6 +5,7 @@ use mathlib.Core.List.{List, [], _∷_}
 use lib.ListN.{length, getD}
 use lib.Dec.{leb}
 use Rattle.fields.specs.Refusals.{image-full, journal-full, nothing-to-take-back}
+use Rattle.fields.specs.Bytes.{Bytes}
 use Rattle.fields.specs.Outcome.{Outcome, refused, accepted}
 use Rattle.pod.specs.Values.{Routine}
 use Rattle.pod.specs.Written.{routine-bytes}
@@ -14,10 +15,6 @@ use Rattle.machine.specs.Edits.{Edit, create, remove, append, edited, co
 pub data Call : Type 0 where
   edit : Edit → Call
   undo : Call
-
--- a list of bytes
-abbrev pub Bytes : List ℕ → Type 0
-Bytes s = (i : ℕ) → getD s i 0 < 256
 
 -- arguments that can be handed in: a vip of 64 bits, and bytes
 abbrev pub Sendable : Call → Type 0

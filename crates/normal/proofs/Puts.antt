@@ -9,15 +9,15 @@ use lib.ListN.{length, getD, take, drop, set, length-append, length-set, length-
 use lib.Seq.{drop-at, drop-drop, getD-drop, take-at, set-append-left, take-set-le, drop-set-add}
 use mir.Val.{boolByte}
 use Rattle.fields.specs.Parse.{ok, Reader}
-use Rattle.fields.specs.Bytes.{put}
-use Rattle.fields.proofs.Le.{Bytes}
+use Rattle.fields.specs.Bytes.{put, Bytes}
 use Rattle.pod.specs.Written.{bit}
 use Rattle.laws.specs.Moved.{moved}
 use Rattle.laws.specs.Normal.{Role, keep, flag, normal, normalise, keeps, last-flag}
-use Rattle.laws.proofs.At.{At, Spans, fits}
+use Rattle.laws.proofs.At.{Spans, fits}
 use Rattle.laws.proofs.Took.{Took, took-to}
 use Rattle.laws.proofs.Local.{Local}
 use Rattle.laws.proofs.Layouts.{Layout, read-to}
+use Rattle.laws.specs.At.{At}
 use Rattle.buffer.proofs.Put.{put-own, put-put, drop-put-after, length-put}
 use Rattle.normal.specs.Over.{Over}
 

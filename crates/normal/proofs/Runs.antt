@@ -7,7 +7,6 @@ use Prim.Native.Nat.{ℕ, suc, _+_, _-_, _≤_, _<_}
 use native.Mathlib.Omega.{arith}
 use lib.ListN.{length}
 use Rattle.fields.specs.Parse.{ok, Reader, many, counted, u32}
-use Rattle.fields.proofs.Le.{Bytes}
 use Rattle.pod.specs.Written.{bytes, many-bytes, counted-bytes}
 use Rattle.laws.proofs.At.{Spans, within}
 use Rattle.laws.proofs.Back.{length-bytes}
@@ -16,6 +15,7 @@ use Rattle.laws.proofs.Local.{Local, local-many}
 use Rattle.laws.proofs.Place.{counted-is, many-append}
 use Rattle.ends.specs.Ends.{jump, word}
 use Rattle.fields.proofs.Invert.{inv, inv-ok}
+use Rattle.fields.specs.Bytes.{Bytes}
 use Rattle.ends.proofs.Steps.{jump-in, value, word-is}
 use Rattle.normal.specs.Over.{Over, Normalised}
 use Rattle.normal.proofs.Puts.{stays, as-before, _beside_}

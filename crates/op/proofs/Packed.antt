@@ -11,9 +11,11 @@ use lib.Dec.{T, eqb, ltb, eqb→eq, ltb→lt}
 use borrow.Author.Tests.{eqb-true, eqb-false}
 use lib.ListN.{length, getD, take, drop, length-take, length-drop}
 use lib.Seq.{ext-getD, getD-take, getD-drop}
-use Rattle.fields.specs.Parse.{le, choose}
-use Rattle.fields.proofs.Le.{Bytes, le-lt, le-below, le-split}
-use Rattle.op.specs.Ops.{names, counts, number, place, same}
+use Rattle.fields.specs.Parse.{le}
+use Rattle.fields.proofs.Le.{le-lt, le-below, le-split}
+use Rattle.fields.specs.Lists.{choose, same}
+use Rattle.fields.specs.Bytes.{Bytes}
+use Rattle.op.specs.Ops.{names, counts, number, place}
 use Rattle.op.specs.Text.{is-text, text, step, lead}
 use Rattle.op.specs.Packed.{key, Packed, Known}
 use Rattle.op.proofs.Same.{short, same-eq, names-many}

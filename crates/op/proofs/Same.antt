@@ -11,8 +11,8 @@ use lib.ListN.{length, getD, drop}
 use lib.ListN.{drop-of-length-le}
 use lib.Seq.{drop-cons}
 use borrow.Author.Tests.{eq-eqb, eqb-true}
-use Rattle.fields.specs.Parse.{choose}
-use Rattle.op.specs.Ops.{same, place, names}
+use Rattle.fields.specs.Lists.{choose, same}
+use Rattle.op.specs.Ops.{place, names}
 
 refl-same : (a : List ℕ) → same a a ≡ true
 unfolding same choose

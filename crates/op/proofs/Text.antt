@@ -9,7 +9,7 @@ use lib.Dec.{eqb}
 use lib.ListN.{length, getD, drop, drop-of-length-le}
 use lib.Seq.{drop-cons}
 use borrow.Author.Tests.{le-leb, lt-leb}
-use Rattle.fields.specs.Parse.{choose}
+use Rattle.fields.specs.Lists.{choose}
 use Rattle.op.specs.Text.{step, text}
 use Rattle.op.specs.declared.Due.{Due}
 

@@ -3,8 +3,9 @@ ghost use mathlib.Core.Path.{_≡_};
 ghost use mathlib.Core.List.{[]};
 ghost use Prim.Native.Nat.{_<_, _≤_, _+_, _*_, _%_, _^_};
 ghost use lib.ListN.{length, getD, take, drop};
+ghost use Rattle.fields.specs.Lists.{same};
 ghost use Rattle.op.specs.Packed.{Packed, Known};
-ghost use Rattle.op.specs.Ops.{names, counts, same, number};
+ghost use Rattle.op.specs.Ops.{names, counts, number};
 ghost use Rattle.op.specs.Text.{lead, step, is-text};
 
 // Six bytes for each name, with zeros after it.

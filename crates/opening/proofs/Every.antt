@@ -6,7 +6,8 @@ use Prim.Native.Nat.{ℕ, zero, suc, _<_}
 use native.Mathlib.Omega.{arith}
 use lib.IntN.{ℤ}
 use mir.Syntax.{Width}
-use Rattle.fields.specs.Parse.{no, Reader, _>>=_, done, check, choose, uint, int, part, many, counted, pad, flag, u32}
+use Rattle.fields.specs.Parse.{no, Reader, _>>=_, done, check, uint, int, part, many, counted, pad, flag, u32}
+use Rattle.fields.specs.Lists.{choose}
 use Rattle.pod.specs.Values.{Instruction, RoutineConvention, BasicBlock, Routine}
 use Rattle.pod.specs.declared.RegisterDesc.{RegisterDesc}
 use Rattle.pod.specs.declared.ImmediateDesc.{ImmediateDesc}

@@ -9,9 +9,10 @@ use lib.Dec.{leb}
 use lib.ListN.{length, getD, take, drop}
 use lib.Seq.{getD-take, take-take, take-add, drop-at, length-take-le}
 use borrow.Author.Tests.{leb-true, le-leb}
-use Rattle.fields.specs.Parse.{ok, no, Reader, bind, _>>=_, done, choose, le, uint, part}
+use Rattle.fields.specs.Parse.{ok, no, Reader, bind, _>>=_, done, le, uint, part}
 use Rattle.fields.proofs.Le.{uint-ok, uint-is}
 use Rattle.fields.proofs.Invert.{inv}
+use Rattle.fields.specs.Lists.{choose}
 use Rattle.opening.proofs.Every.{Kept}
 
 -- the first n bytes of s begin s′ too

@@ -9,11 +9,11 @@ use native.Mathlib.Omega.{arith}
 use lib.ListN.{length, take, length-append, length-replicate, drop-of-length-le}
 use lib.Seq.{take-at, length-take-le}
 use borrow.Author.Tests.{le-leb, lt-leb, ne-eqb}
-use Rattle.fields.specs.Parse.{Res, ok, no, choose, span}
-use Rattle.fields.specs.Bytes.{put, zeros}
+use Rattle.fields.specs.Parse.{Res, ok, no, span}
+use Rattle.fields.specs.Bytes.{put, zeros, Bytes}
 use Rattle.fields.specs.Refusals.{lending-too-large, image-full}
-use Rattle.fields.proofs.Le.{Bytes}
 use Rattle.fields.proofs.Invert.{inv-span, inv-span-no}
+use Rattle.fields.specs.Lists.{choose}
 use Rattle.pod.specs.Values.{Routine}
 use Rattle.pod.specs.Layout.{routine, read-file}
 use Rattle.pod.specs.Written.{routine-bytes}

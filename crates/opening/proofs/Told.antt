@@ -5,7 +5,8 @@ use mathlib.Core.Bool.{Bool, true, false}
 use mathlib.Core.List.{List}
 use Prim.Native.Nat.{ℕ, _<_}
 use native.Mathlib.Omega.{arith}
-use Rattle.fields.specs.Parse.{Res, ok, no, Reader, bind, _>>=_, done, choose, uint, part}
+use Rattle.fields.specs.Parse.{Res, ok, no, Reader, bind, _>>=_, done, uint, part}
+use Rattle.fields.specs.Lists.{choose}
 use Rattle.opening.proofs.Every.{Kept}
 
 pub record Told {A : Type 0} (p : Reader A) : Type 0 where

@@ -6,8 +6,10 @@ use Prim.Native.Nat.{ℕ, zero, suc, _+_, _*_, _/_, _^_, _≤_, _<_}
 use native.Mathlib.Omega.{arith}
 use lib.ListN.{length, getD}
 use borrow.Author.Tests.{le-leb}
-use Rattle.fields.specs.Parse.{ok, bind, choose, span, le}
-use Rattle.fields.proofs.Le.{Bytes, le-lt, le-split, uint-ok}
+use Rattle.fields.specs.Parse.{ok, bind, span, le}
+use Rattle.fields.proofs.Le.{le-lt, le-split, uint-ok}
+use Rattle.fields.specs.Lists.{choose}
+use Rattle.fields.specs.Bytes.{Bytes}
 use Rattle.pod.specs.Layout.{register, immediate, operand}
 
 -- the highest byte of an id

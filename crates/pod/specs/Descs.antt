@@ -1,13 +1,13 @@
 -- An instruction by value: an operation number, a count and three operand places; and its writer.
 use Prim.Native.Nat.{ℕ, _/_, _^_}
 use mathlib.Core.List.{List, [], _∷_, _++_, map}
-use mathlib.Core.Bool.{Bool, false, not, _&&_, _||_}
+use mathlib.Core.Bool.{Bool, not, _&&_}
 use lib.IntN.{pos}
 use lib.ListN.{length, getD, take, drop}
 use lib.Dec.{eqb, ltb}
 use Rattle.fields.specs.Refusals.{lending-too-large, unknown-operation, wrong-operand-count, foreign-register, unknown-operand-kind, image-full}
 use Rattle.fields.specs.Outcome.{Outcome, refused, accepted}
-use Rattle.fields.specs.Parse.{choose}
+use Rattle.fields.specs.Lists.{choose, any}
 use Rattle.op.specs.Ops.{counts}
 use Rattle.pod.specs.Values.{Instruction}
 use Rattle.pod.specs.Written.{bit, instruction-bytes}
@@ -53,10 +53,6 @@ instruction-desc i =
 -- The writer. The operands that count:
 abbrev pub used-operands : InstructionDesc → List OperandDesc
 used-operands d = take (d .count) (d .operands)
-
-unfoldable pub any : {A : Type 0} → (A → Bool) → List A → Bool
-any f [] = false
-any f (x ∷ xs) = f x || any f xs
 
 -- a register that no layout holds
 abbrev pub is-foreign : OperandDesc → Bool

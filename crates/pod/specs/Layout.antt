@@ -6,7 +6,8 @@ use mathlib.Core.Bool.{Bool, true, false, not}
 use lib.Dec.{leb, ltb, eqb}
 use lib.ListN.{getD}
 use Rattle.fields.specs.Refusals.{name-not-text, wrong-mark, unknown-machine, foreign-register, unknown-operand-kind, unknown-operation, wrong-operand-count, repeated-block}
-use Rattle.fields.specs.Parse.{Res, no, Reader, _>>=_, _>>_, done, check, choose, part, many, counted, pad, flag, u8, u16, u32, u64, i32, i64}
+use Rattle.fields.specs.Parse.{Res, no, Reader, _>>=_, _>>_, done, check, part, many, counted, pad, flag, u8, u16, u32, u64, i32, i64}
+use Rattle.fields.specs.Lists.{choose}
 use Rattle.op.specs.Ops.{number, counts}
 use Rattle.op.specs.Text.{is-text}
 use Rattle.pod.specs.Values.{Instruction, RoutineConvention, BasicBlock, Routine}

@@ -7,8 +7,8 @@ use Prim.Native.Nat.{ℕ, _+_, _-_, _≤_, _<_}
 use native.Mathlib.Omega.{arith}
 use lib.ListN.{length, length-append}
 use Rattle.fields.specs.Bytes.{put}
-use Rattle.fields.specs.Parse.{choose}
 use Rattle.fields.specs.Outcome.{accepted}
+use Rattle.fields.specs.Lists.{choose}
 use Rattle.pod.specs.Values.{BasicBlock, Routine}
 use Rattle.pod.specs.Written.{block-bytes}
 use Rattle.buffer.proofs.Put.{put-put}

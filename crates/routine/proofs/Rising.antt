@@ -7,12 +7,13 @@ use mathlib.Core.List.{List, [], _∷_}
 use Prim.Native.Nat.{ℕ, suc, _+_, _-_, _≤_, _<_}
 use native.Mathlib.Omega.{arith}
 use borrow.Author.Tests.{ne-eqb}
-use Rattle.fields.specs.Parse.{ok, choose, many, span}
+use Rattle.fields.specs.Parse.{ok, many, span}
 use Rattle.pod.specs.Values.{BasicBlock}
-use Rattle.pod.specs.Blocks.{has, vips, repeats}
+use Rattle.pod.specs.Blocks.{vips, repeats}
 use Rattle.pod.specs.Layout.{block}
 use Rattle.ends.specs.Ends.{word}
 use Rattle.fields.proofs.Invert.{inv, inv-ok}
+use Rattle.fields.specs.Lists.{choose, has}
 use Rattle.ends.proofs.Same.{block-vip}
 
 -- each is over the one before it, and the first is at least the floor

@@ -5,9 +5,10 @@ use mathlib.Core.Bool.{Bool, true, false, not}
 use mathlib.Core.List.{List}
 use Prim.Native.Nat.{ℕ}
 use lib.Dec.{leb, eqb}
-use Rattle.fields.specs.Parse.{Res, ok, no, Reader, bind, choose, span, uint, counted, pad}
+use Rattle.fields.specs.Parse.{Res, ok, no, Reader, bind, span, uint, counted, pad}
 use Rattle.routine.specs.Header.{marked, arch-id-byte}
 use Rattle.fields.proofs.Chain.{chain}
+use Rattle.fields.specs.Lists.{choose}
 use Rattle.pod.specs.Values.{BasicBlock}
 use Rattle.pod.specs.Blocks.{vips, repeats}
 use Rattle.pod.specs.Layout.{header, convention, blocks, routine}

@@ -8,7 +8,8 @@ use native.Mathlib.Omega.{arith}
 use lib.ListN.{length, take}
 use lib.Seq.{length-take-le}
 use borrow.Author.Tests.{eq-eqb, ne-eqb, lt-leb}
-use Rattle.fields.specs.Parse.{ok, choose}
+use Rattle.fields.specs.Parse.{ok}
+use Rattle.fields.specs.Lists.{choose}
 use Rattle.pod.specs.Values.{Routine}
 use Rattle.machine.specs.Machine.{undo}
 use Rattle.machine.specs.Journal.{Trailer, trailer, undo-create, undo-remove, undo-append, undo-entry, undone}

@@ -12,14 +12,14 @@ use lib.ListN.{length, take, drop, getD, length-append, length-replicate, drop-o
 use lib.Seq.{split-at, length-take-le}
 use borrow.Author.Tests.{eq-eqb, ne-eqb, lt-ltb, le-ltb}
 use Rattle.fields.specs.Bytes.{zeros, put}
-use Rattle.fields.specs.Parse.{choose}
 use Rattle.fields.specs.Outcome.{refused, accepted}
+use Rattle.fields.specs.Lists.{choose, last-of}
 use Rattle.pod.specs.Values.{Instruction, BasicBlock, Routine}
 use Rattle.pod.specs.Written.{bytes, many-bytes, instruction-bytes, routine-bytes}
 use Rattle.buffer.proofs.Put.{put-parts, closed, zeros-split}
 use Rattle.laws.proofs.Back.{length-bytes}
 use Rattle.laws.proofs.Place.{many-append}
-use Rattle.machine.specs.Edits.{last-of, change-at, with-instructions}
+use Rattle.machine.specs.Edits.{change-at, with-instructions}
 use Rattle.machine.specs.Machine.{Answer, size}
 use Rattle.machine.specs.Journal.{Trailer, last-size-is, without-last, undo-append}
 use Rattle.machine.specs.Book.{State, in-image, restored}

@@ -10,12 +10,14 @@ use lib.ListN.{length}
 use borrow.Author.Tests.{eq-eqb, ne-eqb}
 use mir.Syntax.{w64}
 use mir.Val.{ofZ}
+use Rattle.fields.specs.Lists.{none}
 use Rattle.pod.specs.Values.{BasicBlock}
 use Rattle.pod.specs.Written.{bytes, many-bytes, counted-bytes, instruction-bytes, block-bytes}
 use Rattle.laws.specs.Holds.{Block-holds}
-use Rattle.laws.proofs.At.{At, left}
+use Rattle.laws.proofs.At.{left}
+use Rattle.laws.specs.At.{At}
 use Rattle.ends.specs.Ends.{word}
-use Rattle.machine.specs.Journal.{none, is-fresh}
+use Rattle.machine.specs.Journal.{is-fresh}
 use Rattle.image.proofs.Stands.{named, word-at}
 use Rattle.image.proofs.Parts.{offset-read, index-read, temporary-read, instruction-count, prev-at, next-at}
 

@@ -9,8 +9,8 @@ use lib.ListN.{length, take, length-append, length-replicate, drop-of-length-le}
 use lib.Seq.{length-take-le}
 use borrow.Author.Tests.{eq-eqb, ne-eqb}
 use Rattle.fields.specs.Bytes.{zeros, put}
-use Rattle.fields.specs.Parse.{choose}
 use Rattle.fields.specs.Outcome.{refused, accepted}
+use Rattle.fields.specs.Lists.{choose}
 use Rattle.pod.specs.Values.{BasicBlock, Routine}
 use Rattle.pod.specs.Written.{bytes, many-bytes, block-bytes, routine-head-bytes, routine-bytes}
 use Rattle.buffer.proofs.Put.{put-parts, zeros-split}

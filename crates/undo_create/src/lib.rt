@@ -9,7 +9,7 @@ ghost use Rattle.fields.specs.Outcome.{accepted};
 ghost use Rattle.pod.specs.Values.{BasicBlock, Routine};
 ghost use Rattle.pod.specs.Written.{block-bytes};
 ghost use Rattle.laws.specs.Holds.{Block-holds};
-ghost use Rattle.laws.proofs.At.{At};
+ghost use Rattle.laws.specs.At.{At};
 ghost use Rattle.machine.specs.Journal.{is-fresh, undo-create};
 ghost use Rattle.machine.specs.Book.{held, restored};
 ghost use Rattle.book.specs.Says.{state, outcome};

@@ -10,10 +10,11 @@ use lib.ListN.{length, take, drop, length-drop}
 use lib.Seq.{take-nil, length-take-le}
 use lib.Dec.{leb, eqb}
 use borrow.Author.Tests.{le-leb, lt-leb, leb-true, eqb-true, eq-eqb}
-use Rattle.fields.specs.Bytes.{zeros, put}
-use Rattle.fields.specs.Parse.{Res, ok, no, choose}
+use Rattle.fields.specs.Bytes.{zeros, put, Bytes}
+use Rattle.fields.specs.Parse.{Res, ok, no}
 use Rattle.fields.specs.Outcome.{Outcome, refused, accepted}
-use Rattle.fields.proofs.Le.{Bytes, bytes-take, bytes-drop}
+use Rattle.fields.proofs.Le.{bytes-take, bytes-drop}
+use Rattle.fields.specs.Lists.{choose}
 use Rattle.pod.specs.Values.{BasicBlock, Routine}
 use Rattle.pod.specs.Layout.{block, as-written}
 use Rattle.pod.specs.Written.{block-bytes}

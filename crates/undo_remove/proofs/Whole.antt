@@ -8,9 +8,11 @@ use native.Mathlib.Omega.{arith}
 use lib.ListN.{length}
 use lib.Dec.{leb, eqb}
 use borrow.Author.Tests.{le-leb, lt-leb, eq-eqb, ne-eqb}
-use Rattle.fields.specs.Parse.{ok, no, choose, le, span}
-use Rattle.fields.proofs.Le.{Bytes, leb-sub}
+use Rattle.fields.specs.Parse.{ok, no, le, span}
+use Rattle.fields.proofs.Le.{leb-sub}
 use Rattle.fields.proofs.Invert.{inv-span, inv-span-no}
+use Rattle.fields.specs.Lists.{choose}
+use Rattle.fields.specs.Bytes.{Bytes}
 use Rattle.pod.specs.Values.{BasicBlock, Routine}
 use Rattle.pod.specs.Layout.{block, as-written}
 use Rattle.laws.proofs.Layouts.{block-layout, read-to}

@@ -20,8 +20,8 @@ ghost use Rattle.undo_remove.specs.Insertable.{Insertable, Has-insertabl
 use book::Answer;
 use book::Book;
 use fields::Skip;
-use pod::Vip;
 use journal::Trailer;
+use pod::Vip;
 
 // Whether `s` is exactly one block in written form, with the vip.
 fn is_block(s: &[u8], vip: Vip) -> bool

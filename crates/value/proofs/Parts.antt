@@ -12,8 +12,9 @@ use lib.IntN.{ℤ}
 use mir.Syntax.{w64}
 use mir.Val.{SFits, toZ, ofZ}
 use mir.ValLaws.{toZ-ofZ}
-use Rattle.fields.specs.Parse.{Res, ok, no, Reader, bind, choose, uint, many, flag, taken}
+use Rattle.fields.specs.Parse.{Res, ok, no, Reader, bind, uint, many, flag, taken}
 use Rattle.fields.proofs.Invert.{inv}
+use Rattle.fields.specs.Lists.{choose}
 use Rattle.op.specs.Ops.{number, counts}
 use Rattle.pod.specs.Values.{Instruction}
 use Rattle.pod.specs.Written.{bit}

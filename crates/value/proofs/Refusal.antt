@@ -6,7 +6,8 @@ use mathlib.Core.Bool.{Bool, true, false}
 use mathlib.Core.List.{List}
 use Prim.Native.Nat.{ℕ, zero, suc, _<_}
 use native.Mathlib.Omega.{arith}
-use Rattle.fields.specs.Parse.{Res, ok, no, Reader, bind, choose, uint, part, many, taken, flag}
+use Rattle.fields.specs.Parse.{Res, ok, no, Reader, bind, uint, part, many, taken, flag}
+use Rattle.fields.specs.Lists.{choose}
 use Rattle.pod.specs.Layout.{register, immediate, operand, named, opcode, after-opcode, instruction, as-it-comes}
 
 -- an answer that is accepted, or refused with a number over 0

@@ -11,9 +11,10 @@ use borrow.Author.Tests.{le-ltb, lt-ltb}
 use mir.Syntax.{w64}
 use mir.Val.{SFits, toZ, ofZ}
 use mir.ValLaws.{toZ-pos, toZ-ofZ}
-use Rattle.fields.specs.Parse.{Res, ok, no, span, choose}
+use Rattle.fields.specs.Parse.{Res, ok, no, span}
 use Rattle.fields.proofs.Invert.{inv-span, inv-span-no}
-use Rattle.fields.proofs.Le.{Bytes}
+use Rattle.fields.specs.Lists.{choose}
+use Rattle.fields.specs.Bytes.{Bytes}
 use Rattle.pod.specs.Layout.{read-file}
 use Rattle.laws.proofs.Layouts.{routine-layout, read-within}
 use Rattle.vtil.specs.Check.{told, check-file}

@@ -5,7 +5,8 @@ use lib.ListN.{length}
 use lib.Dec.{ltb}
 use lib.IntN.{ℤ, pos, negℤ}
 use Rattle.fields.specs.Refusals.{lending-too-large}
-use Rattle.fields.specs.Parse.{Res, ok, no, choose}
+use Rattle.fields.specs.Parse.{Res, ok, no}
+use Rattle.fields.specs.Lists.{choose}
 use Rattle.pod.specs.Layout.{read-file}
 
 unfoldable pub told : {A : Type 0} → Res A → ℤ

@@ -6,7 +6,7 @@ use Prim.Native.Nat.{ℕ, _+_}
 use lib.ListN.{length, length-append}
 use borrow.Author.Tests.{eq-eqb, ne-eqb}
 use Rattle.fields.specs.Bytes.{put}
-use Rattle.fields.specs.Parse.{choose}
+use Rattle.fields.specs.Lists.{choose}
 use Rattle.pod.specs.Written.{bytes, register-bytes, immediate-bytes, operand-bytes}
 use Rattle.pod.specs.Descs.{desc-operand}
 use Rattle.pod.specs.declared.Operand.the-variants.{Imm, Reg}

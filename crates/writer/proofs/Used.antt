@@ -9,8 +9,9 @@ use native.Mathlib.Numerals.{add-one}
 use lib.ListN.{length, length-append, getD, take, drop, drop-of-length-le}
 use lib.Seq.{drop-cons, getD-take, length-take-le}
 use Rattle.fields.specs.Bytes.{put}
+use Rattle.fields.specs.Lists.{any}
 use Rattle.pod.specs.Written.{operand-bytes, many-bytes}
-use Rattle.pod.specs.Descs.{any, desc-operand}
+use Rattle.pod.specs.Descs.{desc-operand}
 use Rattle.pod.specs.declared.OperandDesc.{OperandDesc}
 use Rattle.buffer.proofs.Put.{put-put, put-nil, length-put}
 use Rattle.writer.specs.Forms.{operands-bytes}

@@ -9,10 +9,10 @@ use lib.ListN.{length, getD, drop}
 use borrow.Author.Tests.{lt-ltb, le-ltb, eq-eqb, ne-eqb}
 use Rattle.fields.specs.Bytes.{put}
 use Rattle.fields.specs.Outcome.{Outcome, refused, accepted}
-use Rattle.fields.specs.Parse.{choose}
+use Rattle.fields.specs.Lists.{choose, any}
 use Rattle.op.specs.Ops.{counts}
 use Rattle.pod.specs.Written.{instruction-bytes}
-use Rattle.pod.specs.Descs.{any, is-foreign, is-unknown, used-operands, desc-instruction, most-lent, writing, written-over}
+use Rattle.pod.specs.Descs.{is-foreign, is-unknown, used-operands, desc-instruction, most-lent, writing, written-over}
 use Rattle.pod.specs.declared.OperandDesc.{OperandDesc}
 use Rattle.pod.specs.declared.InstructionDesc.{InstructionDesc}
 use Rattle.writer.specs.Answers.{write-answer}

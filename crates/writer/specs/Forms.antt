@@ -5,8 +5,8 @@ use mathlib.Core.List.{List, _++_, map}
 use lib.Dec.{eqb}
 use mir.Syntax.{w64}
 use mir.Val.{ofZ}
-use Rattle.fields.specs.Parse.{choose}
 use Rattle.fields.specs.Refusals.{foreign-register}
+use Rattle.fields.specs.Lists.{choose}
 use Rattle.pod.specs.Written.{bytes, bit, many-bytes, operand-bytes}
 use Rattle.pod.specs.Descs.{is-foreign, is-unknown, desc-operand}
 use Rattle.pod.specs.declared.OperandDesc.{OperandDesc}

@@ -2,13 +2,14 @@
 -- Assumes nothing.
 use mathlib.Core.Path.{_≡_, sym, ap, _∙_}
 use mathlib.Core.Bool.{false}
-use Rattle.fields.specs.Parse.{ok, no, choose, span}
+use Rattle.fields.specs.Parse.{ok, no, span}
 use Rattle.fields.specs.Answers.{of-skip}
 use Rattle.pod.specs.Layout.{instruction}
 use Rattle.machine.specs.Book.{State}
 use Rattle.book.specs.Says.{state}
 use Rattle.append.proofs.Appends as A
 use Rattle.fields.proofs.Steps.{handed}
+use Rattle.fields.specs.Lists.{choose}
 use borrow.Author.Needs.{needs}
 use Rattle.append.proofs.append.Statement.{statement}
 use Rattle.append.proofs.append.Tie as tie

@@ -9,7 +9,7 @@ use native.Mathlib.Omega.{arith}
 use lib.ListN.{length}
 use borrow.Author.Tests.{not-true, not-false}
 use borrow.Author.Needs.{needs}
-use Rattle.fields.specs.Parse.{choose}
+use Rattle.fields.specs.Lists.{choose}
 use Rattle.machine.specs.Machine.{Answer}
 use Rattle.machine.specs.Book.{State}
 use Rattle.book.specs.Says.{outcome}

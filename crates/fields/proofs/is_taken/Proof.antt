@@ -1,9 +1,10 @@
 -- Whether a byte is taken: by the two arms.
-use Rattle.fields.specs.Parse.{taken, choose}
+use Rattle.fields.specs.Parse.{taken}
 use Rattle.fields.proofs.is_taken.Statement.{statement}
 use Rattle.fields.proofs.is_taken.Tie as tie
 use Rattle.fields.proofs.is_taken.Reads as reads
 use Rattle.fields.proofs.is_taken.Lts as lts
+use Rattle.fields.specs.Lists.{choose}
 
 returns : tie.Need-returns
 unfolding taken choose

@@ -5,8 +5,8 @@ use native.Mathlib.Omega.{arith}
 use Prim.Native.Nat.{_+_, _-_, _≤_, _<_}
 use lib.ListN.{length, take}
 use lib.Seq.{take-length}
-use Rattle.fields.specs.Parse.{choose}
 use Rattle.fields.specs.Outcome.{accepted}
+use Rattle.fields.specs.Lists.{choose}
 use Rattle.pod.specs.Values.{BasicBlock, Routine}
 use Rattle.pod.specs.Written.{instruction-bytes}
 use Rattle.ends.specs.Ends.{word}

@@ -5,8 +5,8 @@ use native.Mathlib.Omega.{arith}
 use Prim.Native.Nat.{_+_, _≤_, _<_}
 use lib.ListN.{length}
 use borrow.Author.Tests.{not-true, not-false}
-use Rattle.fields.specs.Parse.{choose}
 use Rattle.fields.specs.Outcome.{accepted}
+use Rattle.fields.specs.Lists.{choose}
 use Rattle.pod.specs.Values.{BasicBlock, Routine}
 use Rattle.machine.specs.Edits.{block-at}
 use Rattle.machine.specs.Machine.{Answer}

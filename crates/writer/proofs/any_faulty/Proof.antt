@@ -4,7 +4,7 @@ use mathlib.Core.Path.{_≡_, refl, sym, _∙_}
 use Prim.Native.Nat.{_≤_, _-_}
 use lib.ListN.{take, drop}
 use native.Mathlib.Omega.{arith}
-use Rattle.pod.specs.Descs.{any}
+use Rattle.fields.specs.Lists.{any}
 use Rattle.writer.specs.Forms.{faulty}
 use Rattle.writer.proofs.Used.{any-hit, any-miss, any-none}
 use borrow.Author.Needs.{needs}

@@ -1,7 +1,7 @@
 -- `writer::is_faulty` meets its contract, by its tests.
 -- Assumes nothing.
 use borrow.Author.Tests.{eq-eqb, ne-eqb}
-use Rattle.fields.specs.Parse.{choose}
+use Rattle.fields.specs.Lists.{choose}
 use Rattle.writer.proofs.is_faulty.Statement.{statement}
 use Rattle.writer.proofs.is_faulty.Tie as tie
 use Rattle.writer.proofs.is_faulty.Reads as reads

@@ -5,8 +5,9 @@ use mathlib.Core.Path.{_≡_, sym, _∙_}
 use mathlib.Core.Bool.{false}
 use native.Mathlib.Omega.{arith}
 use lib.ListN.{getD}
+use Rattle.fields.specs.Lists.{any}
 use Rattle.op.specs.Ops.{counts}
-use Rattle.pod.specs.Descs.{any, used-operands}
+use Rattle.pod.specs.Descs.{used-operands}
 use Rattle.writer.specs.Forms.{faulty}
 use Rattle.value.proofs.Parts.{counts-small}
 use Rattle.writer.proofs.Writes.{lent-too-large, op-unknown, count-wrong, register-foreign, kind-unknown, image-short, all-written}
