@@ -3,5 +3,6 @@ pub mod Keeps
 pub mod Undo
 pub mod Held
 pub mod Simulation
+pub mod Rewritten
 pub mod Parts
 pub mod Calls

@@ -4,3 +4,4 @@ pub mod Journal
 pub mod Book
 pub mod Look
 pub mod Sound
+pub mod Rewritten
