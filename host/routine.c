@@ -136,11 +136,12 @@ static void print_command_help(const struct command *command)
     printf("Exit status 2, also where 1 applies: something could not be read or written, or the usage is wrong.\n");
 }
 
-static enum status bad_usage(const char *problem, const char *word)
+/* `command` is the one whose help says more; NULL where none was found. */
+static enum status bad_usage(const struct command *command, const char *problem, const char *word)
 {
     fprintf(stderr, "routine: %s", problem);
     print_name(stderr, word);
-    fprintf(stderr, "\nroutine: try routine --help\n");
+    fprintf(stderr, "\nroutine: try routine %s%s--help\n", command == NULL ? "" : command->name, command == NULL ? "" : " ");
     return TROUBLE;
 }
 
@@ -189,7 +190,7 @@ static bool take_option(const struct command *command, int count, char **words, 
     const char *word = words[*at];
     char letter = option_letter(word);
     if (letter == 0 || strchr(command->options, letter) == NULL) {
-        bad_usage("unknown option (for a file of that name write ./ before it): ", word);
+        bad_usage(command, "unknown option (for a file of that name write ./ before it): ", word);
         return false;
     }
     if (letter == 'j') {
@@ -198,11 +199,11 @@ static bool take_option(const struct command *command, int count, char **words, 
     }
     const char **value = option_value(request, letter);
     if (*value != NULL) {
-        bad_usage("given twice: ", word);
+        bad_usage(command, "given twice: ", word);
         return false;
     }
     if (*at + 1 == count) {
-        bad_usage("no file given after ", word);
+        bad_usage(command, "no file given after ", word);
         return false;
     }
     *at += 1;
@@ -213,17 +214,17 @@ static bool take_option(const struct command *command, int count, char **words, 
 static enum status run_request(const struct command *command, const struct request *request)
 {
     if (request->count == 0)
-        return bad_usage("no file given to ", command->name);
+        return bad_usage(command, "no file given to ", command->name);
     if (request->count < command->least)
-        return bad_usage("too few files given to ", command->name);
+        return bad_usage(command, "too few files given to ", command->name);
     if (request->count > command->most)
-        return bad_usage("too many files given to ", command->name);
+        return bad_usage(command, "too many files given to ", command->name);
     if (strchr(command->needed, 'o') != NULL && request->out == NULL)
-        return bad_usage("-o OUT is missing for ", command->name);
+        return bad_usage(command, "-o OUT is missing for ", command->name);
     if (strchr(command->needed, 's') != NULL && request->script == NULL)
-        return bad_usage("-s SCRIPT is missing for ", command->name);
+        return bad_usage(command, "-s SCRIPT is missing for ", command->name);
     if (request->script != NULL && strcmp(request->script, "-") == 0 && strcmp(request->files[0], "-") == 0)
-        return bad_usage("FILE and SCRIPT can't both be standard input (-) for ", command->name);
+        return bad_usage(command, "FILE and SCRIPT can't both be standard input (-) for ", command->name);
     return command->run(request);
 }
 
@@ -254,14 +255,14 @@ static enum status run_command(const struct command *command, int count, char **
 static enum status run(int argc, char **argv)
 {
     if (argc < 2)
-        return bad_usage("no command given", "");
+        return bad_usage(NULL, "no command given", "");
     if (is_help(argv[1])) {
         print_help(stdout);
         return ALL_ACCEPTED;
     }
     const struct command *command = find_command(argv[1]);
     if (command == NULL)
-        return bad_usage("unknown command: ", argv[1]);
+        return bad_usage(NULL, "unknown command: ", argv[1]);
     return run_command(command, argc - 2, argv + 2);
 }
 

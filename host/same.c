@@ -1,6 +1,7 @@
 /* routine same A B: whether two files hold one routine. Two routines are equal exactly when their written forms are. */
 #include "commands.h"
 
+#include <stdbool.h>
 #include <stdio.h>
 
 #include "book.h"
@@ -62,19 +63,17 @@ static enum status compare(const char *const *names, const struct book *a, const
     return SOME_REFUSED;
 }
 
-/* Of a file that is no routine it can't be said, which is trouble here. */
+/* Of a file that is no routine it can't be said, which is trouble here. What is wrong is said of both. */
 enum status same_command(const struct request *request)
 {
     struct book a, b;
     const char *const names[] = {request->files[0], request->files[1]};
-    if (book_open(names[0], 0, 0, &a) != ALL_ACCEPTED)
-        return TROUBLE;
-    if (book_open(names[1], 0, 0, &b) != ALL_ACCEPTED) {
+    bool a_open = book_open(names[0], 0, 0, &a) == ALL_ACCEPTED;
+    bool b_open = book_open(names[1], 0, 0, &b) == ALL_ACCEPTED;
+    enum status status = a_open && b_open ? compare(names, &a, &b) : TROUBLE;
+    if (a_open)
         book_free(&a);
-        return TROUBLE;
-    }
-    enum status status = compare(names, &a, &b);
-    book_free(&a);
-    book_free(&b);
+    if (b_open)
+        book_free(&b);
     return status;
 }

@@ -24,7 +24,7 @@ static const char *const words[] = {
 
 const char *refusal_words(int64_t number)
 {
-    if (number < VTIL_SHORT_FILE || number > VTIL_LEFTOVER)
+    if (number < VTIL_SHORT_FILE || (uint64_t)number >= sizeof words / sizeof words[0])
         return "not a refusal number";
     return words[number];
 }

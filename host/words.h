@@ -4,7 +4,7 @@
 
 #include <stdint.h>
 
-/* The words of the library's refusal `number` (1 to 17); for any other number, words that say so. Never NULL. */
+/* The words of the library's refusal `number`; for a number that is none, words that say so. Never NULL. */
 const char *refusal_words(int64_t number);
 
 /* The end of a noun after this number: "s", but nothing after 1. */

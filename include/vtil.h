@@ -4,6 +4,10 @@
  * For C11 and later and for C++. Compile with this folder in the include path
  * and link with libvtil.a; nothing else is needed.
  *
+ * The rules behind it are in docs/SPEC.md: sections 2 the refusals, 3 and 4 the
+ * files, 5 the writer, 6 the check, 7 opening, 8 every call on a book, 9 looking,
+ * 10 the edits, 11 the journal and undo, 13 lists of calls.
+ *
  * No function allocates memory, writes a file, prints, keeps a pointer after it
  * returns, or has state between calls. So every function may be called from
  * several threads at once, as long as nobody writes the memory that is lent to
@@ -109,11 +113,11 @@ int64_t vtil_check(const uint8_t *file, size_t file_len);
  *   Each pointer has as many bytes behind it as the length after it says, and may
  *   be NULL when that length is 0. Image, journal and whatever else is lent to one
  *   call do not overlap. Nothing is kept after the call.
- * Of every call here but vtil_run, which runs several of the others:
+ *   A refused call changes no byte of image and journal. Where it answers a book,
+ *   it is the one that was handed in (vtil_open and vtil_run: a book of zeros).
+ * Of every call here but vtil_run and vtil_run_on, which make several of the others:
  *   Image and journal have at most 16,777,216 bytes each (VTIL_MOST_LENT); a longer
  *   one is refused 10 before anything else.
- *   A refused call changes no byte of image and journal. Where it answers a book,
- *   it is the one that was handed in (vtil_open: a book of zeros).
  *   Every call on a book reads the whole image first, to see that it is not
  *   spoiled: a call's time grows with the image's length.
  */
@@ -191,8 +195,8 @@ vtil_written vtil_write_instruction(vtil_instruction_desc value, uint8_t *image,
 
 /*
  * Looking. Each call answers a part of the routine, named by places that count
- * from 0. Image and journal are only read. In a refused answer every other field
- * is 0, of a struct each of its fields.
+ * from 0. Image and journal are only read. In a refused answer every field but
+ * the refusal is 0, also those of a struct within it.
  *
  * Refusals, in this order: 10; 13 when the book is spoiled; 15 when there is no
  * such block, convention, list or place.
@@ -320,27 +324,53 @@ enum vtil_call {
 };
 
 /*
- * vtil_run opens a file as vtil_open does and runs a list of calls on the book,
- * each as the calls above would, a refused one changing nothing and the next one
- * following all the same. After a refused opening no call is run.
+ * A list of calls is lent as words and bytes:
  *
  *   words      four for each call: its kind (enum vtil_call), its vip, and where
  *              its part of `bytes` begins and ends. A kind that has no use for the
  *              vip or the part ignores them; all the same the part has to lie
- *              within `bytes`, as 0 and 0 do, else the list is refused 15.
+ *              within `bytes`, as 0 and 0 do.
  *   words_len  the number of words, not of bytes: four times the number of calls.
  *   bytes      the instructions to append, as vtil_append takes them.
  *
- * Answers what the last call answers; where the list is empty or the opening is
- * refused, what the opening answers. So a refusal is of the last call alone: those
- * before it have changed image and journal where they were accepted. Words that
- * are no list of calls (not four for each, a kind over 3, or a part that does not
- * begin at or before its end within `bytes`) are refused 15 before all else:
- * nothing is opened or changed, and the book answered is one of zeros.
+ * Words that are not four for each call, a kind over 3, or a part that does not
+ * begin at or before its end within `bytes` are no list of calls. They are refused
+ * 15 before all else.
+ *
+ * The calls are made in turn, each with the book that the one before it answered.
+ * Each does what the single call above does. A refused one changes nothing, and
+ * the next one is made all the same: the run is accepted, and says what its last
+ * call answered. So where `refusal` is 0, image and journal hold what the accepted
+ * calls of the list did, whatever `last` says. A refused run makes no call and
+ * changes no byte of image and journal.
  */
-vtil_answer vtil_run(const uint8_t *file, size_t file_len, uint8_t *image, size_t image_len, uint8_t *journal,
-                     size_t journal_len, const uint64_t *words, size_t words_len, const uint8_t *bytes,
-                     size_t bytes_len);
+typedef struct {
+    uint64_t refusal; /* of the words (15) or of the opening: then nothing was changed. 0: the calls were made */
+    uint64_t last;    /* the refusal of the last call; 0 where it was accepted, the list is empty or the run is refused */
+    vtil_book book;   /* after the list, to be handed to the next call */
+} vtil_run_answer;
+
+/*
+ * vtil_run opens a file as vtil_open does and makes a list of calls on its book.
+ *
+ * Refusals, in this order: 15 when the words are no list of calls; 10, 1 to 9 and
+ * 11, as vtil_open. The book is then one of zeros.
+ */
+vtil_run_answer vtil_run(const uint8_t *file, size_t file_len, uint8_t *image, size_t image_len, uint8_t *journal,
+                         size_t journal_len, const uint64_t *words, size_t words_len, const uint8_t *bytes,
+                         size_t bytes_len);
+
+/*
+ * vtil_run_on makes a list of calls on a book that is there. The book is tested by
+ * each call of the list: where it is spoiled, or image or journal are too long,
+ * each is refused 13 or 10, which `last` says. An empty list tests nothing and
+ * answers the book that was handed in.
+ *
+ * Refusals: 15 when the words are no list of calls. The book is then the one that
+ * was handed in.
+ */
+vtil_run_answer vtil_run_on(vtil_book book, uint8_t *image, size_t image_len, uint8_t *journal, size_t journal_len,
+                            const uint64_t *words, size_t words_len, const uint8_t *bytes, size_t bytes_len);
 
 /* ==== The end ===================================================================== */
 

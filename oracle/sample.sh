@@ -1,7 +1,7 @@
 #!/usr/bin/env bash
 # Makes the fixed sample of the Rust's answers anew, which crates/replay holds the library to:
 #   oracle/sample.sh [--seed S] [--records N]
-# It needs no archive: the Rust and document 01 give the answers. It prints how many records have each answer (0:
+# It needs no archive: the Rust and the reference give the answers. It prints how many records have each answer (0:
 # accepted); crates/replay/stdout has to say the same.
 set -euo pipefail
 

@@ -4,7 +4,7 @@
     python3 samples/make.py           write every sample
     python3 samples/make.py --check   compare the files that are there; status 1 if any differs
 
-The bytes are put together field by field from the layouts of document 01; the
+The bytes are put together field by field from the layouts of docs/SPEC.md; the
 functions below are named after them. All fields are little-endian. Nothing is
 random, so every run writes the same bytes.
 

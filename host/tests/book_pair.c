@@ -28,7 +28,7 @@ void lend_book(size_t image_len, size_t journal_len)
 {
     image = lend(&image_room, image_len, below(2) == 0);
     journal = lend(&journal_room, journal_len, below(2) == 0);
-    twin = (struct ref_book){twin_image, twin_journal, image_len, journal_len, {0, 0}};
+    twin = (struct ref_book){twin_image, twin_journal, image_len, journal_len, {0}};
     leave_bytes(twin_image, image_len);
     leave_bytes(twin_journal, journal_len);
     copy_twin();
@@ -53,12 +53,17 @@ void copy_twin(void)
     memcpy(journal.plain, twin.journal, journal.len);
 }
 
+void hold_book(vtil_book got, vtil_book want)
+{
+    hold("written", image.len, (int64_t)got.written, (int64_t)want.written);
+    hold("used", journal.len, (int64_t)got.used, (int64_t)want.used);
+}
+
 void hold_answer(vtil_answer got, vtil_answer want)
 {
     group.answers[want.refusal]++;
     hold("refusal", image.len, (int64_t)got.refusal, (int64_t)want.refusal);
-    hold("written", image.len, (int64_t)got.book.written, (int64_t)want.book.written);
-    hold("used", journal.len, (int64_t)got.book.used, (int64_t)want.book.used);
+    hold_book(got.book, want.book);
 }
 
 void hold_bytes(void)
@@ -71,7 +76,6 @@ bool open_both(const struct bytes *file)
 {
     struct lent lent = lend(&file_room, file->len, below(2) == 0);
     memcpy(lent.plain, file->at, file->len);
-    ref_forget();
     vtil_answer want = ref_open(&twin, file->at, file->len);
     next_case();
     hold_answer(vtil_open(lent.readable, lent.len, image.writable, image.len, journal.writable, journal.len), want);
@@ -184,14 +188,12 @@ static void look_register(vtil_book numbers, uint64_t convention, uint64_t list,
 void look_once(vtil_book numbers)
 {
     twin.numbers = numbers;
-    ref_forget();
     look_routine(numbers);
     look_block(numbers, 0);
     look_instruction(numbers, 0, 0);
     look_vip(numbers, 0, below(2), 0);
     look_convention(numbers, 0);
     look_register(numbers, 0, below(3), 0);
-    ref_forget();
 }
 
 void extremes(uint64_t middle, uint64_t out[EXTREMES])
@@ -219,7 +221,6 @@ static void look_at_block(vtil_book numbers, uint64_t place)
         for (int i = 0; i < EXTREMES; i++)
             look_vip(numbers, place, list, odd[i]);
     }
-    ref_forget();
 }
 
 static void look_at_convention(vtil_book numbers, uint64_t place)
@@ -235,7 +236,6 @@ static void look_at_convention(vtil_book numbers, uint64_t place)
         for (int i = 0; i < EXTREMES; i++)
             look_register(numbers, place, list, odd[i]);
     }
-    ref_forget();
 }
 
 /* Lists that no book has. */
@@ -247,13 +247,11 @@ static void look_at_odd_lists(vtil_book numbers)
         look_vip(numbers, 0, odd[i], 0);
         look_register(numbers, 0, odd[i], 0);
     }
-    ref_forget();
 }
 
 void look_everywhere(vtil_book numbers)
 {
     twin.numbers = numbers;
-    ref_forget();
     vtil_routine_look routine = ref_routine(&twin);
     uint64_t odd[EXTREMES];
     look_routine(numbers);

@@ -8,7 +8,7 @@
 
 #include "cases.h"
 #include "lent.h"
-#include "reference_book.h"
+#include "reference.h"
 #include "vtil.h"
 
 extern struct lent image, journal; /* what the library is lent */
@@ -32,6 +32,10 @@ bool open_both(const struct bytes *file);
 /* The library's image and journal become what the reference's are. */
 void copy_twin(void);
 
+/* Every field of the book. */
+void hold_book(vtil_book got, vtil_book want);
+
+/* The refusal, which is counted as due, and the book. */
 void hold_answer(vtil_answer got, vtil_answer want);
 
 /* Image and journal are what the reference's are. */

@@ -134,7 +134,7 @@ static void make_odd_name(struct bytes *b, const char *name)
 
 static void make_instruction(struct bytes *b)
 {
-    const struct operation *operation = &operations[below(operation_count)];
+    const struct ref_operation *operation = &ref_operations[below(ref_operation_count)];
     if (faulty())
         make_odd_name(b, operation->name);
     else
@@ -202,7 +202,7 @@ void make_good_routine(struct bytes *b)
 {
     do
         make_routine(b);
-    while (reference_check(b->at, b->len) < 0);
+    while (ref_check(b->at, b->len) < 0);
 }
 
 void make_appended(struct bytes *b)

@@ -130,17 +130,17 @@ usage() {
     local help
     help=$("$routine" --help)
     expect "no command" 2 "" "routine: no command given
-$try" "$routine"
+$try --help" "$routine"
     expect "an unknown command" 2 "" "routine: unknown command: chekc
-$try" "$routine" chekc samples/minimal.vtil
+$try --help" "$routine" chekc samples/minimal.vtil
     expect "no file" 2 "" "routine: no file given to check
-$try" "$routine" check
+$try check --help" "$routine" check
     expect "an unknown option" 2 "" "routine: unknown option (for a file of that name write ./ before it): -x
-$try" "$routine" check -x
+$try check --help" "$routine" check -x
     expect "an option of another command" 2 "" "routine: unknown option (for a file of that name write ./ before it): --json
-$try" "$routine" check --json samples/minimal.vtil
+$try check --help" "$routine" check --json samples/minimal.vtil
     expect "an unknown command of two lines" 2 "" "routine: unknown command: a\\x0ab
-$try" "$routine" $'a\nb'
+$try --help" "$routine" $'a\nb'
     passes "the help says which status wins" grep -q "^Where both 1 and 2 apply it is 2" <<<"$help"
     if "$routine" check --help | grep -q '^usage: routine check FILE'; then
         pass "help for a command"

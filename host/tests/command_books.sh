@@ -87,9 +87,9 @@ show_refused() {
     expect "show a missing file" 2 "" "routine: missing: not read: No such file or directory" "$routine" show missing
     expect "show a folder" 2 "" "routine: samples: not read: is a directory" "$routine" show --json samples
     expect "show two files" 2 "" "routine: too many files given to show
-$try" "$routine" show samples/minimal.vtil samples/minimal.vtil
+$try show --help" "$routine" show samples/minimal.vtil samples/minimal.vtil
     expect "show no file" 2 "" "routine: no file given to show
-$try" "$routine" show --json
+$try show --help" "$routine" show --json
 }
 
 show_failing_output() {
@@ -187,11 +187,11 @@ normalize_fails() {
     expect "normalize a damaged file" 1 "" "routine: samples/wrong-mark.vtil: $refused_3" \
         "$routine" normalize samples/wrong-mark.vtil -o "$to/good"
     expect "normalize without -o" 2 "" "routine: -o OUT is missing for normalize
-$try" "$routine" normalize samples/minimal.vtil
+$try normalize --help" "$routine" normalize samples/minimal.vtil
     expect "-o without a file" 2 "" "routine: no file given after -o
-$try" "$routine" normalize samples/minimal.vtil -o
+$try normalize --help" "$routine" normalize samples/minimal.vtil -o
     expect "-o twice" 2 "" "routine: given twice: -o
-$try" "$routine" normalize -o a samples/minimal.vtil -o b
+$try normalize --help" "$routine" normalize -o a samples/minimal.vtil -o b
     expect "into a folder that is not there" 2 "" "routine: $to/none/out: not written: No such file or directory" \
         "$routine" normalize samples/minimal.vtil -o "$to/none/out"
     expect "over a folder" 2 "" "routine: $to: not written: Is a directory" "$routine" normalize samples/minimal.vtil -o "$to"
@@ -275,11 +275,13 @@ same_fails() {
     expect "same: a damaged file" 2 "" "routine: samples/wrong-mark.vtil: $refused_3" \
         "$routine" same samples/blocks.vtil samples/wrong-mark.vtil
     expect "same: a missing file" 2 "" "routine: missing: not read: No such file or directory" \
-        "$routine" same missing samples/wrong-mark.vtil
+        "$routine" same missing samples/blocks.vtil
+    expect "same: a missing file and a damaged one" 2 "" "routine: missing: not read: No such file or directory
+routine: samples/wrong-mark.vtil: $refused_3" "$routine" same missing samples/wrong-mark.vtil
     expect "same: standard input twice" 2 "" "routine: -: not read: standard input was read already" \
         "$routine" same - - <samples/blocks.vtil
     expect "same: one file" 2 "" "routine: too few files given to same
-$try" "$routine" same samples/blocks.vtil
+$try same --help" "$routine" same samples/blocks.vtil
     expect "same: the disk full" 2 "" "routine: standard output could not be written: No space left on device" \
         bash -c '"$0" same samples/blocks.vtil samples/minimal.vtil >/dev/full' "$routine"
 }

@@ -162,9 +162,9 @@ edit_fails() {
     expect "a missing script" 2 "" "routine: missing: not read: No such file or directory" \
         "$routine" edit samples/minimal.vtil -s missing -o "$scratch/in"
     expect "no script" 2 "" "routine: -s SCRIPT is missing for edit
-$try" "$routine" edit samples/minimal.vtil -o "$scratch/in"
+$try edit --help" "$routine" edit samples/minimal.vtil -o "$scratch/in"
     expect "file and script from standard input" 2 "" "routine: FILE and SCRIPT can't both be standard input (-) for edit
-$try" \
+$try edit --help" \
         "$routine" edit - -s - -o "$scratch/in" <"$scratch/script"
     expect "the lines' answers on a full disk" 2 "" "routine: $scratch/in: not written: the lines' answers could not be shown
 routine: standard output could not be written: No space left on device" \

@@ -2,14 +2,14 @@
 # Running a command and holding what it gave. Sourced by the tests of the command, which get the words
 # ROUTINE SCRATCH. The current folder is the repository root, SCRATCH an empty folder.
 # shellcheck disable=SC2034 # some names are for the scripts that source this
-. host/tests/count.sh
+. tests/count.sh
 export LC_ALL=C
 routine=$(realpath "$1")
 scratch=$(realpath "$2")
 samples=$(realpath samples)
 refused_1="refused 1: short file: a field or name passes the end"
 refused_3="refused 3: wrong mark: either header mark differs"
-try="routine: try routine --help"
+try="routine: try routine"
 
 # hold NAME STATUS: what was just run gave this status, and out and err hold what is wanted.
 hold() {

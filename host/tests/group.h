@@ -5,7 +5,7 @@
 #include <stddef.h>
 #include <stdint.h>
 
-#define ANSWERS 18 /* accepted, and refusals 1 to 17 */
+#define ANSWERS 64 /* 0 for accepted, and every refusal by its number, with room for more */
 
 /* The group of cases that runs. */
 extern struct group {

@@ -1,6 +1,6 @@
 /*
- * guard FILE..: vtil_check against the plain reader in reference.c, on the given
- * files and on many others made from them or from the layouts.
+ * guard FILE..: vtil_check against the reference, on the given files and on many
+ * others made from them or from the layouts.
  *
  * Every file is lent twice: so that it ends where a page without any access
  * begins, and so that it begins where such a page ends. The pages between allow
@@ -43,10 +43,10 @@ static void expect(const uint8_t *file, size_t len, int64_t want)
     hold("lent after a guard page", len, check_at(false, file, len), want);
 }
 
-/* The plain reader says what the answer is. */
+/* The reference says what the answer is. */
 static void compare(const uint8_t *file, size_t len)
 {
-    int64_t want = reference_check(file, len);
+    int64_t want = ref_check(file, len);
     group.answers[want > 0 ? 0 : -want]++;
     expect(file, len, want);
 }
@@ -56,11 +56,11 @@ static void compare(const uint8_t *file, size_t len)
 static struct bytes *samples;
 static size_t sample_count;
 
-/* An instance of document 01: its answer is written there, and holds of the plain reader too. */
+/* An instance of docs/SPEC.md: its answer is written there, and holds of the reference too. */
 static void instance(const struct bytes *b, int64_t want)
 {
     expect(b->at, b->len, want);
-    hold("the plain reader", b->len, reference_check(b->at, b->len), want);
+    hold("the reference", b->len, ref_check(b->at, b->len), want);
 }
 
 static struct bytes smallest(void)
@@ -273,10 +273,10 @@ static void compare_operation(const void *name, size_t len, uint32_t count)
 static void operation_names(void)
 {
     begin("the 49 names and names near them, counts 0 to 4");
-    for (size_t i = 0; i < operation_count; i++) {
+    for (size_t i = 0; i < ref_operation_count; i++) {
         char name[16] = {0};
-        size_t len = strlen(operations[i].name);
-        memcpy(name, operations[i].name, len);
+        size_t len = strlen(ref_operations[i].name);
+        memcpy(name, ref_operations[i].name, len);
         for (uint32_t count = 0; count <= 4; count++) {
             compare_operation(name, len, count);
             compare_operation(name, len - 1, count);
@@ -288,7 +288,7 @@ static void operation_names(void)
     }
     /* Each of the 49 once, and those that come again as another name's beginning, as tg of tge. */
     printf("guard: %s: %" PRIu64 " accepted\n", group.name, group.answers[0]);
-    if (group.answers[0] < operation_count)
+    if (group.answers[0] < ref_operation_count)
         group.differ++;
     end();
 }

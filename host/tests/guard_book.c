@@ -10,7 +10,6 @@
 #include "group.h"
 #include "lent.h"
 #include "reference.h"
-#include "reference_book.h"
 #include "book_pair.h"
 
 #define OPENINGS 30000
@@ -25,7 +24,7 @@ static const int answers_of_opening[] = {0, 1, 2, 3, 4, 5, 6, 7, 8, 9, 11, -1};
 /* The size of the written form; 0 of a file that is refused. */
 static size_t written_size(const struct bytes *file)
 {
-    int64_t answer = reference_check(file->at, file->len);
+    int64_t answer = ref_check(file->at, file->len);
     return answer < 0 ? 0 : (size_t)answer;
 }
 
@@ -127,8 +126,7 @@ static void hold_open(const struct bytes *file, uint8_t *at, size_t image_len, u
     next_case();
     vtil_answer got = vtil_open(file->at, file->len, at, image_len, to, journal_len);
     hold("refusal", image_len, (int64_t)got.refusal, (int64_t)want);
-    hold("written", image_len, (int64_t)got.book.written, want == 0 ? (int64_t)written_size(file) : 0);
-    hold("used", journal_len, (int64_t)got.book.used, 0);
+    hold_book(got.book, (vtil_book){.written = want == 0 ? written_size(file) : 0});
 }
 
 static void no_bytes(const struct room *room)
@@ -143,7 +141,7 @@ static void no_bytes(const struct room *room)
     lend_book(114, 0);
     hold_open(&smallest, image.writable, 114, NULL, 0, 0);
     hold_open(&smallest, image.writable, 114, no_access(room), 0, 0);
-    vtil_book book = {114, 0};
+    vtil_book book = {.written = 114};
     hold("looking without a journal", 0, (int64_t)vtil_routine(book, image.readable, 114, NULL, 0).refusal, 0);
     book.written = 0;
     hold("looking without an image", 0, (int64_t)vtil_routine(book, NULL, 0, NULL, 0).refusal, 13);
@@ -155,7 +153,7 @@ static void no_bytes(const struct room *room)
 
 static void hold_too_large(const uint8_t *at, size_t image_len, const uint8_t *to, size_t journal_len)
 {
-    const vtil_book books[] = {{114, 0}, {0, 0}, {UINT64_MAX, UINT64_MAX}};
+    const vtil_book books[] = {{.written = 114}, {0}, {.written = UINT64_MAX, .used = UINT64_MAX}};
     for (size_t i = 0; i < 3; i++) {
         next_case();
         vtil_book b = books[i];
@@ -199,7 +197,7 @@ static void at_the_limit(void)
     memset(at.plain, 0xff, at.len);
     memset(to.plain, 0xff, to.len);
     hold_open(&smallest, at.writable, at.len, to.writable, to.len, 0);
-    vtil_book book = {114, 0};
+    vtil_book book = {.written = 114};
     hold("looking", 0, (int64_t)vtil_routine(book, at.readable, at.len, to.readable, to.len).refusal, 0);
     hold("the journal's last byte", 0, to.plain[to.len - 1], 0);
     at.plain[at.len - 1] = 1;
@@ -249,7 +247,7 @@ static void hand_made_books(void)
         extremes(journal.len, used);
         for (int w = 0; w < EXTREMES; w++)
             for (int u = 0; u < EXTREMES; u++)
-                look_once((vtil_book){written[w], used[u]});
+                look_once((vtil_book){.written = written[w], .used = used[u]});
     }
     end();
 }
@@ -263,7 +261,7 @@ static void spoiled_images(void)
         lend_book(written_size(&samples[i]) + 5, 40);
         if (!open_both(&samples[i]))
             continue;
-        vtil_book numbers = {twin.numbers.written, below(41)};
+        vtil_book numbers = {.written = twin.numbers.written, .used = below(41)};
         for (size_t at = 0; at < image.len; at++) {
             uint8_t before = twin.image[at];
             twin.image[at] = values[below(4)];
@@ -293,7 +291,7 @@ static void unwritten_images(void)
         memset(twin.image + b.len, 0, image.len - b.len);
         copy_twin();
         size_t size = written_size(&b);
-        look_once((vtil_book){size > 0 && below(2) ? size : b.len, 0});
+        look_once((vtil_book){.written = size > 0 && below(2) ? size : b.len});
     }
     end();
 }
@@ -317,7 +315,7 @@ static vtil_instruction_desc any_instruction(void)
 {
     vtil_instruction_desc value = {0};
     value.op = below(40) == 0 ? (uint32_t)below(UINT32_MAX) : (uint32_t)below(50);
-    value.count = value.op < 49 ? operations[value.op].count : 0;
+    value.count = value.op < ref_operation_count ? ref_operations[value.op].count : 0;
     if (below(40) == 0)
         value.count = below(2) == 0 ? (uint32_t)below(5) : (uint32_t)below(UINT32_MAX);
     for (int i = 0; i < 3; i++)

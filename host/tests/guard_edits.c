@@ -1,5 +1,5 @@
 /*
- * guard_edits FILE..: create, remove, append, undo and run, between guard pages,
+ * guard_edits FILE..: create, remove, append, undo, run and run_on, between guard pages,
  * against the reference: its calls on a book, and the routine machine.
  */
 #include <stdbool.h>
@@ -10,16 +10,24 @@
 #include "group.h"
 #include "lent.h"
 #include "reference.h"
-#include "reference_book.h"
 #include "book_pair.h"
 
 #define LISTS 350
 #define CALLS 60 /* in a list */
 #define DAMAGED_JOURNALS 6000
+#define RANDOM_WORDS 6000
 
 static struct bytes *samples;
 static size_t sample_count;
 static struct room instruction_room;
+
+/* A number near `middle`, or an extreme one. */
+static uint64_t near(uint64_t middle)
+{
+    uint64_t odd[EXTREMES];
+    extremes(middle, odd);
+    return below(3) == 0 ? odd[below(EXTREMES)] : middle + below(3) - 1;
+}
 
 /* One call in both ------------------------------------------------------------------------ */
 
@@ -44,9 +52,7 @@ static vtil_answer library_call(vtil_book numbers, const struct ref_call *call)
 static vtil_answer call_both(const struct ref_call *call)
 {
     vtil_book before = twin.numbers;
-    ref_forget();
     vtil_answer want = ref_step(&twin, call);
-    ref_forget();
     next_case();
     hold_answer(library_call(before, call), want);
     hold_bytes();
@@ -142,14 +148,17 @@ static void make_call(size_t which)
     call->len = instructions[which].len;
 }
 
-/* The machine sees the file, the calls and the lengths; its answers and its routine are the library's. */
+/* The machine sees the file, the calls and the lengths; its answers and what it says of image and journal are the library's. */
 static void hold_machine(struct ref_machine *machine, const struct ref_call *call, vtil_answer library)
 {
+    static uint8_t due_image[BYTES_MAX], due_journal[BYTES_MAX];
     vtil_answer due = ref_machine_step(machine, call);
+    ref_machine_image(machine, due_image);
+    ref_machine_journal(machine, due_journal);
     hold("the machine's refusal", image.len, (int64_t)library.refusal, (int64_t)due.refusal);
-    hold("the machine's length", image.len, (int64_t)library.book.written, (int64_t)due.book.written);
-    hold("the machine's used", image.len, (int64_t)library.book.used, (int64_t)due.book.used);
-    hold("the machine's routine", image.len, memcmp(image.plain, machine->now.bytes, machine->now.len) == 0, 1);
+    hold_book(library.book, due.book);
+    hold("the machine's image", image.len, memcmp(image.plain, due_image, image.len) == 0, 1);
+    hold("the machine's journal", journal.len, memcmp(journal.plain, due_journal, journal.len) == 0, 1);
 }
 
 /* Undo until nothing stands: the file's routine again, and a journal of zeros. */
@@ -162,74 +171,135 @@ static void take_all_back(const uint8_t *opened, uint64_t written)
     hold("the routine of the file", image.len, memcmp(image.plain, opened, image.len) == 0, 1);
 }
 
-/* The same list by vtil_run: each call's words, and the bytes of all. */
-static void run_list(const struct bytes *file, size_t count)
+/* Lists in one call ---------------------------------------------------------------------------- */
+
+static struct room words_room, bytes_room, file_room;
+static struct lent lent_words, lent_bytes, lent_file;
+
+#define LIST (const uint64_t *)(const void *)lent_words.readable, lent_words.len / 8, lent_bytes.readable, lent_bytes.len
+
+static void lend_list(const uint64_t *words, size_t count, const uint8_t *bytes, size_t len)
+{
+    lent_words = lend(&words_room, 8 * count, below(2) == 0);
+    lent_bytes = lend(&bytes_room, len, below(2) == 0);
+    memcpy(lent_words.plain, words, 8 * count);
+    memcpy(lent_bytes.plain, bytes, len);
+}
+
+/* Of the calls from the first one on: each one's words, and the bytes of all. */
+static void lend_calls(size_t first, size_t count)
 {
     static uint64_t words[4 * CALLS];
     static struct bytes bytes;
-    static struct room words_room, bytes_room, file_room;
-    if (words_room.len == 0) {
-        words_room = make_room(sizeof words);
-        bytes_room = make_room(BYTES_MAX);
-        file_room = make_room(BYTES_MAX);
-    }
     bytes.len = 0;
     for (size_t i = 0; i < count; i++) {
-        words[4 * i] = calls[i].kind;
-        words[4 * i + 1] = calls[i].vip;
+        const struct ref_call *call = &calls[first + i];
+        words[4 * i] = call->kind;
+        words[4 * i + 1] = call->vip;
         words[4 * i + 2] = bytes.len;
-        put_bytes(&bytes, calls[i].bytes, calls[i].len);
+        put_bytes(&bytes, call->bytes, call->len);
         words[4 * i + 3] = bytes.len;
     }
-    struct lent lent_words = lend(&words_room, 32 * count, true);
-    struct lent lent_bytes = lend(&bytes_room, bytes.len, below(2) == 0);
-    struct lent lent_file = lend(&file_room, file->len, below(2) == 0);
-    memcpy(lent_words.plain, words, 32 * count);
-    memcpy(lent_bytes.plain, bytes.at, bytes.len);
-    memcpy(lent_file.plain, file->at, file->len);
+    lend_list(words, 4 * count, bytes.at, bytes.len);
+}
 
-    lend_book(image.len, journal.len);
-    ref_forget();
-    vtil_answer want = ref_open(&twin, file->at, file->len);
-    for (size_t i = 0; i < count && (i > 0 || want.refusal == 0); i++) {
-        ref_forget();
-        want = ref_step(&twin, &calls[i]);
+static void lend_file(const struct bytes *file)
+{
+    lent_file = lend(&file_room, file->len, below(2) == 0);
+    memcpy(lent_file.plain, file->at, file->len);
+}
+
+/* What the reference answers and leaves, call by call. */
+static vtil_run_answer due_of_calls(size_t first, size_t count)
+{
+    vtil_run_answer due = {0, 0, twin.numbers};
+    for (size_t i = 0; i < count; i++) {
+        vtil_answer answer = ref_step(&twin, &calls[first + i]);
+        due.last = answer.refusal;
+        due.book = answer.book;
     }
+    return due;
+}
+
+static void hold_run(vtil_run_answer got, vtil_run_answer want)
+{
     next_case();
-    hold_answer(vtil_run(lent_file.readable, lent_file.len, image.writable, image.len, journal.writable, journal.len,
-                         (const uint64_t *)(const void *)lent_words.readable, 4 * count, lent_bytes.readable, lent_bytes.len),
-                want);
+    group.answers[want.refusal != 0 ? want.refusal : want.last]++;
+    hold("refusal", image.len, (int64_t)got.refusal, (int64_t)want.refusal);
+    hold("the last call's refusal", image.len, (int64_t)got.last, (int64_t)want.last);
+    hold_book(got.book, want.book);
     hold_bytes();
+}
+
+static vtil_run_answer library_run(void)
+{
+    return vtil_run(lent_file.readable, lent_file.len, image.writable, image.len, journal.writable, journal.len, LIST);
+}
+
+static vtil_run_answer library_run_on(vtil_book numbers)
+{
+    return vtil_run_on(numbers, image.writable, image.len, journal.writable, journal.len, LIST);
+}
+
+/* The first calls by vtil_run, in an image and a journal of the same lengths. */
+static void run_list(const struct bytes *file, size_t count)
+{
+    lend_calls(0, count);
+    lend_file(file);
+    lend_book(image.len, journal.len);
+    vtil_answer opened = ref_open(&twin, file->at, file->len);
+    vtil_run_answer want = {opened.refusal, 0, opened.book};
+    hold_run(library_run(), opened.refusal != 0 ? want : due_of_calls(0, count));
+}
+
+/* The calls from the first one on by vtil_run_on, on the book as it is. */
+static void run_list_on(size_t first, size_t count)
+{
+    vtil_book before = twin.numbers;
+    lend_calls(first, count);
+    vtil_run_answer want = due_of_calls(first, count);
+    hold_run(library_run_on(before), want);
+}
+
+/* The list in one call; parted, both parts by a run; and parted, the first part call by call. */
+static void run_in_parts(const struct bytes *file)
+{
+    size_t parted = below(CALLS + 1);
+    run_list(file, CALLS);
+    run_list(file, parted);
+    run_list_on(parted, CALLS - parted);
+    open_both(file);
+    for (size_t i = 0; i < parted; i++)
+        call_both(&calls[i]);
+    run_list_on(parted, CALLS - parted);
 }
 
 static void one_list(const struct bytes *file)
 {
     static uint8_t opened[BYTES_MAX];
-    size_t size = (size_t)reference_check(file->at, file->len);
+    size_t size = (size_t)ref_check(file->at, file->len);
     lend_book(size + below(5) * below(100), below(5) * below(150));
     if (!open_both(file))
         return;
     memcpy(opened, image.plain, image.len);
-    struct ref_machine machine = ref_machine_start(file->at, image.len, journal.len);
+    struct ref_machine *machine = ref_machine_start(file->at, file->len, image.len, journal.len);
     for (size_t i = 0; i < CALLS; i++) {
         make_call(i);
         vtil_answer answer = call_both(&calls[i]);
-        hold_machine(&machine, &calls[i], answer);
+        hold_machine(machine, &calls[i], answer);
         if (below(16) == 0)
             look_once(answer.book);
-        ref_forget();
     }
-    ref_machine_free(&machine);
+    ref_machine_free(machine);
     take_all_back(opened, size);
-    run_list(file, CALLS);
-    run_list(file, below(CALLS));
+    run_in_parts(file);
 }
 
 static void lists(void)
 {
     static const int answers[] = {0, 1, 2, 5, 6, 7, 8, 11, 12, 14, 15, 16, 17, -1};
     static struct bytes b;
-    begin("long lists of calls at tight lengths, against the machine, and the same by vtil_run");
+    begin("long lists of calls at tight lengths, against the machine, and the same by vtil_run and vtil_run_on");
     seed(7);
     for (int i = 0; i < LISTS; i++) {
         do
@@ -237,7 +307,7 @@ static void lists(void)
                 b = samples[below(sample_count)];
             else
                 make_good_routine(&b);
-        while (reference_check(b.at, b.len) < 0);
+        while (ref_check(b.at, b.len) < 0);
         one_list(&b);
     }
     end_of_random(10, answers);
@@ -252,14 +322,13 @@ static void changed_lengths(void)
     seed(12);
     for (int i = 0; i < LISTS; i++) {
         make_good_routine(&b);
-        lend_book((size_t)reference_check(b.at, b.len) + below(100), below(200));
+        lend_book((size_t)ref_check(b.at, b.len) + below(100), below(200));
         open_both(&b);
         for (size_t left = CALLS; left > 0; left--) {
             make_call(0);
             vtil_answer answer = call_both(&calls[0]);
             if (answer.refusal == 13)
                 hold("only an undo is refused 13", image.len, calls[0].kind, VTIL_UNDO);
-            ref_forget();
             if (below(3) == 0)
                 change_lengths((size_t)twin.numbers.written + below(3) * below(100),
                                (size_t)twin.numbers.used + below(3) * below(150));
@@ -268,70 +337,146 @@ static void changed_lengths(void)
     end_of_random(10, answers);
 }
 
-/* vtil_run at its edges: files that are refused, lists of no calls, words that stand for no part of the bytes. */
+/* The runs at their edges: files that are refused, lists of no calls, words that stand for no part of the bytes. */
 static void odd_runs(void)
 {
-    begin("vtil_run: refused openings and empty lists");
+    begin("vtil_run and vtil_run_on: refused openings and empty lists");
     seed(8);
     for (size_t i = 0; i < sample_count; i++) {
-        int64_t size = reference_check(samples[i].at, samples[i].len);
+        int64_t size = ref_check(samples[i].at, samples[i].len);
         lend_book(size < 0 ? 100 : (size_t)size + 40, 60);
         calls[0] = call_of(VTIL_CREATE, 77);
         run_list(&samples[i], 0);
+        run_list_on(0, 0);
         run_list(&samples[i], 1);
+        run_list_on(0, 0);
         lend_book(size < 1 ? 0 : (size_t)size - 1, 60);
         run_list(&samples[i], 1);
+        run_list_on(0, 0);
+        run_list_on(0, 1);
     }
     end();
 }
 
-/* The words are a list of calls, with at most the one call; or they are none, and call is NULL where they are not empty. */
-static void hold_words(const uint64_t *words, size_t count, const struct ref_call *call)
+static const uint8_t four_bytes[4] = {1, 0, 0, 0};
+
+static void make_smallest(struct bytes *smallest)
 {
-    static struct bytes smallest;
-    static const uint8_t bytes[4] = {1, 0, 0, 0};
-    vtil_answer want = {VTIL_NO_SUCH_BLOCK, {0, 0}};
-    smallest.len = 0;
-    put_front(&smallest);
-    put(&smallest, 4, 0);
-    lend_book(200, 60);
-    ref_forget();
-    if (count == 0 || call != NULL)
-        want = ref_open(&twin, smallest.at, smallest.len);
-    if (call != NULL)
-        want = ref_step(&twin, call);
-    next_case();
-    hold_answer(vtil_run(smallest.at, smallest.len, image.writable, image.len, journal.writable, journal.len, words, count,
-                         bytes, sizeof bytes),
-                want);
-    hold_bytes();
+    smallest->len = 0;
+    put_front(smallest);
+    put(smallest, 4, 0);
 }
 
-/* Words that are no list of calls are refused before anything is opened, and nothing is read outside the bytes. */
+/* No list of calls: no file is opened, a good one or one that is refused, and no book is changed, a good one or a spoiled one. */
+static void hold_no_list(const uint64_t *words, size_t count)
+{
+    static struct bytes smallest;
+    static const vtil_book spoiled = {.written = UINT64_MAX, .used = UINT64_MAX};
+    struct ref_call create = call_of(VTIL_CREATE, 9);
+    make_smallest(&smallest);
+    for (int cut = 0; cut < 2; cut++) {
+        lend_book(200, 60);
+        lend_list(words, count, four_bytes, sizeof four_bytes);
+        smallest.len -= (size_t)cut;
+        lend_file(&smallest);
+        hold_run(library_run(), (vtil_run_answer){VTIL_NO_SUCH_BLOCK, 0, {0}});
+    }
+    make_smallest(&smallest);
+    open_both(&smallest);
+    call_both(&create);
+    lend_list(words, count, four_bytes, sizeof four_bytes);
+    hold_run(library_run_on(twin.numbers), (vtil_run_answer){VTIL_NO_SUCH_BLOCK, 0, twin.numbers});
+    hold_run(library_run_on(spoiled), (vtil_run_answer){VTIL_NO_SUCH_BLOCK, 0, spoiled});
+}
+
+/* A list of one call, whose words need not be those that lend_calls makes. */
+static void hold_one_call(const uint64_t *words, const struct ref_call *call)
+{
+    static struct bytes smallest;
+    make_smallest(&smallest);
+    calls[0] = *call;
+    lend_book(200, 60);
+    lend_list(words, 4, four_bytes, sizeof four_bytes);
+    lend_file(&smallest);
+    ref_open(&twin, smallest.at, smallest.len);
+    vtil_run_answer want = due_of_calls(0, 1);
+    hold_run(library_run(), want);
+    vtil_book before = twin.numbers;
+    want = due_of_calls(0, 1);
+    hold_run(library_run_on(before), want);
+}
+
+/* Words that are no list of calls are refused before anything is opened or tested, and nothing is read outside the bytes. */
 static void odd_words(void)
 {
+    static const uint64_t two_calls[8] = {VTIL_CREATE, 5, 0, 0, VTIL_UNDO, 0, 0, 0};
     uint64_t odd[EXTREMES];
-    begin("vtil_run: parts outside the bytes, other kinds and words that do not come in fours are refused 15, and nothing changes");
+    begin("words that are no list of calls are refused 15 by vtil_run and vtil_run_on, and nothing changes");
+    seed(13);
     extremes(4, odd);
     for (int i = 0; i < EXTREMES; i++) {
         for (int j = 0; j < EXTREMES; j++) {
-            uint64_t words[4] = {VTIL_APPEND, 5, odd[i], odd[j]};
+            /* the second call's part, after a call that would be made */
+            uint64_t words[8] = {VTIL_CREATE, 5, 0, 0, VTIL_APPEND, 5, odd[i], odd[j]};
             if (odd[i] <= odd[j] && odd[j] <= 4)
                 continue;
-            hold_words(words, 4, NULL);
-            words[0] = VTIL_CREATE;
-            hold_words(words, 4, NULL);
+            hold_no_list(words + 4, 4);
+            hold_no_list(words, 8);
+            words[4] = VTIL_CREATE;
+            hold_no_list(words + 4, 4);
         }
-        uint64_t words[4] = {odd[i], 5, 0, 0};
-        if (odd[i] > 3)
-            hold_words(words, 4, NULL);
-        uint64_t create[4] = {VTIL_CREATE, 5, 0, 0};
-        hold_words(create, (size_t)i % 4, NULL);
+        uint64_t words[8] = {VTIL_CREATE, 5, 0, 0, odd[i], 6, 0, 0};
+        if (odd[i] > 3) {
+            hold_no_list(words + 4, 4);
+            hold_no_list(words, 8);
+        }
     }
-    uint64_t undo_words[4] = {VTIL_UNDO, 5, 4, 4};
-    struct ref_call undo = call_of(VTIL_UNDO, 5);
-    hold_words(undo_words, 4, &undo);
+    for (size_t count = 1; count < 8; count++)
+        if (count != 4)
+            hold_no_list(two_calls, count);
+    struct ref_call undo = call_of(VTIL_UNDO, 5), remove = call_of(VTIL_REMOVE, 5);
+    hold_one_call((const uint64_t[]){VTIL_UNDO, 5, 4, 4}, &undo);
+    hold_one_call((const uint64_t[]){VTIL_REMOVE, 5, 0, 4}, &remove);
     end();
+}
+
+/* Words of all sorts, of which some are lists: what they are, and what their calls do, is what the reference says. */
+static void random_words(void)
+{
+    static const int answers[] = {0, 1, 11, 12, 14, 15, 16, 17, -1};
+    static struct bytes b, bytes;
+    uint64_t words[24]; /* whole calls are made, of which the last may be cut */
+    begin("random words, by vtil_run and then others by vtil_run_on");
+    seed(14);
+    for (int i = 0; i < RANDOM_WORDS; i++) {
+        if (i % 16 == 0) {
+            make_good_routine(&b);
+            make_appended(&bytes);
+        }
+        size_t size = (size_t)ref_check(b.at, b.len);
+        lend_book(size + below(4) * 36 - below(8) / 7, below(100));
+        for (int on = 0; on < 2; on++) {
+            size_t count = below(8) == 0 ? below(24) : 4 * below(6);
+            for (size_t at = 0; at < count; at += 4) {
+                words[at] = below(32) == 0 ? near(3) : below(4);
+                words[at + 1] = some_vip();
+                words[at + 2] = below(16) == 0 ? near(0) : 0;
+                words[at + 3] = below(16) == 0 ? near(bytes.len) : bytes.len;
+            }
+            vtil_book before = twin.numbers;
+            struct ref_list list = {words, count, bytes.at, bytes.len};
+            lend_list(words, count, bytes.at, bytes.len);
+            lend_file(&b);
+            if (on == 0) {
+                vtil_run_answer want = ref_run(&twin, b.at, b.len, &list);
+                hold_run(library_run(), want);
+            } else {
+                vtil_run_answer want = ref_run_on(&twin, &list);
+                hold_run(library_run_on(before), want);
+            }
+        }
+    }
+    end_of_random(40, answers);
 }
 
 /* Books and images made by hand ---------------------------------------------------------------------- */
@@ -347,25 +492,30 @@ static void make_instruction_call(struct ref_call *call)
     call->len = nop.len;
 }
 
-/* Each kind of call on the book with these numbers, every time on the same bytes. */
+/* Each kind of call on the book with these numbers, every time on the same bytes; then all in a list. */
 static void call_each(vtil_book numbers)
 {
     static uint8_t kept_image[BYTES_MAX], kept_journal[BYTES_MAX];
     memcpy(kept_image, twin.image, image.len);
     memcpy(kept_journal, twin.journal, journal.len);
     twin.numbers = numbers;
-    ref_forget();
     uint64_t there = some_vip();
     for (int kind = VTIL_CREATE; kind <= VTIL_UNDO; kind++) {
         struct ref_call call = call_of((enum vtil_call)kind, kind == VTIL_CREATE ? 0x1234567 : there);
         if (kind == VTIL_APPEND)
             make_instruction_call(&call);
         twin.numbers = numbers;
+        calls[kind] = call;
         call_both(&call);
         memcpy(twin.image, kept_image, image.len);
         memcpy(twin.journal, kept_journal, journal.len);
         copy_twin();
     }
+    twin.numbers = numbers;
+    run_list_on(0, 4);
+    memcpy(twin.image, kept_image, image.len);
+    memcpy(twin.journal, kept_journal, journal.len);
+    copy_twin();
     twin.numbers = numbers;
 }
 
@@ -375,7 +525,7 @@ static void hand_made_books(void)
     seed(9);
     for (size_t i = 0; i < sample_count; i++) {
         uint64_t written[EXTREMES], used[EXTREMES];
-        int64_t size = reference_check(samples[i].at, samples[i].len);
+        int64_t size = ref_check(samples[i].at, samples[i].len);
         if (size < 0)
             continue;
         lend_book((size_t)size + 40, 60);
@@ -384,7 +534,7 @@ static void hand_made_books(void)
         extremes(journal.len, used);
         for (int w = 0; w < EXTREMES; w++)
             for (int u = 0; u < EXTREMES; u++)
-                call_each((vtil_book){written[w], used[u]});
+                call_each((vtil_book){.written = written[w], .used = used[u]});
     }
     end();
 }
@@ -394,7 +544,7 @@ static void spoiled_images(void)
     static const uint8_t values[] = {0, 1, 2, 0xff};
     begin("images with one byte changed");
     for (size_t i = 0; i < sample_count; i++) {
-        int64_t size = reference_check(samples[i].at, samples[i].len);
+        int64_t size = ref_check(samples[i].at, samples[i].len);
         if (size < 0)
             continue;
         lend_book((size_t)size + 40, 300);
@@ -422,14 +572,6 @@ static void put_at(uint8_t *at, size_t width, uint64_t value)
         at[i] = (uint8_t)(value >> (8 * i));
 }
 
-/* A number near `middle`, or an extreme one. */
-static uint64_t near(uint64_t middle)
-{
-    uint64_t odd[EXTREMES];
-    extremes(middle, odd);
-    return below(3) == 0 ? odd[below(EXTREMES)] : middle + below(3) - 1;
-}
-
 /* Damages the last entry, or puts another in its place; some stay as they were. */
 static void damage_entry(void)
 {
@@ -451,7 +593,7 @@ static void damage_entry(void)
 
 static void one_journal(const struct bytes *file)
 {
-    lend_book((size_t)reference_check(file->at, file->len) + below(200), 200 + below(2000));
+    lend_book((size_t)ref_check(file->at, file->len) + below(200), 200 + below(2000));
     if (!open_both(file))
         return;
     for (uint64_t left = 1 + below(5); left > 0; left--) {
@@ -507,7 +649,7 @@ static void noise_journals(void)
     for (int i = 0; i < DAMAGED_JOURNALS; i++) {
         if (i % 64 == 0)
             make_good_routine(&b);
-        lend_book((size_t)reference_check(b.at, b.len) + below(100), 20 + below(400));
+        lend_book((size_t)ref_check(b.at, b.len) + below(100), 20 + below(400));
         open_both(&b);
         for (size_t at = 0; at < journal.len; at++)
             twin.journal[at] = (uint8_t)(below(2) ? below(4) : below(256));
@@ -523,6 +665,23 @@ static void noise_journals(void)
 
 /* Lendings over the limit, of no bytes, and at the limit ------------------------------------------------- */
 
+static void hold_answer_of_run(vtil_run_answer got, uint64_t refusal, uint64_t last, vtil_book book)
+{
+    next_case();
+    hold("refusal", 0, (int64_t)got.refusal, (int64_t)refusal);
+    hold("the last call's refusal", 0, (int64_t)got.last, (int64_t)last);
+    hold_book(got.book, book);
+}
+
+/* The calls of a list test the book, an empty list does not, and what is no list comes first. */
+static void hold_run_on(uint8_t *at, size_t image_len, uint8_t *to, size_t journal_len, vtil_book book, uint64_t want)
+{
+    const uint64_t words[8] = {VTIL_CREATE, 5, 0, 0, VTIL_UNDO, 0, 0, 0};
+    hold_answer_of_run(vtil_run_on(book, at, image_len, to, journal_len, words, 8, NULL, 0), 0, want, book);
+    hold_answer_of_run(vtil_run_on(book, at, image_len, to, journal_len, words, 0, NULL, 0), 0, 0, book);
+    hold_answer_of_run(vtil_run_on(book, at, image_len, to, journal_len, words, 7, NULL, 0), 15, 0, book);
+}
+
 static void hold_each(uint8_t *at, size_t image_len, uint8_t *to, size_t journal_len, vtil_book book, uint64_t want)
 {
     const vtil_answer got[] = {
@@ -534,15 +693,15 @@ static void hold_each(uint8_t *at, size_t image_len, uint8_t *to, size_t journal
     for (int i = 0; i < 4; i++) {
         next_case();
         hold("refusal", (size_t)i, (int64_t)got[i].refusal, (int64_t)want);
-        hold("the book handed back, written", (size_t)i, (int64_t)got[i].book.written, (int64_t)book.written);
-        hold("the book handed back, used", (size_t)i, (int64_t)got[i].book.used, (int64_t)book.used);
+        hold_book(got[i].book, book);
     }
+    hold_run_on(at, image_len, to, journal_len, book, want);
 }
 
 static void odd_lendings(const struct room *room)
 {
     static const size_t lengths[] = {VTIL_MOST_LENT + 1, (size_t)1 << 32, (size_t)1 << 63, SIZE_MAX};
-    static const vtil_book books[] = {{114, 0}, {0, 0}, {UINT64_MAX, UINT64_MAX}};
+    static const vtil_book books[] = {{.written = 114}, {0}, {.written = UINT64_MAX, .used = UINT64_MAX}};
     begin("lendings over the limit, without access (10), and of no bytes (13)");
     for (size_t b = 0; b < 3; b++) {
         for (size_t i = 0; i < sizeof lengths / sizeof lengths[0]; i++) {
@@ -552,9 +711,12 @@ static void odd_lendings(const struct room *room)
         hold_each(NULL, 0, NULL, 0, books[b], 13);
         hold_each(no_access(room), 0, no_access(room), 0, books[b], 13);
     }
-    next_case();
-    vtil_answer run = vtil_run(samples[0].at, samples[0].len, no_access(room), VTIL_MOST_LENT + 1, NULL, 0, NULL, 0, NULL, 0);
-    hold("run", 0, (int64_t)run.refusal, 10);
+    const uint64_t no_list[1] = {0};
+    hold_answer_of_run(vtil_run(samples[0].at, samples[0].len, no_access(room), VTIL_MOST_LENT + 1, NULL, 0, NULL, 0, NULL, 0),
+                       10, 0, (vtil_book){0});
+    hold_answer_of_run(
+        vtil_run(samples[0].at, samples[0].len, no_access(room), VTIL_MOST_LENT + 1, NULL, 0, no_list, 1, NULL, 0), 15, 0,
+        (vtil_book){0});
     end();
 }
 
@@ -562,8 +724,7 @@ static void hold_one(const char *what, vtil_answer got, uint64_t refusal, uint64
 {
     next_case();
     hold(what, 0, (int64_t)got.refusal, (int64_t)refusal);
-    hold(what, 1, (int64_t)got.book.written, (int64_t)written);
-    hold(what, 2, (int64_t)got.book.used, (int64_t)used);
+    hold_book(got.book, (vtil_book){.written = written, .used = used});
 }
 
 /* As many empty blocks as an image at the limit has room for; the reference would take too long, but the answers are plain. */
@@ -608,6 +769,9 @@ int main(int argc, char **argv)
     sample_count = load_samples(argv + 1, &samples);
     set_up_book_pair();
     instruction_room = make_room(BYTES_MAX);
+    words_room = make_room(4 * CALLS * sizeof(uint64_t));
+    bytes_room = make_room(BYTES_MAX);
+    file_room = make_room(BYTES_MAX);
     struct room untouched = make_room(1);
 
     instances();
@@ -615,6 +779,7 @@ int main(int argc, char **argv)
     changed_lengths();
     odd_runs();
     odd_words();
+    random_words();
     hand_made_books();
     spoiled_images();
     damaged_journals();

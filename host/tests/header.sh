@@ -3,7 +3,7 @@
 # The current folder is the repository root.
 set -u
 script=header
-. host/tests/count.sh
+. tests/count.sh
 archive=$1
 scratch=$2
 CC=${CC:-cc}
@@ -17,15 +17,11 @@ try() {
     if "$@"; then pass "$name"; else fail "$name"; fi
 }
 
-# The numbers of document 01's refusals, in their order, and those of the kinds of calls.
+# The numbers of the refusals, as the library's definitions list them, and those of the kinds of calls.
 number_asserts() {
-    local number=0 word
-    for word in SHORT_FILE NAME_NOT_TEXT WRONG_MARK UNKNOWN_MACHINE FOREIGN_REGISTER UNKNOWN_OPERAND_KIND \
-        UNKNOWN_OPERATION WRONG_OPERAND_COUNT REPEATED_BLOCK LENDING_TOO_LARGE IMAGE_FULL JOURNAL_FULL \
-        SPOILED_BOOK BLOCK_PRESENT NO_SUCH_BLOCK NOTHING_TO_TAKE_BACK LEFTOVER; do
-        number=$((number + 1))
-        printf 'static_assert(VTIL_%s == %d, "%s");\n' "$word" "$number" "$word"
-    done
+    local number word
+    sed -nE 's/^([a-z-]+) = ([0-9]+)$/\1 \2/p' crates/fields/specs/Refusals.antt | tr 'a-z-' 'A-Z_' |
+        while read -r word number; do printf 'static_assert(VTIL_%s == %d, "%s");\n' "$word" "$number" "$word"; done
     number=0
     for word in CREATE REMOVE APPEND UNDO; do
         printf 'static_assert(VTIL_%s == %d, "%s");\n' "$word" "$number" "$word"
@@ -52,6 +48,7 @@ vip_look 16
 convention_look 72
 register_look 32
 written 16
+run_answer 32
 END
 }
 
@@ -91,7 +88,7 @@ readme_example_long() {
 
 write_sources
 try "alone as C11, included twice" "$CC" -std=c11 "${strict[@]}" -fsyntax-only "$scratch/alone.c"
-try "the numbers of the 17 refusals and the 4 kinds of calls" "$CC" -std=c11 "${strict[@]}" -fsyntax-only "$scratch/numbers.c"
+try "the numbers of the refusals and of the kinds of calls" "$CC" -std=c11 "${strict[@]}" -fsyntax-only "$scratch/numbers.c"
 try "the sizes of the structs" "$CC" -std=c11 "${strict[@]}" -fsyntax-only "$scratch/sizes.c"
 if command -v "$CXX" >/dev/null; then
     try "alone as C++17, included twice" "$CXX" -x c++ -std=c++17 "${strict[@]}" -fsyntax-only "$scratch/alone.c"

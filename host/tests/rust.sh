@@ -3,7 +3,7 @@
 # repository root.
 set -u
 script=rust
-. host/tests/count.sh
+. tests/count.sh
 
 # The functions that the header and the crate declare, one a line.
 header_functions() { grep -oE '\bvtil_[a-z_]+\(' include/vtil.h | sort; }

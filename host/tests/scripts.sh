@@ -2,7 +2,7 @@
 # scripts.sh ARCHIVE SCRATCH: run.sh, in a copy of what it needs. The current folder is the repository root.
 set -u
 script=scripts
-. host/tests/count.sh
+. tests/count.sh
 archive=$(realpath "$1")
 scratch=$(realpath "$2")
 

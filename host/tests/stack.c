@@ -191,17 +191,36 @@ static void undo(void)
     take(vtil_undo(LENT));
 }
 
-static void run_list(void)
+static void take_run(vtil_run_answer answer)
 {
-    const uint64_t words[] = {
+    refusal = answer.refusal != 0 ? answer.refusal : answer.last;
+    book = answer.book;
+}
+
+#define CALLS 4
+static uint64_t words[4 * CALLS];
+
+static void make_list(void)
+{
+    const uint64_t list[4 * CALLS] = {
         VTIL_CREATE, NEW,       0, 0,
         VTIL_APPEND, NEW,       0, nop.len,
         VTIL_REMOVE, vip_of(1), 0, 0,
         VTIL_UNDO,   0,         0, 0,
     };
+    memcpy(words, list, sizeof list);
+}
+
+static void run_list(void)
+{
     MARK_TOP();
-    take(vtil_run(file, file_len, image, image_len, journal, journal_len, words, sizeof words / sizeof words[0], nop.at,
-                  nop.len));
+    take_run(vtil_run(file, file_len, image, image_len, journal, journal_len, words, 4 * CALLS, nop.at, nop.len));
+}
+
+static void run_list_on(void)
+{
+    MARK_TOP();
+    take_run(vtil_run_on(LENT, words, 4 * CALLS, nop.at, nop.len));
 }
 
 /* Measuring ------------------------------------------------------------------------------------- */
@@ -246,6 +265,7 @@ int main(void)
 {
     set_up_groups("stack");
     make_file();
+    make_list();
     run_list(); /* functions of the C library are bound at their first call, which takes stack of its own */
     measure("vtil_check", check);
     measure("vtil_open", open_file);
@@ -262,6 +282,7 @@ int main(void)
     measure("vtil_undo, a create", undo);
     measure("vtil_remove_block", remove_one);
     measure("vtil_undo, a remove", undo);
+    measure("vtil_run_on", run_list_on);
     measure("vtil_run", run_list);
     return finish();
 }

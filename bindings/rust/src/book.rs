@@ -4,15 +4,19 @@ use crate::look::{Block, Convention, Links, Overview, Registers};
 use crate::refusal::{accepted, Refusal};
 use crate::value::{Instruction, Register, Vip};
 
+/// What the last call of a list answers. Those before it were made too, whatever it says.
+pub type Last = Result<(), Refusal>;
+
 /// An open routine in an image and a journal whose lengths stay as they are: memory that the caller lends
 /// (`Book<&mut [u8]>`) or hands over (`Book<Vec<u8>>`). The image holds the routine's written form and then zeros,
 /// the journal what [`Book::undo`] needs. Image and journal have at most [`MOST_LENT`](crate::MOST_LENT) bytes each.
 ///
 /// Every call is the library's call of that name, on the memory as it is lent: nothing is copied or allocated, but
-/// for the operands of an [`Instruction`] that is looked at and the list that [`Book::run`] encodes. Refusals come in
-/// the order in which they are listed. Before those of the call itself there are two more: 10, the image or the
-/// journal is too long; 13, the lengths, the image and the journal do not fit each other, which happens only to a book
-/// from [`Book::resume`], and after a [`Book::reopen`] or a [`Book::run`] whose opening was refused.
+/// for the operands of an [`Instruction`] that is looked at and the list that [`Book::run`] or [`Book::run_on`]
+/// encodes. Refusals come in the order in which they are listed. Before those of the call itself there are two more:
+/// 10, the image or the journal is too long; 13, the lengths, the image and the journal do not fit each other, which
+/// happens only to a book from [`Book::resume`], and after a [`Book::reopen`] or a [`Book::run`] whose opening was
+/// refused.
 ///
 /// A refused edit leaves the book as it was. Every call reads the whole image: its time grows with the image.
 #[derive(Clone, Debug)]
@@ -252,13 +256,13 @@ impl<M: AsMut<[u8]>> Book<M> {
     /// changes nothing and the next one follows all the same. The list is encoded for the library first, which
     /// allocates.
     ///
-    /// Answers what the last call of the list answers; where the list is empty or the opening is refused, what the
-    /// opening answers. No call is run after a refused opening, which leaves the book as a refused [`Book::reopen`]
-    /// does.
-    pub fn run(&mut self, file: &[u8], calls: &[Call]) -> Result<(), Refusal> {
+    /// Answers what the last call of the list answers; where the list is empty, that it was accepted.
+    ///
+    /// Refusals: as [`Book::open`]. No call is run then, and the book is left as a refused [`Book::reopen`] leaves it.
+    pub fn run(&mut self, file: &[u8], calls: &[Call]) -> Result<Last, Refusal> {
         let Encoded { words, bytes } = Encoded::of(calls);
         // SAFETY: as in `reopen`.
-        self.call(|_, image, journal| unsafe {
+        self.list(|_, image, journal| unsafe {
             c::vtil_run(
                 file.as_ptr(),
                 file.len(),
@@ -274,10 +278,40 @@ impl<M: AsMut<[u8]>> Book<M> {
         })
     }
 
+    /// Runs a list of calls on the routine that is open, as [`Book::run`] does.
+    ///
+    /// Answers what the last call of the list answers; where the list is empty, that it was accepted.
+    pub fn run_on(&mut self, calls: &[Call]) -> Last {
+        let Encoded { words, bytes } = Encoded::of(calls);
+        // SAFETY: as in `reopen`.
+        let run = self.list(|book, image, journal| unsafe {
+            c::vtil_run_on(
+                book,
+                image.as_mut_ptr(),
+                image.len(),
+                journal.as_mut_ptr(),
+                journal.len(),
+                words.as_ptr(),
+                words.len(),
+                bytes.as_ptr(),
+                bytes.len(),
+            )
+        });
+        run.expect("the library takes every list that is encoded")
+    }
+
     /// The lengths are those that the library answers, of a refused call too.
     fn call(&mut self, call: impl FnOnce(Lengths, &mut [u8], &mut [u8]) -> c::Answer) -> Result<(), Refusal> {
         let answer = call(self.lengths, self.image.as_mut(), self.journal.as_mut());
         self.lengths = answer.book;
         accepted(answer.refusal)
+    }
+
+    /// As `call`, of a run over a list.
+    fn list(&mut self, run: impl FnOnce(Lengths, &mut [u8], &mut [u8]) -> c::RunAnswer) -> Result<Last, Refusal> {
+        let answer = run(self.lengths, self.image.as_mut(), self.journal.as_mut());
+        self.lengths = answer.book;
+        accepted(answer.refusal)?;
+        Ok(accepted(answer.last))
     }
 }

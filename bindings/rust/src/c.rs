@@ -19,6 +19,13 @@ pub struct Answer {
 }
 
 #[repr(C)]
+pub struct RunAnswer {
+    pub refusal: u64,
+    pub last: u64,
+    pub book: Lengths,
+}
+
+#[repr(C)]
 #[derive(Clone, Copy, Default)]
 pub struct ImmediateDesc {
     pub value: u64,
@@ -120,6 +127,7 @@ pub const UNDO: u64 = 3;
 const _: () = {
     assert!(size_of::<Lengths>() == 16);
     assert!(size_of::<Answer>() == 24);
+    assert!(size_of::<RunAnswer>() == 32);
     assert!(size_of::<ImmediateDesc>() == 16);
     assert!(size_of::<RegisterDesc>() == 24);
     assert!(size_of::<OperandDesc>() == 48);
@@ -234,5 +242,16 @@ extern "C" {
         words_len: usize,
         bytes: *const u8,
         bytes_len: usize,
-    ) -> Answer;
+    ) -> RunAnswer;
+    pub fn vtil_run_on(
+        book: Lengths,
+        image: *mut u8,
+        image_len: usize,
+        journal: *mut u8,
+        journal_len: usize,
+        words: *const u64,
+        words_len: usize,
+        bytes: *const u8,
+        bytes_len: usize,
+    ) -> RunAnswer;
 }

@@ -40,7 +40,7 @@ mod refusal;
 mod routine;
 mod value;
 
-pub use book::Book;
+pub use book::{Book, Last};
 pub use c::Lengths;
 pub use list::Call;
 pub use look::{Block, Convention, Links, Overview, Registers};
@@ -59,7 +59,9 @@ pub fn check(file: &[u8]) -> Result<usize, Refusal> {
     let answer = unsafe { check_raw(file.as_ptr(), file.len()) };
     match usize::try_from(answer) {
         Ok(consumed) => Ok(consumed),
-        Err(_) => Err(Refusal::from_number(answer.unsigned_abs()).expect("a refusal is a number from 1 to 17")),
+        Err(_) => {
+            Err(Refusal::from_number(answer.unsigned_abs()).expect("the library refuses by the number of a refusal"))
+        }
     }
 }
 

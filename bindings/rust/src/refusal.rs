@@ -1,6 +1,6 @@
 use std::fmt;
 
-/// Why a call was refused: document 01's numbers and words.
+/// Why a call was refused: the numbers and words of docs/SPEC.md.
 #[derive(Clone, Copy, Debug, PartialEq, Eq, Hash)]
 #[repr(u64)]
 pub enum Refusal {
@@ -25,7 +25,7 @@ pub enum Refusal {
 
 use Refusal::*;
 
-const ALL: [Refusal; 17] = [
+const ALL: &[Refusal] = &[
     ShortFile,
     NameNotText,
     WrongMark,
@@ -46,14 +46,14 @@ const ALL: [Refusal; 17] = [
 ];
 
 impl Refusal {
-    /// The number, 1 to 17.
+    /// The number.
     pub fn number(self) -> u64 {
         self as u64
     }
 
     /// The refusal with this number.
     pub fn from_number(number: u64) -> Option<Refusal> {
-        ALL.into_iter().find(|refusal| refusal.number() == number)
+        ALL.iter().copied().find(|refusal| refusal.number() == number)
     }
 
     /// The words for it.
@@ -93,5 +93,5 @@ pub(crate) fn accepted(number: u64) -> Result<(), Refusal> {
     if number == 0 {
         return Ok(());
     }
-    Err(Refusal::from_number(number).expect("the library refuses by a number from 1 to 17"))
+    Err(Refusal::from_number(number).expect("the library refuses by the number of a refusal"))
 }

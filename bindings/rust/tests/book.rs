@@ -174,31 +174,61 @@ fn a_spoiled_book_is_refused() {
     assert_eq!(long.block(0), Err(Refusal::LendingTooLarge));
 }
 
-/// A list leaves what its calls leave one by one, and answers what the last one answers.
-#[test]
-fn a_list_is_run() {
-    let (file, nop) = (sample("minimal"), nop().to_bytes().unwrap());
-    let calls = [
+/// Calls of each kind, of which the third and the last are refused.
+fn some_calls(nop: &[u8]) -> [Call<'_>; 6] {
+    [
         Call::Create(Vip(1)),
-        Call::Append(Vip(1), &nop),
+        Call::Append(Vip(1), nop),
         Call::Append(Vip(1), &nop[..31]),
         Call::Create(Vip(2)),
         Call::Undo,
         Call::Remove(Vip(3)),
-    ];
+    ]
+}
+
+/// A list leaves what its calls leave one by one, and answers what the last one answers.
+#[test]
+fn a_list_is_run() {
+    let (file, nop) = (sample("minimal"), nop().to_bytes().unwrap());
+    let calls = some_calls(&nop);
     let mut one_by_one = Book::open(&file, image_before(300), journal_before(100)).unwrap();
     one_by_one.create_block(Vip(1)).unwrap();
     one_by_one.append(Vip(1), &nop).unwrap();
     let mut book = Book::resume(Lengths::default(), image_before(300), journal_before(100));
-    assert_eq!(book.run(&file, &calls), Err(Refusal::NoSuchBlock));
+    assert_eq!(book.run(&file, &calls), Ok(Err(Refusal::NoSuchBlock)));
     assert_eq!(book.lengths(), one_by_one.lengths());
     assert_eq!((book.image(), book.journal()), (one_by_one.image(), one_by_one.journal()));
 
-    assert_eq!(book.run(&file, &calls[..5]), Ok(()));
-    assert_eq!(book.run(&file, &calls[..3]), Err(Refusal::ShortFile));
-    assert_eq!((book.run(&file, &[]), book.lengths()), (Ok(()), lengths(MINIMAL, 0)));
+    assert_eq!(book.run(&file, &calls[..5]), Ok(Ok(())));
+    assert_eq!(book.run(&file, &calls[..3]), Ok(Err(Refusal::ShortFile)));
+    assert_eq!((book.run(&file, &[]), book.lengths()), (Ok(Ok(())), lengths(MINIMAL, 0)));
     assert_eq!(book.run(&[], &calls), Err(Refusal::ShortFile));
     assert_eq!((book.lengths(), book.image()[..MINIMAL].to_vec()), (lengths(0, 0), file));
+}
+
+/// The same on a book that is there, wherever the list is parted.
+#[test]
+fn a_list_is_run_on_a_book() {
+    let (file, nop) = (sample("minimal"), nop().to_bytes().unwrap());
+    let calls = some_calls(&nop);
+    let open = || Book::open(&file, image_before(300), journal_before(100)).unwrap();
+    let mut whole = open();
+    assert_eq!(whole.run(&file, &calls), Ok(Err(Refusal::NoSuchBlock)));
+    for parted in 0..calls.len() {
+        let mut book = open();
+        let first = book.run_on(&calls[..parted]);
+        assert_eq!(first, if parted == 3 { Err(Refusal::ShortFile) } else { Ok(()) }, "{parted}");
+        assert_eq!(book.run_on(&calls[parted..]), Err(Refusal::NoSuchBlock), "{parted}");
+        assert_eq!(book.lengths(), whole.lengths(), "{parted}");
+        assert_eq!((book.image(), book.journal()), (whole.image(), whole.journal()), "{parted}");
+    }
+    let before = whole.clone();
+    assert_eq!((whole.run_on(&[]), whole.lengths()), (Ok(()), before.lengths()));
+    assert_eq!((whole.image(), whole.journal()), (before.image(), before.journal()));
+
+    let mut spoiled = Book::resume(lengths(MINIMAL - 1, 0), file.clone(), journal_before(20));
+    assert_eq!(spoiled.run_on(&calls), Err(Refusal::SpoiledBook));
+    assert_eq!((spoiled.lengths(), spoiled.image()), (lengths(MINIMAL - 1, 0), &file[..]));
 }
 
 #[test]

@@ -3,11 +3,21 @@ use mathlib.Core.Path.{_≡_}
 use mathlib.Core.List.{List}
 use Prim.Native.Nat.{ℕ}
 use lib.ListN.{length}
+use lib.Dec.{ltb}
+use Rattle.fields.specs.Refusals.{leftover}
 use Rattle.fields.specs.Parse.{ok}
+use Rattle.fields.specs.Outcome.{Outcome, accepted, _>>=_, _>>_, refuse-if, what-is-read}
 use Rattle.pod.specs.Values.{Instruction}
-use Rattle.pod.specs.Layout.{instruction, as-it-comes}
+use Rattle.pod.specs.Layout.{instruction}
 
 -- one instruction, and nothing after it
 pub record Whole (s : List ℕ) : Type 0 where
   pub x : Instruction
-  pub read : instruction as-it-comes s 0 ≡ ok x (length s)
+  pub read : instruction s 0 ≡ ok x (length s)
+
+-- that instruction, or why there is none: what reading refuses, then 17
+unfoldable pub one-instruction : List ℕ → Outcome Instruction
+one-instruction s = do
+  x ← what-is-read (instruction s 0)
+  refuse-if (ltb (x .1) (length s)) leftover
+  accepted (x .0)

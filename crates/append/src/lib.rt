@@ -2,93 +2,65 @@
 //
 // append has a `requires` that the state is sound: it is for the crate above, whose call inspects the lent image and the book first.
 ghost use mathlib.Core.Path.{_≡_};
-ghost use Prim.Native.Nat.{_+_, _≤_, _<_};
+ghost use Prim.Native.Nat.{ℕ, _+_, _≤_, _<_};
 ghost use lib.ListN.{length};
 ghost use Rattle.fields.specs.Bytes.{put};
 ghost use Rattle.laws.specs.Normal.{normalise, last-flag};
+ghost use Rattle.pod.specs.Values.{Routine};
 ghost use Rattle.machine.specs.Edits.{append};
 ghost use Rattle.machine.specs.Machine.{edit};
-ghost use Rattle.machine.specs.Book.{step};
-ghost use Rattle.book.specs.Says.{state, outcome};
+ghost use Rattle.machine.specs.Book.{in-image, step};
+ghost use Rattle.book.specs.Says.{state, outcome, refusal-of};
 ghost use Rattle.book.specs.Holding.{Is-sound};
-ghost use Rattle.append.specs.Whole.{Whole};
+ghost use Rattle.append.specs.Whole.{Whole, one-instruction};
+ghost use Rattle.append.specs.Target.{Target, Is-target, with-one};
 use book::Answer;
 use book::Book;
-use fields::Skip;
+use fields::Walked;
 use pod::Vip;
 
-// The bytes of an instruction over those from `at` on; of its last, the sp reset, 0 or 1 is stored.
+// The refusal of bytes that are not one instruction, or 0: what reading them refuses, then 17.
+fn refusal_of_bytes(instruction: &[u8]) -> u64
+    ensures { λ r. ⌜ r ≡ refusal-of (one-instruction (now (instruction .entry))) ⌝ }
+{
+    let far = instruction::instruction_skip(instruction, 0);
+    if let Walked::Past(end, _) = far {
+        if end < instruction.len() {
+            return book::LEFTOVER;
+        }
+        0
+    } else {
+        fields::walked_refusal(far) as u64
+    }
+}
+
+// The bytes of an instruction over those from `at` on; of its last, the sp reset, the written form is stored.
 fn put_instruction(image: &mut [u8], at: usize, instruction: &[u8])
     requires { ⌜ (0 < length (now instruction)) × (at + length (now instruction) ≤ length (now image)) ⌝ }
     ensures { λ _. ⌜ now (image .exit) ≡ put at (normalise (last-flag (now (instruction .entry))) (now (instruction .entry))) (now (image .entry)) ⌝ }
 {
     let last = instruction.len() - 1;
     buffer::copy_at(image, at, instruction);
-    if instruction[last] == 0 {
-        return;
-    }
-    buffer::put_u8(image, at + last, 1);
+    let came = instruction[last];
+    let reset = value::flag_bit(came);
+    buffer::put_u8(image, at + last, reset);
 }
 
-// One instruction goes last in the block with the vip: what stands after the block's instructions moves up to make room.
-fn append_whole(
-    book: Book,
-    image: &mut [u8],
-    journal: &mut [u8],
-    vip: Vip,
-    instruction: &[u8],
-) -> Answer
-    requires { ⌜ Is-sound (state (now image) (now journal) book) × Whole (now instruction) ⌝ }
-    ensures { λ r. ⌜ outcome r (now (image .exit)) (now (journal .exit)) ≡ step (edit (append (vip .0) (now (instruction .entry)))) (state (now (image .entry)) (now (journal .entry)) book) ⌝ }
+// One instruction goes last in the block that begins at `at`: what stands after the block's instructions moves up to make room.
+fn insert_instruction(image: &mut [u8], at: usize, written: usize, instruction: &[u8])
+    requires { ⌜ Is-target (now image) written at × (Whole (now instruction) × (written + length (now instruction) ≤ length (now image))) ⌝ }
+    ensures { λ _. ⌜ ((x : Routine) (i : ℕ) (y : Whole (now (instruction .entry))) → Target (now (image .entry)) written at x i
+        → now (image .exit) ≡ in-image (length (now (image .entry))) (with-one x i (y .x))) ⌝ }
 {
-    let written = book.written as usize;
-    let used = book.used as usize;
     let size = instruction.len();
-    let cost = journal::TRAILER_SIZE;
-    let found = image::find(image, vip);
-    let place = found.place;
-    let at = found.at;
-    if found.count as usize <= place {
-        return Answer {
-            refusal: book::NO_SUCH_BLOCK,
-            book,
-        };
-    }
-    if image.len() - written < size {
-        return Answer {
-            refusal: book::IMAGE_FULL,
-            book,
-        };
-    }
-    if journal.len() - used < cost {
-        return Answer {
-            refusal: book::JOURNAL_FULL,
-            book,
-        };
-    }
-    let count = ends::word32(image, at + image::COUNT_AT);
+    let count = ends::word32(image, at + ends::BLOCK_HEAD_SIZE);
     let end = image::instructions_end(image, at);
     buffer::move_within(image, end, end + size, written - end);
     put_instruction(image, end, instruction);
-    buffer::put_u32(image, at + image::COUNT_AT, count + 1);
-    journal::put_trailer(
-        journal,
-        used,
-        vip,
-        place as u32,
-        size as u32,
-        journal::APPEND,
-    );
-    Answer {
-        refusal: 0,
-        book: Book {
-            written: (written + size) as u64,
-            used: (used + cost) as u64,
-        },
-    }
+    buffer::put_u32(image, at + ends::BLOCK_HEAD_SIZE, count + 1);
 }
 
-// The instruction that `instruction` is, and nothing after it, goes last in the block with the vip.
+// The instruction that `instruction` is, and nothing after it, goes last in the block with the vip: what reading refuses, 17, 15, then 11, 12.
 pub fn append(
     book: Book,
     image: &mut [u8],
@@ -99,19 +71,32 @@ pub fn append(
     requires { ⌜ Is-sound (state (now image) (now journal) book) ⌝ }
     ensures { λ r. ⌜ outcome r (now (image .exit)) (now (journal .exit)) ≡ step (edit (append (vip .0) (now (instruction .entry)))) (state (now (image .entry)) (now (journal .entry)) book) ⌝ }
 {
-    let far = instruction::instruction_skip(instruction, 0, false);
-    if let Skip::Past(end) = far {
-        if end < instruction.len() {
-            return Answer {
-                refusal: book::LEFTOVER,
-                book,
-            };
-        }
-        append_whole(book, image, journal, vip, instruction)
-    } else {
-        Answer {
-            refusal: fields::skip_refusal(far) as u64,
-            book,
-        }
+    let unfit = refusal_of_bytes(instruction);
+    if unfit != 0 {
+        return book::refuse(book, unfit);
     }
+    let found = image::find(image, vip);
+    let place = found.place;
+    if found.count as usize <= place {
+        return book::refuse(book, book::NO_SUCH_BLOCK);
+    }
+    let written = book.written as usize;
+    let used = book.used as usize;
+    let size = instruction.len();
+    let grown = written + size;
+    let spent = used + journal::TRAILER_SIZE;
+    let refusal = book::admit(image.len(), journal.len(), grown, spent);
+    if refusal != 0 {
+        return book::refuse(book, refusal);
+    }
+    insert_instruction(image, found.at, written, instruction);
+    journal::put_trailer(
+        journal,
+        used,
+        vip,
+        place as u32,
+        size as u32,
+        journal::APPEND,
+    );
+    book::accept(grown, spent)
 }

@@ -1,28 +1,31 @@
 // Blocks.
 ghost use mathlib.Core.Path.{_≡_};
 ghost use Rattle.fields.specs.Parse.{many, counted, bind, span, u64};
-ghost use Rattle.fields.specs.Answers.{of-skip};
+ghost use Rattle.fields.specs.Answers.{of-skip, of-walked};
 ghost use Rattle.pod.specs.Layout.{instruction, block};
+ghost use Rattle.pod.specs.Written.{many-bytes, counted-bytes, instruction-bytes, block-bytes, walked, passing};
 use fields::Skip;
 use fields::U32Read;
-use fields::U64Read;
+use fields::Walked;
 
 // `count` instructions.
-fn instructions_run(s: &[u8], at: usize, count: u32, exact: bool) -> Skip
-    ensures { λ r. ⌜ of-skip r ≡ span (many (instruction exact) count (now (s .entry)) at) ⌝ }
+fn instructions_run(s: &[u8], at: usize, count: u32) -> Walked
+    ensures { λ r. ⌜ of-walked r ≡ walked (many instruction count) (many-bytes instruction-bytes) (now (s .entry)) at ⌝ }
 {
     let mut left = count;
     let mut o = at;
+    let mut written = true;
     while 0 < left {
-        let far = instruction::instruction_skip(s, o, exact);
-        if let Skip::Past(n) = far {
+        let far = instruction::instruction_skip(s, o);
+        if let Walked::Past(n, w) = far {
             o = n;
+            written = written & w;
         } else {
             return far;
         }
         left -= 1;
     }
-    Skip::Past(o)
+    Walked::Past(o, written)
 }
 
 // `count` vips. Nothing is asked of a vip but its 8 bytes, so all are passed over at once.
@@ -40,45 +43,58 @@ fn vips_run(s: &[u8], at: usize, count: u32) -> Skip
     }
 }
 
-fn then_instructions(s: &[u8], far: Skip, exact: bool) -> Skip
-    ensures { λ r. ⌜ of-skip r ≡ bind (of-skip far) (λ _ n. span (counted (instruction exact) (now (s .entry)) n)) ⌝ }
+// A list of vips.
+fn vips_skip(s: &[u8], at: usize) -> Skip
+    ensures { λ r. ⌜ of-skip r ≡ span (counted u64 (now (s .entry)) at) ⌝ }
+{
+    let count = fields::u32_at(s, at);
+    if let U32Read::Value(n, a) = count {
+        vips_run(s, a, n)
+    } else {
+        Skip::Refused(fields::u32_refusal(count))
+    }
+}
+
+fn then_instructions(s: &[u8], far: Skip) -> Walked
+    ensures { λ r. ⌜ of-walked r ≡ bind (of-skip far) (λ _ n. walked (counted instruction) (counted-bytes instruction-bytes) (now (s .entry)) n) ⌝ }
 {
     if let Skip::Past(at) = far {
         let count = fields::u32_at(s, at);
         if let U32Read::Value(n, a) = count {
-            instructions_run(s, a, n, exact)
+            instructions_run(s, a, n)
         } else {
-            Skip::Refused(fields::u32_refusal(count))
+            Walked::Refused(fields::u32_refusal(count))
+        }
+    } else {
+        Walked::Refused(fields::skip_refusal(far))
+    }
+}
+
+// Vips are written as they are read, so what was seen before them stays.
+fn then_vips(s: &[u8], far: Walked) -> Walked
+    ensures { λ r. ⌜ of-walked r ≡ passing (of-walked far) (λ n. span (counted u64 (now (s .entry)) n)) ⌝ }
+{
+    if let Walked::Past(at, written) = far {
+        let list = vips_skip(s, at);
+        if let Skip::Past(n) = list {
+            Walked::Past(n, written)
+        } else {
+            Walked::Refused(fields::skip_refusal(list))
         }
     } else {
         far
     }
 }
 
-fn then_vips(s: &[u8], far: Skip) -> Skip
-    ensures { λ r. ⌜ of-skip r ≡ bind (of-skip far) (λ _ n. span (counted u64 (now (s .entry)) n)) ⌝ }
-{
-    if let Skip::Past(at) = far {
-        let count = fields::u32_at(s, at);
-        if let U32Read::Value(n, a) = count {
-            vips_run(s, a, n)
-        } else {
-            Skip::Refused(fields::u32_refusal(count))
-        }
-    } else {
-        far
-    }
-}
-
-// The block at `at` is passed over.
-pub fn block_skip(s: &[u8], at: usize, exact: bool) -> Skip
-    ensures { λ r. ⌜ of-skip r ≡ span (block exact (now (s .entry)) at) ⌝ }
+// The block at `at` is walked over.
+pub fn block_skip(s: &[u8], at: usize) -> Walked
+    ensures { λ r. ⌜ of-walked r ≡ walked block block-bytes (now (s .entry)) at ⌝ }
 {
     let a = fields::then_uint(s, Skip::Past(at), 8);
     let b = fields::then_uint(s, a, 8);
     let c = fields::then_uint(s, b, 4);
     let d = fields::then_uint(s, c, 4);
-    let e = then_instructions(s, d, exact);
+    let e = then_instructions(s, d);
     let f = then_vips(s, e);
     then_vips(s, f)
 }

@@ -3,26 +3,33 @@
 use Prim.Native.Nat.{ℕ}
 use mathlib.Core.List.{List}
 use lib.Dec.{eqb}
-use Rattle.fields.specs.Outcome.{Outcome, refused, accepted}
+use Rattle.fields.specs.Outcome.{Outcome, refused, accepted, attempt}
+unfoldable pub use Rattle.fields.specs.Outcome.{refusal-of}
 use Rattle.fields.specs.Lists.{choose}
+use Rattle.pod.specs.Values.{Routine}
 use Rattle.machine.specs.Machine as machine
-use Rattle.machine.specs.Book.{State}
+use Rattle.machine.specs.Book as machine-book
+use Rattle.machine.specs.Book.{State, book-answers, restored}
 use Rattle.book.specs.declared.Book.{Book}
 use Rattle.book.specs.declared.Answer.{Answer}
 
-abbrev pub book-of : Book → machine.Book
+abbrev pub book-of : Book → machine-book.Book
 book-of b = record { written = b .written; used = b .used }
 
 -- the state that a call finds
 abbrev pub state : List ℕ → List ℕ → Book → State
 state image journal b = record { image = image; journal = journal; book = book-of b }
 
+-- the answer and the state of an accepted call that leaves the state s
+abbrev pub leaving : State → machine.Answer × State
+leaving s = (accepted (book-answers s .0), s)
+
+-- the answer and the state of taking back an entry
+abbrev pub taking-back : State → Outcome (Routine × ℕ) → machine.Answer × State
+taking-back s entry = attempt s (restored s entry)
+
 -- the answer and the state that a call leaves
 abbrev pub outcome : Answer → List ℕ → List ℕ → machine.Answer × State
 outcome a image journal =
-    (choose (eqb (a .refusal) 0) (accepted (book-of (a .book))) (refused (a .refusal)), state image journal (a .book))
-
--- the refusal, or 0
-unfoldable pub refusal-of : {A : Type 0} → Outcome A → ℕ
-refusal-of (accepted a) = 0
-refusal-of (refused e) = e
+    let s = state image journal (a .book) in
+    (choose (eqb (a .refusal) 0) (accepted (book-answers s .0)) (refused (a .refusal)), s)

@@ -1,4 +1,11 @@
-// The book that a caller keeps, and what a call on it answers.
+// The book that a caller keeps, and what a call on it answers. Books and answers are built here, and nowhere else.
+ghost use mathlib.Core.Path.{_≡_};
+ghost use mathlib.Core.List.{List};
+ghost use Prim.Native.Nat.{ℕ, _<_};
+ghost use Rattle.fields.specs.Outcome.{refused};
+ghost use Rattle.machine.specs.Book.{unopened};
+ghost use Rattle.machine.specs.Edits as edits;
+ghost use Rattle.book.specs.Says.{state, outcome, leaving, refusal-of};
 
 // Document 01's book: the written length of the routine in the image, and the journal bytes used.
 #[repr(C)]
@@ -31,3 +38,49 @@ pub const NO_SUCH_BLOCK: u64 = fields::NO_SUCH_BLOCK as u64;
 pub const NOTHING_TO_TAKE_BACK: u64 = fields::NOTHING_TO_TAKE_BACK as u64;
 
 pub const LEFTOVER: u64 = fields::LEFTOVER as u64;
+
+// A refused call answers its number, and the book as it was handed in.
+pub fn refuse(book: Book, refusal: u64) -> Answer
+    ensures { λ r. ⌜ ((image journal : List ℕ) → 0 < refusal → outcome r image journal ≡ (refused refusal, state image journal book)) ⌝ }
+{
+    Answer { refusal, book }
+}
+
+// A refused opening answers its number, and a book of zeros.
+pub fn refuse_opening(refusal: u64) -> Answer
+    ensures { λ r. ⌜ ((image journal : List ℕ) → 0 < refusal → outcome r image journal ≡ (refused refusal, unopened image journal)) ⌝ }
+{
+    Answer {
+        refusal,
+        book: Book {
+            written: 0,
+            used: 0,
+        },
+    }
+}
+
+// An accepted call answers the book of what is written and used after it.
+pub fn accept(written: usize, used: usize) -> Answer
+    ensures { λ r. ⌜ ((image journal : List ℕ) → outcome r image journal ≡ leaving (record { image = image; journal = journal; book = record { written = written; used = used } })) ⌝ }
+{
+    Answer {
+        refusal: 0,
+        book: Book {
+            written: written as u64,
+            used: used as u64,
+        },
+    }
+}
+
+// The refusal of an edit after which so much is written and used, or 0: 11, then 12.
+pub fn admit(image_len: usize, journal_len: usize, written: usize, used: usize) -> u64
+    ensures { λ r. ⌜ r ≡ refusal-of (edits.admit (record { image = «image_len»; journal = «journal_len» }) written used) ⌝ }
+{
+    if image_len < written {
+        return IMAGE_FULL;
+    }
+    if journal_len < used {
+        return JOURNAL_FULL;
+    }
+    0
+}

@@ -64,10 +64,10 @@ zero-at (suc n) (suc j) = zero-at n j
 
 -- the bytes of a from f on, and zeros
 module _ (a : List ℕ) (f : ℕ) where
-  pub zeros-yes : (n : ℕ) → n ≡ length a → Alike a [] f n → same (drop f a) (zeros (length a - f)) ≡ true
+  pub zeros-yes : (n : ℕ) → n ≡ length a → Alike a [] f n → true ≡ same (drop f a) (zeros (length a - f))
   zeros-yes n e h =
-      same-yes _ _ (ext-getD 0 (drop f a) (zeros (length a - f)) (length-drop f a ∙ sym (length-replicate (length a - f) 0))
-      (λ j l. getD-drop f a j 0 ∙ h .at (f + j) (omega arith) (omega (arith, length-drop f a)) ∙ sym (zero-at (length a - f) j)))
+      sym (same-yes _ _ (ext-getD 0 (drop f a) (zeros (length a - f)) (length-drop f a ∙ sym (length-replicate (length a - f) 0))
+      (λ j l. getD-drop f a j 0 ∙ h .at (f + j) (omega arith) (omega (arith, length-drop f a)) ∙ sym (zero-at (length a - f) j))))
 
   only-zeros : drop f a ≡ zeros (length a - f) → (j : ℕ) → f ≤ j → getD a j 0 ≡ 0
   only-zeros z j l =
@@ -75,10 +75,10 @@ module _ (a : List ℕ) (f : ℕ) where
       ap (λ (k : ℕ). getD a k 0) (sym i) ∙ sym (getD-drop f a (j - f) 0) ∙ ap (λ (s : List ℕ). getD s (j - f) 0) z ∙ zero-at (length a - f) (j - f)
 
   -- a number of k bytes that is not 0
-  pub zeros-no : (k i : ℕ) → f ≤ i → (le k a i ≡ 0 → ⊥) → same (drop f a) (zeros (length a - f)) ≡ false
+  pub zeros-no : (k i : ℕ) → f ≤ i → (le k a i ≡ 0 → ⊥) → false ≡ same (drop f a) (zeros (length a - f))
   zeros-no k i l n =
-      same-no _ _ (λ z. n (alike-le k a [] i (record { at = λ j p q. only-zeros z j (omega arith) }) ∙ le-nothing k i))
+      sym (same-no _ _ (λ z. n (alike-le k a [] i (record { at = λ j p q. only-zeros z j (omega arith) }) ∙ le-nothing k i)))
 
   -- a byte that is not 0
-  pub zeros-no-byte : (i : ℕ) → f ≤ i → (getD a i 0 ≡ 0 → ⊥) → same (drop f a) (zeros (length a - f)) ≡ false
-  zeros-no-byte i l n = same-no _ _ (λ z. n (only-zeros z i l))
+  pub zeros-no-byte : (i : ℕ) → f ≤ i → (getD a i 0 ≡ 0 → ⊥) → false ≡ same (drop f a) (zeros (length a - f))
+  zeros-no-byte i l n = sym (same-no _ _ (λ z. n (only-zeros z i l)))

@@ -33,15 +33,15 @@ bytes-split (suc j) k v =
     rw (e, low, high, ← over) (ap (λ (l : List ℕ). v % 256 ∷ l) (bytes-split j k (v / 256)))
 
 -- two fields side by side, of the low and the high part, are one
-pub put-halves : (j k i v : ℕ) (a : List ℕ) → i + (j + k) ≤ length a
-    → put (i + j) (bytes k (v / 2 ^ (8 * j))) (put i (bytes j (v % 2 ^ (8 * j))) a) ≡ put i (bytes (j + k) v) a
-put-halves j k i v a h =
+pub put-halves : (j k i v : ℕ) (a z : List ℕ) → z ≡ put (i + j) (bytes k (v / 2 ^ (8 * j))) (put i (bytes j (v % 2 ^ (8 * j))) a) → i + (j + k) ≤ length a
+    → z ≡ put i (bytes (j + k) v) a
+put-halves j k i v a z q h =
     let x : List ℕ = bytes j (v % 2 ^ (8 * j)) in
     let y : List ℕ = bytes k (v / 2 ^ (8 * j)) in
     let lx : length x ≡ j = length-bytes j _ in
     let ly : length y ≡ k = length-bytes k _ in
     let e : i + j ≡ i + length x = omega arith in
-    ap (λ (m : ℕ). put m y (put i x a)) e ∙ put-put i x y a (omega arith) ∙ ap (λ (l : List ℕ). put i l a) (sym (bytes-split j k v))
+    q ∙ ap (λ (m : ℕ). put m y (put i x a)) e ∙ put-put i x y a (omega arith) ∙ ap (λ (l : List ℕ). put i l a) (sym (bytes-split j k v))
 
 -- a byte's own bytes are itself
 pub store1 : (a : List ℕ) (i v : ℕ) → i + 1 ≤ length a → v < 256 → set a i v ≡ put i (bytes 1 v) a

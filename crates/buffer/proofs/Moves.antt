@@ -21,8 +21,8 @@ pub clear-none : (a : List ℕ) (f : ℕ) → a ≡ put f (zeros (f - f)) a
 clear-none a f = let w : f - f ≡ 0 = omega arith in rw w (sym (put-nil f a))
 
 -- one more zero
-pub clear-more : (a b : List ℕ) (f i : ℕ) → f ≤ i → i < length a → b ≡ put f (zeros (i - f)) a → set b i 0 ≡ put f (zeros (i + 1 - f)) a
-clear-more a b f i h k e =
+pub clear-more : (a b : List ℕ) (f i : ℕ) → b ≡ put f (zeros (i - f)) a → f ≤ i → i < length a → set b i 0 ≡ put f (zeros (i + 1 - f)) a
+clear-more a b f i e h k =
     let n : length (zeros (i - f)) ≡ i - f = length-replicate (i - f) 0 in
     let at : f + length (zeros (i - f)) ≡ i = omega arith in
     let w : i + 1 - f ≡ i - f + 1 = omega arith in
@@ -47,45 +47,43 @@ abbrev pub moved : ℕ → ℕ → ℕ → List ℕ → List ℕ
 moved f t n a = put t (take n (drop f a)) a
 
 -- a part moved by way of another list, r
-pub through : (a r r′ a′ : List ℕ) (f t n : ℕ) → f + n ≤ length a → r′ ≡ put 0 (take (f + n - f) (drop f a)) r → a′ ≡ put t (take n r′) a → a′ ≡ moved f t n a
-through a r r′ a′ f t n h p q =
+pub through : (a r z : List ℕ) (f t n : ℕ) → z ≡ put t (take n (put 0 (take (f + n - f) (drop f a)) r)) a → f + n ≤ length a → z ≡ moved f t n a
+through a r z f t n q h =
     let w : f + n - f ≡ n = omega arith in
     let x : List ℕ = take n (drop f a) in
-    let p′ : r′ ≡ put 0 x r = p ∙ ap (λ (k : ℕ). put 0 (take k (drop f a)) r) w in
-    let e : take n r′ ≡ x = ap (take n) p′ ∙ ap (λ (k : ℕ). take k (put 0 x r)) (sym (length-part f n a h)) ∙ part-put-at 0 x r (omega arith) in
-    q ∙ ap (λ (s : List ℕ). put t s a) e
+    let e : take n (put 0 x r) ≡ x = ap (λ (k : ℕ). take k (put 0 x r)) (sym (length-part f n a h)) ∙ part-put-at 0 x r (omega arith) in
+    q ∙ rw (w, e)
 
 -- the first i bytes moved towards the front, and k more
-pub down-more : (a b : List ℕ) (f t i k : ℕ) → t ≤ f → f + (i + k) ≤ length a → b ≡ moved f t i a → moved (f + i) (t + i) k b ≡ moved f t (i + k) a
-down-more a b f t i k h l e =
+pub down-more : (a z : List ℕ) (f t i k : ℕ) → z ≡ moved (f + i) (t + i) k (moved f t i a) → t ≤ f → f + (i + k) ≤ length a → z ≡ moved f t (i + k) a
+down-more a z f t i k q h l =
     let x : List ℕ = take i (drop f a) in
     let y : List ℕ = take k (drop (f + i) a) in
     let lx : length x ≡ i = length-part f i a (omega arith) in
     let ly : length y ≡ k = length-part (f + i) k a (omega arith) in
-    let p : take k (drop (f + i) b) ≡ y = ap (λ (s : List ℕ). take k (drop (f + i) s)) e ∙ part-put-after t x a (omega arith) (f + i) k (omega arith) in
+    let p : take k (drop (f + i) (moved f t i a)) ≡ y = part-put-after t x a (omega arith) (f + i) k (omega arith) in
     let j : t + i ≡ t + length x = omega arith in
     let w : x ++ y ≡ take (i + k) (drop f a) = ap (λ (s : List ℕ). x ++ take k s) (sym (drop-drop i f a)) ∙ sym (take-add i k (drop f a)) in
-    ap (λ (s : List ℕ). put (t + i) s b) p
-    ∙ ap₂ (λ (m : ℕ) (s : List ℕ). put m y s) j e
+    q
+    ∙ ap₂ (λ (m : ℕ) (s : List ℕ). put m s (moved f t i a)) j p
     ∙ put-put t x y a (omega arith)
     ∙ ap (λ (s : List ℕ). put t s a) w
 
 -- the first i bytes moved, and then all the others
-pub down-last : (a b : List ℕ) (f t i n : ℕ) → t ≤ f → f + n ≤ length a → i ≤ n → b ≡ moved f t i a → moved (f + i) (t + i) (n - i) b ≡ moved f t n a
-down-last a b f t i n h l q e = let w : i + (n - i) ≡ n = omega arith in down-more a b f t i (n - i) h (omega arith) e ∙ ap (λ (k : ℕ). moved f t k a) w
+pub down-last : (a z : List ℕ) (f t i n : ℕ) → z ≡ moved (f + i) (t + i) (n - i) (moved f t i a) → t ≤ f → f + n ≤ length a → i ≤ n → z ≡ moved f t n a
+down-last a z f t i n q h l g = let w : i + (n - i) ≡ n = omega arith in down-more a z f t i (n - i) q h (omega arith) ∙ ap (λ (k : ℕ). moved f t k a) w
 
 -- the last j bytes, those from i + k on, moved towards the end, and the k before them
-pub up-more : (a b : List ℕ) (f t i k j : ℕ) → f ≤ t → t + i + (k + j) ≤ length a → b ≡ moved (f + i + k) (t + i + k) j a → moved (f + i) (t + i) k b ≡ moved (f + i) (t + i) (k + j) a
-up-more a b f t i k j h l e =
+up-more : (a : List ℕ) (f t i k j : ℕ) → f ≤ t → t + i + (k + j) ≤ length a → moved (f + i) (t + i) k (moved (f + i + k) (t + i + k) j a) ≡ moved (f + i) (t + i) (k + j) a
+up-more a f t i k j h l =
     let x : List ℕ = take k (drop (f + i) a) in
     let y : List ℕ = take j (drop (f + i + k) a) in
     let lx : length x ≡ k = length-part (f + i) k a (omega arith) in
     let ly : length y ≡ j = length-part (f + i + k) j a (omega arith) in
-    let p : take k (drop (f + i) b) ≡ x = ap (λ (s : List ℕ). take k (drop (f + i) s)) e ∙ part-put-before (t + i + k) y a (omega arith) (f + i) k (omega arith) in
+    let p : take k (drop (f + i) (put (t + i + k) y a)) ≡ x = part-put-before (t + i + k) y a (omega arith) (f + i) k (omega arith) in
     let m : t + i + k ≡ t + i + length x = omega arith in
     let w : x ++ y ≡ take (k + j) (drop (f + i) a) = ap (λ (s : List ℕ). x ++ take j s) (sym (drop-drop k (f + i) a)) ∙ sym (take-add k j (drop (f + i) a)) in
-    ap (λ (s : List ℕ). put (t + i) s b) p
-    ∙ ap (put (t + i) x) (e ∙ ap (λ (n : ℕ). put n y a) m)
+    ap₂ (λ (s : List ℕ) (n : ℕ). put (t + i) s (put n y a)) p m
     ∙ put-put-before (t + i) x y a (omega arith)
     ∙ ap (λ (s : List ℕ). put (t + i) s a) w
 
@@ -93,19 +91,19 @@ up-more a b f t i k j h l e =
 pub up-none : (a : List ℕ) (f t n : ℕ) → a ≡ moved (f + n) (t + n) (n - n) a
 up-none a f t n = let w : n - n ≡ 0 = omega arith in rw w (sym (put-nil (t + n) a))
 
-module _ (a b : List ℕ) (f t n : ℕ) where
-  pub up-turn : (i k : ℕ) → f ≤ t → t + n ≤ length a → k ≤ i → i ≤ n → b ≡ moved (f + i) (t + i) (n - i) a
-      → moved (f + (i - k)) (t + (i - k)) k b ≡ moved (f + (i - k)) (t + (i - k)) (n - (i - k)) a
-  up-turn i k h l p q e =
+module _ (a z : List ℕ) (f t n : ℕ) where
+  pub up-turn : (i k : ℕ) → z ≡ moved (f + (i - k)) (t + (i - k)) k (moved (f + i) (t + i) (n - i) a) → f ≤ t → t + n ≤ length a → k ≤ i → i ≤ n
+      → z ≡ moved (f + (i - k)) (t + (i - k)) (n - (i - k)) a
+  up-turn i k e h l p q =
       let u : f + (i - k) + k ≡ f + i = omega arith in
       let v : t + (i - k) + k ≡ t + i = omega arith in
       let w : k + (n - i) ≡ n - (i - k) = omega arith in
-      up-more a b f t (i - k) k (n - i) h (omega arith) (rw (u, v) e) ∙ ap (λ (m : ℕ). moved (f + (i - k)) (t + (i - k)) m a) w
+      e ∙ rw (← u, ← v) (up-more a f t (i - k) k (n - i) h (omega arith)) ∙ ap (λ (m : ℕ). moved (f + (i - k)) (t + (i - k)) m a) w
 
-  pub up-last : (i : ℕ) → f ≤ t → t + n ≤ length a → i ≤ n → b ≡ moved (f + i) (t + i) (n - i) a → moved f t i b ≡ moved f t n a
-  up-last i h l q e =
-      let z : i - i ≡ 0 = omega arith in
+  pub up-last : (i : ℕ) → z ≡ moved f t i (moved (f + i) (t + i) (n - i) a) → f ≤ t → t + n ≤ length a → i ≤ n → z ≡ moved f t n a
+  up-last i e h l q =
+      let o : i - i ≡ 0 = omega arith in
       let u : f + 0 ≡ f = omega arith in
       let v : t + 0 ≡ t = omega arith in
       let w : n - 0 ≡ n = omega arith in
-      rw (z, u, v, w) at (up-turn i i h l (omega arith) q e)
+      rw (o, u, v, w) at (up-turn i i (rw (o, u, v) e) h l (omega arith) q)

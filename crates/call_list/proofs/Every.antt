@@ -14,7 +14,7 @@ use Rattle.fields.specs.Lists.{Each, choose}
 use Rattle.fields.specs.Bytes.{Bytes}
 use Rattle.machine.specs.Edits.{create, remove, append}
 use Rattle.machine.specs.Machine.{Call, edit, undo, Sendable}
-use Rattle.call_list.specs.Encoding.{is-call-list, call-of, between, calls}
+use Rattle.machine.specs.CallList.{is-call-list, call-of, between, calls}
 use Rattle.call_list.specs.Runs.{Encoded}
 use Rattle.call_list.proofs.Words.{both}
 

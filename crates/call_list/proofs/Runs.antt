@@ -8,17 +8,23 @@ use Prim.Native.Nat.{ℕ, suc, _+_, _-_, _≤_, _<_, _^_}
 use native.Mathlib.Omega.{arith}
 use lib.ListN.{length, drop, getD}
 use lib.Dec.{eqb}
-use borrow.Author.Tests.{eq-eqb, ne-eqb}
-use Rattle.fields.specs.Outcome.{Outcome, refused, accepted}
+use borrow.Author.Tests.{eq-eqb, ne-eqb, eqb-true}
+use Rattle.fields.specs.Outcome.{Outcome, refused, accepted, after, _>>=_, refuse-unless, refusal-of, attempt}
 use Rattle.fields.proofs.Le.{bytes-take, bytes-drop}
-use Rattle.fields.specs.Lists.{choose, last-of, Each}
+use Rattle.fields.proofs.Outcomes.{not-both}
+use Rattle.fields.specs.Lists.{choose, Each}
 use Rattle.fields.specs.Bytes.{Bytes}
 use Rattle.machine.specs.Edits.{create, remove, append}
-use Rattle.machine.specs.Machine.{Call, edit, undo, Sendable, Answer}
-use Rattle.machine.specs.Book.{State, unopened, open-book, step, run}
-use Rattle.demands.specs.Demand3.{Opening}
+use Rattle.machine.specs.Machine.{Call, edit, undo, Sendable, Reply, Answer}
+use Rattle.machine.specs.Book.{State, book-answers, unopened, opening, open-book, step, run}
+use Rattle.machine.specs.CallList.{is-call-list, call-of, call-at, calls, last-refusal, ran, run-on, open-and-run}
+use Rattle.demands.specs.Demand3.{Opening, fresh}
 use Rattle.demands.proofs.Demand3.{follows}
-use Rattle.call_list.specs.Encoding.{is-call-list, call-of, call-at, calls, ran, after-opening, opened-and-run}
+use Rattle.book.specs.declared.Answer as A
+use Rattle.book.specs.Says.{state, outcome}
+use Rattle.call_list.specs.declared.RunAnswer as B
+use Rattle.call_list.specs.declared.Ran as C
+use Rattle.call_list.specs.Says.{run-outcome, last-in, told}
 use Rattle.call_list.specs.Runs.{Agrees, Runs}
 use Rattle.call_list.proofs.Words.{none-left, calls-are, more, still}
 
@@ -44,66 +50,113 @@ module _ (kind vip : ℕ) (bytes : List ℕ) where
   unfolding call-of choose
   is-undo a b c = rw (ne-eqb kind 0 a, ne-eqb kind 1 b, ne-eqb kind 2 c)
 
--- what an answer says, by its number
-pub refused-is : {A : Type 0} (k : ℕ) (a : Outcome A) → (k ≡ 0 → ⊥) → choose (eqb k 0) a (refused k) ≡ refused k
-unfolding choose
-refused-is k a h = rw (ne-eqb k 0 h)
+-- the refusal that a call's answer says
+pub refusal-is : (a : A.Answer) (image journal : List ℕ) {x : Answer × State} → outcome a image journal ≡ x → a .refusal ≡ refusal-of (x .0)
+unfolding choose refusal-of
+refusal-is a image journal {x} e = go (eqb (a .refusal) 0) refl ∙ ap (λ y. refusal-of (y .0)) e
+  where
+    go : (t : Bool) → eqb (a .refusal) 0 ≡ t → a .refusal ≡ refusal-of (choose t (accepted (book-answers (state image journal (a .book)) .0)) (refused (a .refusal)))
+    go true q = eqb-true (a .refusal) 0 q
+    go false q = refl
 
-pub accepted-is : {A : Type 0} (k : ℕ) (a b : Outcome A) → k ≡ 0 → choose (eqb k 0) a b ≡ a
+-- and the state that it leaves
+pub state-is : (a : A.Answer) (image journal : List ℕ) {x : Answer × State} → outcome a image journal ≡ x → state image journal (a .book) ≡ x .1
+state-is a image journal e = ap (λ y. y .1) e
+
+-- by its number, an answer is a refusal or a value
+pub refused-is : (a : A.Answer) (image journal : List ℕ) → (a .refusal ≡ 0 → ⊥) → outcome a image journal .0 ≡ refused (a .refusal)
 unfolding choose
-accepted-is k a b h = rw (eq-eqb k 0 h)
+refused-is a image journal h = rw (ne-eqb (a .refusal) 0 h)
+
+pub accepted-is : (a : A.Answer) (image journal : List ℕ) → a .refusal ≡ 0 → outcome a image journal .0 ≡ accepted (book-answers (state image journal (a .book)) .0)
+unfolding choose
+accepted-is a image journal h = rw (eq-eqb (a .refusal) 0 h)
+
+-- what a run that was refused, and one that went through its list, answers
+module _ (r : B.RunAnswer) (image journal : List ℕ) where
+  pub not-run-is : (a : A.Answer) → (r .refusal ≡ a .refusal) × (r .last ≡ 0) × (r .book ≡ a .book) → run-outcome r image journal ≡ (a .refusal, 0, state image journal (a .book))
+  not-run-is a p = rw (p .0, p .1, p .2)
+
+  pub done-is : (x : C.Ran) → (r .refusal ≡ 0) × (r .last ≡ x .last) × (r .book ≡ x .book) → run-outcome r image journal ≡ (0, x .last, state image journal (x .book))
+  done-is x p = rw (p .0, p .1, p .2)
+
+pub told-by : (a : A.Answer) (image journal : List ℕ) {k : ℕ} {s : State} → outcome a image journal ≡ (refused k, s)
+    → _≡_ {A = ℕ × ℕ × State} (a .refusal, 0, state image journal (a .book)) (k, 0, s)
+unfolding refusal-of
+told-by a image journal e = ap₂ (λ x y. (x, 0, y)) (refusal-is a image journal e) (state-is a image journal e)
 
 -- after the last call, and one call before others
-pub ran-none : (x : Answer × State) → ran x [] ≡ x
-unfolding ran run last-of
-ran-none x = refl
+pub ran-none : (k : ℕ) (s : State) → ran k [] s ≡ (k, s)
+unfolding ran run last-refusal
+ran-none k s = refl
 
-pub ran-one : (x : Answer × State) (c : Call) (cs : List Call) → ran x (c ∷ cs) ≡ ran (step c (x .1)) cs
-unfolding ran run last-of
-ran-one x c cs = refl
+pub ran-one : (k : ℕ) (s : State) (c : Call) (cs : List Call) → ran k (c ∷ cs) s ≡ ran (refusal-of (step c s .0)) cs (step c s .1)
+unfolding ran run last-refusal
+ran-one k s c cs = refl
 
--- The loop at an offset: x is what the opening left, and y what the calls before the offset did. The calls that are left do to y what all do to x
-pub record Reached (words bytes : List ℕ) (x y : Answer × State) (at : ℕ) : Type 0 where
+-- The loop at an offset: s is what the run began with, and k and t what the calls before the offset left. The calls that are left do to these what all do
+-- to s
+pub record Reached (words bytes : List ℕ) (s : State) (k : ℕ) (t : State) (at : ℕ) : Type 0 where
   pub within : at ≤ length words
   pub encodes : is-call-list (drop at words) bytes ≡ true
-  pub same : ran y (calls (drop at words) bytes) ≡ ran x (calls words bytes)
+  pub same : ran k (calls (drop at words) bytes) t ≡ ran 0 (calls words bytes) s
 
-module _ (words bytes : List ℕ) (x : Answer × State) where
-  pub begun : is-call-list words bytes ≡ true → Reached words bytes x x 0
+module _ (words bytes : List ℕ) (s : State) where
+  pub begun : is-call-list words bytes ≡ true → Reached words bytes s 0 s 0
   begun h = record { within = omega arith; encodes = h; same = refl }
 
-  module _ (y : Answer × State) (at : ℕ) (g : Reached words bytes x y at) where
-    pub next : (z : Answer × State) → at < length words → z ≡ step (call-at words bytes at) (y .1) → Reached words bytes x z (at + 4)
-    next z h e =
+  module _ (k : ℕ) (t : State) (at : ℕ) (g : Reached words bytes s k t at) where
+    pub next : (a : A.Answer) (image journal : List ℕ) → at < length words → outcome a image journal ≡ step (call-at words bytes at) t
+        → Reached words bytes s (a .refusal) (state image journal (a .book)) (at + 4)
+    next a image journal h e =
         let c = calls-are words bytes at (more words bytes at h (g .encodes)) in
         record {
           within = more words bytes at h (g .encodes);
           encodes = still words bytes at h (g .encodes);
-          same = ap (λ u. ran u (calls (drop (at + 4) words) bytes)) e
-              ∙ sym (ran-one y (call-at words bytes at) (calls (drop (at + 4) words) bytes))
-              ∙ ap (ran y) (sym c)
+          same = ap₂ (λ k u. ran k (calls (drop (at + 4) words) bytes) u) (refusal-is a image journal e) (state-is a image journal e)
+              ∙ sym (ran-one k t (call-at words bytes at) (calls (drop (at + 4) words) bytes))
+              ∙ ap (λ cs. ran k cs t) (sym c)
               ∙ g .same;
         }
 
-    pub ended : length words ≤ at → y ≡ ran x (calls words bytes)
+    pub ended : length words ≤ at → (k, t) ≡ ran 0 (calls words bytes) s
     unfolding calls
-    ended h = sym (ran-none y) ∙ ap (λ u. ran y (calls u bytes)) (sym (none-left words bytes at (g .within) h)) ∙ g .same
+    ended h = sym (ran-none k t) ∙ ap (λ u. ran k (calls u bytes) t) (sym (none-left words bytes at (g .within) h)) ∙ g .same
 
--- what is opened-and-run, by what the code found
+-- a run on a book, by what the code found
+module _ (words bytes : List ℕ) (s : State) where
+  pub no-list-on : is-call-list words bytes ≡ false → (15, 0, s) ≡ told (run-on words bytes s)
+  unfolding run-on refuse-unless choose after attempt refusal-of last-in
+  no-list-on h = rw h
+
+  pub ran-on : is-call-list words bytes ≡ true → (x : ℕ × State) → x ≡ ran 0 (calls words bytes) s → (0, x .0, x .1) ≡ told (run-on words bytes s)
+  unfolding run-on refuse-unless choose after attempt refusal-of last-in
+  ran-on h x e = rw (h, e)
+
+-- and from the opening of a file
 module _ (file image journal words bytes : List ℕ) where
-  pub no-list : is-call-list words bytes ≡ false
-      → _≡_ {A = Answer × State} (refused 15, record { image = image; journal = journal; book = record { written = 0; used = 0 } }) (opened-and-run file image journal words bytes)
-  unfolding opened-and-run unopened choose
+  pub no-list : is-call-list words bytes ≡ false → (15, 0, unopened image journal) ≡ told (open-and-run file image journal words bytes)
+  unfolding open-and-run refuse-unless choose after attempt refusal-of last-in
   no-list h = rw h
 
   module _ (h : is-call-list words bytes ≡ true) (x : Answer × State) (e : x ≡ open-book file image journal) where
-    pub not-opened : {k : ℕ} → x .0 ≡ refused k → x ≡ opened-and-run file image journal words bytes
-    unfolding opened-and-run choose after-opening
-    not-opened {k} r = rw (h, ← e, r)
+    pub not-opened : {k : ℕ} → x .0 ≡ refused k → (k, 0, x .1) ≡ told (open-and-run file image journal words bytes)
+    unfolding open-and-run refuse-unless choose after attempt refusal-of last-in open-book
+    not-opened {k} q = rw h (go (opening file image journal) e)
+      where
+        go : (o : Outcome (Reply × State)) → x ≡ attempt (unopened image journal) o
+            → (k, 0, x .1) ≡ told (attempt (unopened image journal) (o >>= λ y. accepted (ran 0 (calls words bytes) (y .1))))
+        go (refused j) w = let z : j ≡ k = cc in let v : x .1 ≡ unopened image journal = ap (λ y. y .1) w in rw (z, v)
+        go (accepted y) w = let u : x .0 ≡ accepted (y .0) = ap (λ y. y .0) w in not-both (sym q ∙ u)
 
-    pub opened-ran : {b : _} → x .0 ≡ accepted b → ran x (calls words bytes) ≡ opened-and-run file image journal words bytes
-    unfolding opened-and-run choose after-opening
-    opened-ran {b} a = rw (h, ← e, a)
+    pub opened-ran : {b : Reply} → x .0 ≡ accepted b → (y : ℕ × State) → y ≡ ran 0 (calls words bytes) (x .1) → (0, y .0, y .1) ≡ told (open-and-run file image journal words bytes)
+    unfolding open-and-run refuse-unless choose after attempt refusal-of last-in open-book
+    opened-ran {b} q y f = rw h (go (opening file image journal) e)
+      where
+        go : (o : Outcome (Reply × State)) → x ≡ attempt (unopened image journal) o
+            → (0, y .0, y .1) ≡ told (attempt (unopened image journal) (o >>= λ y. accepted (ran 0 (calls words bytes) (y .1))))
+        go (refused j) w = let u : x .0 ≡ refused j = ap (λ y. y .0) w in not-both (sym u ∙ q)
+        go (accepted v) w = let u : x .1 ≡ v .1 = ap (λ y. y .1) w in rw (f, u)
 
 -- the calls can be sent
 sent-one : (vip : ℕ) (bytes : List ℕ) → vip < 2 ^ 64 → Bytes bytes → (t u v : Bool)
@@ -125,22 +178,21 @@ sent (kind ∷ vip ∷ begin ∷ end ∷ words) bytes w b = (
   sent words bytes (λ i. w (suc (suc (suc (suc i))))) b,
 )
 
--- an accepted opening and a list of calls that can be sent: the machine's answer and state
-agrees : (o : Opening) (cs : List Call) → Each Sendable cs → Agrees o cs (ran (open-book (o .file) (o .image) (o .journal)) cs)
+-- an accepted opening and a list of calls that can be sent: what the machine leaves
+agrees : (o : Opening) (cs : List Call) → Each Sendable cs → Agrees o cs (0, ran 0 cs (fresh o) .0, ran 0 cs (fresh o) .1)
 unfolding ran
 agrees o cs f =
     let g = follows o cs f in
-    record { answer = ap₂ last-of (o .accepts) (g .answers); image = g .image; written = g .written; used = g .used }
+    record { refusal = refl; last = ap (last-refusal 0) (g .answers); image = g .image; written = g .written; used = g .used }
 
-module _ (file image journal words bytes : List ℕ) (w : (i : ℕ) → getD words i 0 < 2 ^ 64) (b : Bytes bytes) (x : Answer × State)
-    (e : x ≡ opened-and-run file image journal words bytes) where
+module _ (file image journal words bytes : List ℕ) (w : (i : ℕ) → getD words i 0 < 2 ^ 64) (b : Bytes bytes) (x : ℕ × ℕ × State)
+    (e : x ≡ told (open-and-run file image journal words bytes)) where
   claim : (o : Opening) → o .file ≡ file → o .image ≡ image → o .journal ≡ journal → is-call-list words bytes ≡ true
       → Agrees o (calls words bytes) x
   claim o p q r h =
-      let y = open-book (o .file) (o .image) (o .journal) in
       let z : open-book (o .file) (o .image) (o .journal) ≡ open-book file image journal = rw (p, q, r) in
-      let n : x ≡ ran y (calls words bytes) = e ∙ sym (opened-ran file image journal words bytes h y z (o .accepts)) in
-      rw n (agrees o (calls words bytes) (sent words bytes w b))
+      let n = opened-ran file image journal words bytes h (open-book (o .file) (o .image) (o .journal)) z (o .accepts) _ refl in
+      rw (e ∙ sym n) (agrees o (calls words bytes) (sent words bytes w b))
 
   pub replays : Runs file image journal words bytes x
   replays = record { is = e; claim = claim }

@@ -11,7 +11,7 @@ use lib.Seq.{drop-cons, drop-length}
 use lib.Dec.{leb}
 use borrow.Author.Tests.{le-leb, lt-leb, leb-true}
 pub use Rattle.machine.proofs.Held.{both}
-use Rattle.call_list.specs.Encoding.{is-call-list, call-at, Sits, calls}
+use Rattle.machine.specs.CallList.{is-call-list, call-at, Sits, calls}
 
 -- fewer than four words are left, and not none
 pub too-few : (words bytes : List ℕ) → 0 < length words → length words < 4 → is-call-list words bytes ≡ false

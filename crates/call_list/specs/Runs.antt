@@ -5,25 +5,25 @@ use mathlib.Core.Bool.{true}
 use mathlib.Core.List.{List}
 use Prim.Native.Nat.{ℕ, _<_, _^_}
 use lib.ListN.{length, getD}
-use Rattle.fields.specs.Outcome.{accepted}
-use Rattle.fields.specs.Lists.{last-of}
 use Rattle.fields.specs.Bytes.{Bytes}
-use Rattle.machine.specs.Machine.{Call, Answer, start, size, used-by, machine-run}
+use Rattle.machine.specs.Edits.{size}
+use Rattle.machine.specs.Machine.{Call, used-by}
 use Rattle.machine.specs.Book.{State, in-image}
-use Rattle.demands.specs.Demand3.{Opening, machine-after}
-use Rattle.call_list.specs.Encoding.{is-call-list, calls, opened-and-run}
+use Rattle.machine.specs.CallList.{is-call-list, calls, last-refusal, open-and-run}
+use Rattle.demands.specs.Demand3.{Opening, machine-runs, machine-after}
+use Rattle.call_list.specs.Says.{told}
 
--- An answer and a state are those of the machine after a list of calls. The last answer is enough: what stands at every call of a list is what the
+-- What a run left is what the machine leaves after a list of calls. The last call's refusal is enough: what stands at every call of a list is what the
 -- list that ends there leaves.
-pub record Agrees (o : Opening) (cs : List Call) (x : Answer × State) : Type 0 where
-  pub answer :
-      x .0 ≡ last-of (accepted (o .book)) (machine-run (length (o .image)) (length (o .journal)) cs (start (o .routine)) .0)
-  pub image : x .1 .image ≡ in-image (length (o .image)) (machine-after o cs .now)
-  pub written : x .1 .book .written ≡ size (machine-after o cs .now)
-  pub used : x .1 .book .used ≡ used-by (machine-after o cs .stack)
+pub record Agrees (o : Opening) (cs : List Call) (x : ℕ × ℕ × State) : Type 0 where
+  pub refusal : x .0 ≡ 0
+  pub last : x .1 ≡ last-refusal 0 (machine-runs o cs .0)
+  pub image : x .2 .image ≡ in-image (length (o .image)) (machine-after o cs .now)
+  pub written : x .2 .book .written ≡ size (machine-after o cs .now)
+  pub used : x .2 .book .used ≡ used-by (machine-after o cs .stack)
 
-pub record Runs (file image journal words bytes : List ℕ) (x : Answer × State) : Type 0 where
-  pub is : x ≡ opened-and-run file image journal words bytes
+pub record Runs (file image journal words bytes : List ℕ) (x : ℕ × ℕ × State) : Type 0 where
+  pub is : x ≡ told (open-and-run file image journal words bytes)
   pub claim :
       (o : Opening) → o .file ≡ file → o .image ≡ image → o .journal ≡ journal → is-call-list words bytes ≡ true → Agrees o (calls words bytes) x
 

@@ -1,12 +1,53 @@
-// A list of calls on a file, run from the opening on.
+// A list of calls, run on a book that is there, or on a file from its opening on.
 use book::Answer;
 use book::Book;
 use pod::Vip;
 ghost use mathlib.Core.Path.{_≡_};
 ghost use Rattle.machine.specs.Book.{step};
 ghost use Rattle.book.specs.Says.{state, outcome};
-ghost use Rattle.call_list.specs.Encoding.{is-call-list, call-of, call-at, Sits};
+ghost use mathlib.Core.Bool.{true};
+ghost use Rattle.machine.specs.CallList.{is-call-list, call-of, call-at, Sits, calls, ran, run-on};
+ghost use Rattle.call_list.specs.Says.{after-calls, run-outcome, told};
 ghost use Rattle.call_list.specs.Runs.{Runs};
+
+// What a run over a list answers: `refusal` of the words or the opening, after which nothing is changed; else 0, and `last`, the refusal of the last
+// call, or 0 where it was accepted or the list is empty. The book is the one after the list.
+#[repr(C)]
+pub struct RunAnswer {
+    pub refusal: u64,
+    pub last: u64,
+    pub book: Book,
+}
+
+// What the calls of a list left: the last one's refusal, and the book.
+struct Ran {
+    last: u64,
+    book: Book,
+}
+
+// A run that was refused before its first call.
+fn not_run(answer: Answer) -> RunAnswer
+    ensures { λ r. ⌜ (r .refusal ≡ answer .refusal) × (r .last ≡ 0) × (r .book ≡ answer .book) ⌝ }
+{
+    let book = answer.book;
+    RunAnswer {
+        refusal: answer.refusal,
+        last: 0,
+        book,
+    }
+}
+
+// A run that went through its list.
+fn done(ran: Ran) -> RunAnswer
+    ensures { λ r. ⌜ (r .refusal ≡ 0) × (r .last ≡ ran .last) × (r .book ≡ ran .book) ⌝ }
+{
+    let book = ran.book;
+    RunAnswer {
+        refusal: 0,
+        last: ran.last,
+        book,
+    }
+}
 
 // Whether the words and bytes encode a list of calls.
 fn is_call_list(words: &[u64], bytes: &[u8]) -> bool
@@ -75,30 +116,58 @@ fn call_at(
     call(book, image, journal, kind, vip, &bytes[begin..end])
 }
 
-// Opens a file and runs a list of calls, each with the book that the one before it answered. Answers what the last one did: so the answer to any
-// call of a list is that of the list that ends there. Every call inspects image and book anew; no other work grows with the list's length.
-pub fn run(file: &[u8], image: &mut [u8], journal: &mut [u8], words: &[u64], bytes: &[u8]) -> Answer
-    ensures { λ r. ⌜ Runs (now (file .entry)) (now (image .entry)) (now (journal .entry)) (now (words .entry)) (now (bytes .entry)) (outcome r (now (image .exit)) (now (journal .exit))) ⌝ }
+// The calls of a list on a book, each with the book that the one before it answered. The last call's refusal tells of any call of a list: it is that of
+// the list that ends there. Every call inspects image and book anew; no other work grows with the list's length.
+fn run_calls(book: Book, image: &mut [u8], journal: &mut [u8], words: &[u64], bytes: &[u8]) -> Ran
+    requires { ⌜ is-call-list (now words) (now bytes) ≡ true ⌝ }
+    ensures { λ r. ⌜ after-calls r (now (image .exit)) (now (journal .exit)) ≡ ran 0 (calls (now (words .entry)) (now (bytes .entry))) (state (now (image .entry)) (now (journal .entry)) book) ⌝ }
 {
-    if !is_call_list(words, bytes) {
-        return Answer {
-            refusal: book::NO_SUCH_BLOCK,
-            book: Book {
-                written: 0,
-                used: 0,
-            },
-        };
-    }
-    let mut last = opening::open(file, image, journal);
-    if last.refusal != 0 {
-        return last;
-    }
     let n = words.len();
+    let mut last: u64 = 0;
+    let mut held = book;
     let mut at = 0;
     while at < n {
-        let book = last.book;
-        last = call_at(book, image, journal, words, bytes, at);
+        let answer = call_at(held, image, journal, words, bytes, at);
+        last = answer.refusal;
+        held = answer.book;
         at += 4;
     }
-    last
+    Ran { last, book: held }
+}
+
+// Opens a file and runs a list of calls.
+pub fn run(
+    file: &[u8],
+    image: &mut [u8],
+    journal: &mut [u8],
+    words: &[u64],
+    bytes: &[u8],
+) -> RunAnswer
+    ensures { λ r. ⌜ Runs (now (file .entry)) (now (image .entry)) (now (journal .entry)) (now (words .entry)) (now (bytes .entry)) (run-outcome r (now (image .exit)) (now (journal .exit))) ⌝ }
+{
+    if !is_call_list(words, bytes) {
+        return not_run(book::refuse_opening(book::NO_SUCH_BLOCK));
+    }
+    let opened = opening::open(file, image, journal);
+    if opened.refusal != 0 {
+        return not_run(opened);
+    }
+    let fresh = opened.book;
+    done(run_calls(fresh, image, journal, words, bytes))
+}
+
+// Runs a list of calls on a book that is there.
+pub fn run_on(
+    book: Book,
+    image: &mut [u8],
+    journal: &mut [u8],
+    words: &[u64],
+    bytes: &[u8],
+) -> RunAnswer
+    ensures { λ r. ⌜ run-outcome r (now (image .exit)) (now (journal .exit)) ≡ told (run-on (now (words .entry)) (now (bytes .entry)) (state (now (image .entry)) (now (journal .entry)) book)) ⌝ }
+{
+    if !is_call_list(words, bytes) {
+        return not_run(book::refuse(book, book::NO_SUCH_BLOCK));
+    }
+    done(run_calls(book, image, journal, words, bytes))
 }

@@ -15,10 +15,7 @@ pub fn create_block(book: Book, image: &mut [u8], journal: &mut [u8], vip: Vip) 
 {
     let first = image::inspect(book, image, journal);
     if first != 0 {
-        return Answer {
-            refusal: first,
-            book,
-        };
+        return book::refuse(book, first);
     }
     create::create_block(book, image, journal, vip)
 }
@@ -29,7 +26,7 @@ pub fn remove_block(book: Book, image: &mut [u8], journal: &mut [u8], vip: Vip) 
 {
     let refusal = image::inspect(book, image, journal);
     if refusal != 0 {
-        return Answer { refusal, book };
+        return book::refuse(book, refusal);
     }
     remove::remove_block(book, image, journal, vip)
 }
@@ -44,9 +41,9 @@ pub fn append(
 ) -> Answer
     ensures { λ r. ⌜ outcome r (now (image .exit)) (now (journal .exit)) ≡ step (edit (append (vip .0) (now (instruction .entry)))) (state (now (image .entry)) (now (journal .entry)) book) ⌝ }
 {
-    let refusal = image::inspect(book, image, journal);
-    if refusal != 0 {
-        return Answer { refusal, book };
+    let unsound = image::inspect(book, image, journal);
+    if unsound != 0 {
+        return book::refuse(book, unsound);
     }
     append::append(book, image, journal, vip, instruction)
 }
@@ -57,7 +54,7 @@ pub fn undo(book: Book, image: &mut [u8], journal: &mut [u8]) -> Answer
 {
     let refusal = image::inspect(book, image, journal);
     if refusal != 0 {
-        return Answer { refusal, book };
+        return book::refuse(book, refusal);
     }
     undo::undo(book, image, journal)
 }

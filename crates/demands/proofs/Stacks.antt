@@ -1,163 +1,123 @@
--- The machine's stack over a list of calls: what stood on it before stays below as many items as edits stand; and an edit of the list stands, or the list
--- took back all its own. By following the calls with the items on top.
+-- The machine's undo stack over a list of calls is the stack of edits that stand: each of its items is the routine, and what is below it the stack, that
+-- the machine had after the calls before that edit. By following the calls.
 -- Assumes nothing.
-use mathlib.Core.Path.{_≡_, refl, ap, _∙_}
+use mathlib.Core.Path.{_≡_, refl, sym, ap, ap₂, _∙_}
 use mathlib.Core.Bool.{Bool, true, false}
 use mathlib.Core.List.{List, [], _∷_, _++_}
-use Prim.Native.Nat.{ℕ, zero, suc, _+_}
+use Prim.Native.Nat.{ℕ, _+_}
 use native.Mathlib.Omega.{arith}
-use mathlib.Core.Logic.{_⊎_, inl, inr}
-use lib.ListN.{length, drop}
-use lib.Dec.{leb}
-use Rattle.fields.specs.Outcome.{Outcome, refused, accepted, after}
+use Rattle.fields.specs.Outcome.{Outcome, refused, accepted, attempt}
+use Rattle.fields.specs.Lists.{Each}
+use Rattle.fields.proofs.Outcomes.{unaltered, came, attempt-was}
 use Rattle.pod.specs.Values.{Routine}
-use Rattle.machine.specs.Edits.{Edit, edited, cost}
-use Rattle.machine.specs.Machine.{Call, edit, undo, Stack, used-by, Machine, start, size, admitted, after-edit, after-undo, machine-step, machine-run}
+use Rattle.machine.specs.Edits.{size, Edit, edited, cost, Lengths, admit}
+use Rattle.machine.specs.Machine.{Call, edit, undo, Sendable, Reply, Answer, Stack, used-by, Machine, start, machine-edit, machine-undo, machine-call, machine-step, machine-run}
 use Rattle.demands.specs.Demand3.{is-accepted, settle, standing}
 
--- a list in two parts
-pub run-append : (N J : ℕ) (cs ds : List Call) (m : Machine) → machine-run N J (cs ++ ds) m .1 ≡ machine-run N J ds (machine-run N J cs m .1) .1
-unfolding machine-run
-run-append N J [] ds m = refl
-run-append N J (c ∷ cs) ds m = run-append N J cs ds (machine-step N J c m .1)
+pub was-accepted : (a : Answer) → is-accepted a ≡ true → (r : Reply) × (a ≡ accepted r)
+was-accepted (accepted r) h = (r, refl)
+was-accepted (refused k) h = let z : _≡_ {A = ℕ} 0 1 = cc in absurd (omega arith)
 
--- n items on the base
-pub record Above (base : Stack) (m : Machine) (n : ℕ) : Type 0 where
-  pub top : Stack
-  pub is : m .stack ≡ top ++ base
-  pub many : length top ≡ n
+was-refused : (a : Answer) → is-accepted a ≡ false → (e : ℕ) × (a ≡ refused e)
+was-refused (accepted r) h = let z : _≡_ {A = ℕ} 0 1 = cc in absurd (omega arith)
+was-refused (refused k) h = (k, refl)
 
--- with none on top
-pub bare : {base : Stack} {m : Machine} → Above base m 0 → m .stack ≡ base
-bare {base} {m} a = go (a .top) (a .is) (a .many)
-  where
-    go : (top : Stack) → m .stack ≡ top ++ base → length top ≡ 0 → m .stack ≡ base
-    go [] e l = e
-    go (p ∷ ps) e l = absurd (omega arith)
+-- parts of a list
+module _ {A : Type 0} (P : A → Type 0) where
+  pub each-append : (xs ys : List A) → Each P xs → Each P ys → Each P (xs ++ ys)
+  each-append [] ys e g = g
+  each-append (x ∷ xs) ys e g = (e .0, each-append xs ys (e .1) g)
 
-after-inv : {A B : Type 0} (x : Outcome A) (f : A → Outcome B) {b : B} → after x f ≡ accepted b → (a : A) × (x ≡ accepted a) × (f a ≡ accepted b)
-unfolding after
-after-inv (refused e) f q = let z : _≡_ {A = ℕ} 0 1 = cc in absurd (omega arith)
-after-inv (accepted a) f q = (a, refl, q)
-
-module _ (N J : ℕ) where
-  -- an accepted edit puts the routine on the stack
-  pub edit-stack : (e : Edit) (m : Machine) → is-accepted (machine-step N J (edit e) m .0) ≡ true → machine-step N J (edit e) m .1 .stack ≡ (m .now, cost e (m .now)) ∷ m .stack
-  unfolding machine-step after-edit admitted
-  edit-stack e m = go (edited e (m .now))
-    where
-      fit : (r : Routine) (t u : Bool) → is-accepted (admitted t u (cost e (m .now)) r m .0) ≡ true → admitted t u (cost e (m .now)) r m .1 .stack ≡ (m .now, cost e (m .now)) ∷ m .stack
-      fit r false u q = let z : _≡_ {A = ℕ} 0 1 = cc in absurd (omega arith)
-      fit r true false q = let z : _≡_ {A = ℕ} 0 1 = cc in absurd (omega arith)
-      fit r true true q = refl
-
-      go : (x : Outcome Routine) → is-accepted (after-edit N J (cost e (m .now)) m x .0) ≡ true → after-edit N J (cost e (m .now)) m x .1 .stack ≡ (m .now, cost e (m .now)) ∷ m .stack
-      go (refused k) q = let z : _≡_ {A = ℕ} 0 1 = cc in absurd (omega arith)
-      go (accepted r) q = fit r (leb (size r) N) (leb (used-by (m .stack) + cost e (m .now)) J) q
-
-  -- a take back takes the top off
-  pub undo-stack : (m : Machine) (p : Routine × ℕ) (ps : Stack) → m .stack ≡ p ∷ ps
-      → (is-accepted (machine-step N J undo m .0) ≡ true) × (machine-step N J undo m .1 ≡ record { now = p .0; stack = ps })
-  unfolding machine-step after-undo
-  undo-stack m p ps e = rw e (refl, refl)
+module _ (lent : Lengths) where
+  -- a list in two parts
+  pub run-append : (cs ds : List Call) (m : Machine) → machine-run lent (cs ++ ds) m .1 ≡ machine-run lent ds (machine-run lent cs m .1) .1
+  unfolding machine-run
+  run-append [] ds m = refl
+  run-append (c ∷ cs) ds m = run-append cs ds (machine-step lent c m .1)
 
   -- a refused call changes nothing
-  pub refused-same : (c : Call) (m : Machine) → is-accepted (machine-step N J c m .0) ≡ false → machine-step N J c m .1 ≡ m
-  unfolding machine-step after-edit after-undo admitted
-  refused-same (edit e) m = go (edited e (m .now))
+  refused-same : (c : Call) (m : Machine) → is-accepted (machine-step lent c m .0) ≡ false → machine-step lent c m .1 ≡ m
+  unfolding machine-step
+  refused-same c m h = unaltered m (machine-call lent c m) (was-refused _ h .1)
+
+  -- an accepted edit puts the routine on the stack
+  edit-stack : (e : Edit) (m : Machine) → is-accepted (machine-step lent (edit e) m .0) ≡ true → machine-step lent (edit e) m .1 .stack ≡ (m .now, cost e (m .now)) ∷ m .stack
+  unfolding machine-step machine-call machine-edit
+  edit-stack e m h =
+      let y = attempt-was m (machine-edit lent e m) (was-accepted _ h .1) in
+      let x = came (edited e (m .now)) _ (y .1) in
+      let z = came (admit lent (size (x .0)) (used-by (m .stack) + cost e (m .now))) _ (x .2) in
+      let w : _ ≡ y .0 = ap is-left (z .2) in
+      ap (λ n. n .stack) (y .2 ∙ sym w)
     where
-      fit : (r : Routine) (t u : Bool) → is-accepted (admitted t u (cost e (m .now)) r m .0) ≡ false → admitted t u (cost e (m .now)) r m .1 ≡ m
-      fit r false u q = refl
-      fit r true false q = refl
-      fit r true true q = let z : _≡_ {A = ℕ} 0 1 = cc in absurd (omega arith)
+      is-left : Outcome (Reply × Machine) → Machine
+      is-left (accepted y) = y .1
+      is-left (refused k) = m
 
-      go : (x : Outcome Routine) → is-accepted (after-edit N J (cost e (m .now)) m x .0) ≡ false → after-edit N J (cost e (m .now)) m x .1 ≡ m
-      go (refused k) q = refl
-      go (accepted r) q = fit r (leb (size r) N) (leb (used-by (m .stack) + cost e (m .now)) J) q
-  refused-same undo m = go (m .stack)
-    where
-      go : (ps : Stack) → is-accepted (after-undo m ps .0) ≡ false → after-undo m ps .1 ≡ m
-      go [] q = refl
-      go (p ∷ ps) q = let z : _≡_ {A = ℕ} 0 1 = cc in absurd (omega arith)
+  -- an accepted take back takes the top off
+  undo-stack : (m : Machine) (p : Routine × ℕ) (ps : Stack) → m .stack ≡ p ∷ ps
+      → (is-accepted (machine-step lent undo m .0) ≡ true) × (machine-step lent undo m .1 ≡ record { now = p .0; stack = ps })
+  unfolding machine-step machine-call machine-undo attempt
+  undo-stack m p ps e = rw e (refl, refl)
 
-  step-above : (base : Stack) (c : Call) (m : Machine) (n k : ℕ) → Above base m n → settle (is-accepted (machine-step N J c m .0)) c n ≡ accepted k
-      → Above base (machine-step N J c m .1) k
-  step-above base c m n k a = go c (is-accepted (machine-step N J c m .0)) refl n a
-    where
-      off : (n : ℕ) (top : Stack) → m .stack ≡ top ++ base → length top ≡ suc n → Above base (machine-step N J undo m .1) n
-      off n [] e l = absurd (omega arith)
-      off n (p ∷ ps) e l = record { top = ps; is = ap (λ x. x .stack) (undo-stack m p (ps ++ base) e .1); many = omega arith }
+  undo-none : (m : Machine) → m .stack ≡ [] → is-accepted (machine-step lent undo m .0) ≡ false
+  unfolding machine-step machine-call machine-undo attempt
+  undo-none m e = rw e
 
-      go : (c : Call) (t : Bool) → is-accepted (machine-step N J c m .0) ≡ t → (n : ℕ) → Above base m n → settle t c n ≡ accepted k → Above base (machine-step N J c m .1) k
-      go c false q n a s = let e : n ≡ k = cc in rw (refused-same c m q, ← e) a
-      go (edit e) true q n a s =
-          record { top = (m .now, cost e (m .now)) ∷ a .top; is = edit-stack e m q ∙ ap (λ l. (m .now, cost e (m .now)) ∷ l) (a .is); many = ap suc (a .many) ∙ cc }
-      go undo true q zero a s = let z : _≡_ {A = ℕ} 0 1 = cc in absurd (omega arith)
-      go undo true q (suc n) a s = let e : n ≡ k = cc in rw (← e) (off n (a .top) (a .is) (a .many))
+  module _ (r : Routine) where
+    abbrev after-list : List Call → Machine
+    after-list cs = machine-run lent cs (start r) .1
 
-  pub run-above : (base : Stack) (cs : List Call) (m : Machine) (n k : ℕ) → Above base m n → standing cs (machine-run N J cs m .0) n ≡ accepted k
-      → Above base (machine-run N J cs m .1) k
-  unfolding machine-run standing
-  run-above base [] m n k a s = let e : n ≡ k = cc in rw (← e) a
-  run-above base (c ∷ cs) m n k a s =
-      let i = after-inv (settle (is-accepted (machine-step N J c m .0)) c n) _ s in
-      run-above base cs (machine-step N J c m .1) (i .0) k (step-above base c m n (i .0) a (i .1)) (i .2)
+    -- an edit that came after the calls p: its item on the stack, what is below it, and that the calls can be sent
+    pub record Item (p : List Call) (x : Routine × ℕ) (below : Stack) : Type 0 where
+      pub routine : x .0 ≡ after-list p .now
+      pub rest : below ≡ after-list p .stack
+      pub sent : Each Sendable p
 
-  -- the last edit of the list that is not taken back
-  pub record Stands (m : Machine) (cs : List Call) : Type 0 where
-    pub earlier : List Call
-    pub last : Edit
-    pub later : List Call
-    pub is : cs ≡ earlier ++ (edit last ∷ later)
-    pub accepts : is-accepted (machine-step N J (edit last) (machine-run N J earlier m .1) .0) ≡ true
-    pub stands : standing later (machine-run N J later (machine-step N J (edit last) (machine-run N J earlier m .1) .1) .0) 0 ≡ accepted 0
+    abbrev pub Along : List (List Call) → Stack → Type 0
+    Along [] [] = Unit
+    Along [] (x ∷ xs) = ⊥
+    Along (p ∷ ps) [] = ⊥
+    Along (p ∷ ps) (x ∷ xs) = Item p x xs × Along ps xs
 
-  -- the list took back all its own edits, and k that stood before it
-  pub record Cleared (m : Machine) (cs : List Call) : Type 0 where
-    pub k : ℕ
-    pub took : standing cs (machine-run N J cs m .0) k ≡ accepted 0
-    pub stack : machine-run N J cs m .1 .stack ≡ drop k (m .stack)
+    -- one call more
+    call-along : (earlier : List Call) → Each Sendable earlier → (ps : List (List Call)) → Along ps (after-list earlier .stack) → (c : Call) (t : Bool)
+        → is-accepted (machine-step lent c (after-list earlier) .0) ≡ t
+        → Along (settle t earlier c ps) (machine-step lent c (after-list earlier) .1 .stack)
+    call-along earlier f ps a c false h = rw (refused-same c (after-list earlier) h) a
+    call-along earlier f ps a (edit e) true h = rw (edit-stack e (after-list earlier) h) (record { routine = refl; rest = refl; sent = f }, a)
+    call-along earlier f ps a undo true h = go (after-list earlier .stack) refl ps a
+      where
+        go : (st : Stack) → after-list earlier .stack ≡ st → (ps : List (List Call)) → Along ps st → Along (settle true earlier undo ps) (machine-step lent undo (after-list earlier) .1 .stack)
+        go [] e ps a = let n = undo-none (after-list earlier) e in let z : _≡_ {A = ℕ} 0 1 = cc in absurd (omega arith)
+        go (x ∷ xs) e (p ∷ ps) a = rw (undo-stack (after-list earlier) x xs e .1) (a .1)
 
-  -- one call before a list that took back all its own edits
-  top-off : (k : ℕ) (m : Machine) → is-accepted (machine-step N J undo m .0) ≡ true → drop k (machine-step N J undo m .1 .stack) ≡ drop (suc k) (m .stack)
-  unfolding machine-step after-undo
-  top-off k m = off (m .stack)
-    where
-      off : (ps : Stack) → is-accepted (after-undo m ps .0) ≡ true → drop k (after-undo m ps .1 .stack) ≡ drop (suc k) ps
-      off [] a = let z : _≡_ {A = ℕ} 0 1 = cc in absurd (omega arith)
-      off (p ∷ ps) a = refl
+    pub run-along : (earlier : List Call) → Each Sendable earlier → (ps : List (List Call)) → Along ps (after-list earlier .stack) → (cs : List Call) → Each Sendable cs
+        → Along (standing earlier ps cs (machine-run lent cs (after-list earlier) .0)) (machine-run lent cs (after-list earlier) .1 .stack)
+    unfolding machine-run standing
+    run-along earlier f ps a [] g = a
+    run-along earlier f ps a (c ∷ cs) g =
+        let next : after-list (earlier ++ (c ∷ [])) ≡ machine-step lent c (after-list earlier) .1 = run-append earlier (c ∷ []) (start r) in
+        let qs : List (List Call) = settle (is-accepted (machine-step lent c (after-list earlier) .0)) earlier c ps in
+        let b : Along qs (machine-step lent c (after-list earlier) .1 .stack) = call-along earlier f ps a c _ refl in
+        rw next at (run-along (earlier ++ (c ∷ [])) (each-append Sendable earlier (c ∷ []) f (g .0, tt)) qs (rw next b) cs (g .1))
 
-  first-call : (c : Call) (cs : List Call) (m : Machine) → Cleared (machine-step N J c m .1) cs → Stands m (c ∷ cs) ⊎ Cleared m (c ∷ cs)
-  unfolding machine-run standing after
-  first-call c cs m q = go c (is-accepted (machine-step N J c m .0)) refl (q .k) (q .took) (q .stack)
-    where
-      go : (c : Call) (t : Bool) → is-accepted (machine-step N J c m .0) ≡ t → (k : ℕ)
-          → standing cs (machine-run N J cs (machine-step N J c m .1) .0) k ≡ accepted 0
-          → machine-run N J cs (machine-step N J c m .1) .1 .stack ≡ drop k (machine-step N J c m .1 .stack) → Stands m (c ∷ cs) ⊎ Cleared m (c ∷ cs)
-      go c false a k s p = inr (record { k = k; took = rw a s; stack = p ∙ ap (λ x. drop k (x .stack)) (refused-same c m a) })
-      go (edit e) true a zero s p = inl (record { earlier = []; last = e; later = cs; is = refl; accepts = a; stands = s })
-      go (edit e) true a (suc k) s p = inr (record { k = k; took = rw a s; stack = p ∙ ap (drop (suc k)) (edit-stack e m a) })
-      go undo true a k s p = inr (record { k = suc k; took = rw a s; stack = p ∙ top-off k m a })
+    -- where a take back is accepted, an edit stands
+    pub top-stands : (cs : List Call) (ps : List (List Call)) → Along ps (after-list cs .stack) → is-accepted (machine-step lent undo (after-list cs) .0) ≡ true
+        → (p : List Call) × (qs : List (List Call)) × (ps ≡ p ∷ qs)
+    top-stands cs [] a h = go (after-list cs .stack) refl a
+      where
+        go : (st : Stack) → after-list cs .stack ≡ st → Along [] st → (p : List Call) × (qs : List (List Call)) × ([] ≡ p ∷ qs)
+        go [] e a = let n = undo-none (after-list cs) e in let z : _≡_ {A = ℕ} 0 1 = cc in absurd (omega arith)
+    top-stands cs (p ∷ qs) a h = (p, qs, refl)
 
-  pub left : (cs : List Call) (m : Machine) → Stands m cs ⊎ Cleared m cs
-  unfolding machine-run standing
-  left [] m = inr (record { k = 0; took = refl; stack = refl })
-  left (c ∷ cs) m = go (left cs (machine-step N J c m .1))
-    where
-      go : Stands (machine-step N J c m .1) cs ⊎ Cleared (machine-step N J c m .1) cs → Stands m (c ∷ cs) ⊎ Cleared m (c ∷ cs)
-      go (inl s) =
-          inl (record { earlier = c ∷ s .earlier; last = s .last; later = s .later; is = ap (λ l. c ∷ l) (s .is); accepts = s .accepts; stands = s .stands })
-      go (inr q) = first-call c cs m q
-
-  drop-none : (k : ℕ) → _≡_ {A = Stack} (drop k []) []
-  drop-none zero = refl
-  drop-none (suc k) = refl
-
-  -- from an empty stack: where a take back is accepted, an edit stands
-  pub edit-stands : (r : Routine) (cs : List Call) → is-accepted (machine-step N J undo (machine-run N J cs (start r) .1) .0) ≡ true → Stands (start r) cs
-  unfolding machine-step after-undo
-  edit-stands r cs = go (left cs (start r))
-    where
-      go : Stands (start r) cs ⊎ Cleared (start r) cs → is-accepted (machine-step N J undo (machine-run N J cs (start r) .1) .0) ≡ true → Stands (start r) cs
-      go (inl s) a = s
-      go (inr q) a = let b = rw (q .stack ∙ drop-none (q .k)) at a in let z : _≡_ {A = ℕ} 0 1 = cc in absurd (omega arith)
+    -- where one stands, a take back is accepted, and the machine is as it was before it
+    pub returns : (cs : List Call) (p : List Call) (qs : List (List Call)) → Along (p ∷ qs) (after-list cs .stack)
+        → (is-accepted (machine-step lent undo (after-list cs) .0) ≡ true) × (machine-step lent undo (after-list cs) .1 ≡ after-list p) × Each Sendable p
+    returns cs p qs = go (after-list cs .stack) refl
+      where
+        go : (st : Stack) → after-list cs .stack ≡ st → Along (p ∷ qs) st
+            → (is-accepted (machine-step lent undo (after-list cs) .0) ≡ true) × (machine-step lent undo (after-list cs) .1 ≡ after-list p) × Each Sendable p
+        go (x ∷ xs) e a =
+            let u = undo-stack (after-list cs) x xs e in
+            (u .0, u .1 ∙ ap₂ (λ n k. record { now = n; stack = k }) (a .0 .routine) (a .0 .rest), a .0 .sent)

@@ -4,16 +4,18 @@ use Prim.Native.Nat.{ℕ}
 use mathlib.Core.Path.{_≡_}
 use mathlib.Core.Bool.{true}
 use mathlib.Core.List.{List, [], _∷_}
-use Rattle.fields.specs.Refusals.{short-file, name-not-text, wrong-mark, unknown-machine, foreign-register, unknown-operand-kind, unknown-operation, wrong-operand-count, repeated-block, lending-too-large, image-full, journal-full, spoiled-book, block-present, no-such-block, nothing-to-take-back, leftover}
+use Rattle.fields.specs.Refusals.{short-file, name-not-text, wrong-mark, unknown-machine, foreign-register, unknown-operand-kind, unknown-operation, wrong-operand-count, repeated-block}
+use Rattle.fields.specs.Refusals.{lending-too-large, image-full, journal-full, spoiled-book, block-present, no-such-block, nothing-to-take-back, leftover}
 use Rattle.fields.specs.Parse.{no}
 use Rattle.fields.specs.Outcome.{Outcome, refused}
 use Rattle.fields.specs.Lists.{has}
 use Rattle.pod.specs.Layout.{read-file}
-use Rattle.pod.specs.Descs.{writing, written-over}
+use Rattle.pod.specs.Descs.{write-instruction}
 use Rattle.pod.specs.declared.InstructionDesc.{InstructionDesc}
 use Rattle.machine.specs.Edits.{create, remove, append}
-use Rattle.machine.specs.Machine.{Call, edit, undo, Answer}
-use Rattle.machine.specs.Book.{State, no-book, open-book, step}
+use Rattle.machine.specs.Machine.{Call, edit, undo}
+use Rattle.machine.specs.Book.{State, unopened, open-book, step}
+use Rattle.machine.specs.CallList.{run-on, open-and-run}
 use Rattle.machine.specs.Look.{look-routine, look-block, look-instruction, look-vip, look-convention, look-register}
 
 -- of reading an instruction, and a file
@@ -47,15 +49,18 @@ pub record Numbered (es : List ℕ) {A : Type 0} (q : Outcome A) : Type 0 where
   pub one-of : (e : ℕ) → q ≡ refused e → has e es ≡ true
 
 -- and leaves this state
-pub record Refuses (es : List ℕ) (kept : State) (x : Answer × State) : Type 0 where
+pub record Refuses (es : List ℕ) {S : Type 0} (kept : S) {A : Type 0} (x : Outcome A × S) : Type 0 where
   pub number : Numbered es (x .0)
   pub unaltered : (e : ℕ) → x .0 ≡ refused e → x .1 ≡ kept
 
 pub record Demand-1 : Type 0 where
   pub checking : (file : List ℕ) (e : ℕ) → read-file file ≡ no e → has e file-refusals ≡ true
   -- image and journal stay, and the book is one of zeros
-  pub opening : (file image journal : List ℕ) → Refuses opening-refusals (record { image = image; journal = journal; book = no-book }) (open-book file image journal)
+  pub opening : (file image journal : List ℕ) → Refuses opening-refusals (unopened image journal) (open-book file image journal)
   pub calling : (c : Call) (s : State) → Refuses (call-refusals c) s (step c s)
+  -- a run over a list, from an opening or on a book: 15 for words that are no list
+  pub running : (file image journal words bytes : List ℕ) → Refuses (no-such-block ∷ opening-refusals) (unopened image journal) (open-and-run file image journal words bytes)
+  pub running-on : (words bytes : List ℕ) (s : State) → Refuses (no-such-block ∷ []) s (run-on words bytes s)
   -- a look leaves nothing
   pub at-routine : (s : State) → Numbered look-refusals (look-routine s)
   pub at-block : (i : ℕ) (s : State) → Numbered look-refusals (look-block i s)
@@ -63,5 +68,4 @@ pub record Demand-1 : Type 0 where
   pub at-vip : (i k j : ℕ) (s : State) → Numbered look-refusals (look-vip i k j s)
   pub at-convention : (i : ℕ) (s : State) → Numbered look-refusals (look-convention i s)
   pub at-register : (i k j : ℕ) (s : State) → Numbered look-refusals (look-register i k j s)
-  pub writer : (n : ℕ) (d : InstructionDesc) → Numbered writer-refusals (writing n d)
-  pub writer-unaltered : (image : List ℕ) (e : ℕ) → written-over image (refused e) ≡ image
+  pub writing-value : (image : List ℕ) (d : InstructionDesc) → Refuses writer-refusals image (write-instruction image d)

@@ -10,7 +10,7 @@ use Rattle.fields.specs.Bytes.{zeros}
 use Rattle.fields.specs.Outcome.{Outcome, refused, accepted}
 use Rattle.pod.specs.Values.{Instruction, RoutineConvention, Routine}
 use Rattle.pod.specs.Blocks.{vips}
-use Rattle.pod.specs.Layout.{instruction, read-file, as-it-comes}
+use Rattle.pod.specs.Layout.{instruction, read-file}
 use Rattle.pod.specs.Written.{bytes, instruction-bytes}
 use Rattle.pod.specs.declared.RegisterDesc.{RegisterDesc}
 use Rattle.pod.specs.declared.Operand.{Operand}
@@ -87,10 +87,10 @@ last-answer (a ∷ []) = a
 last-answer (a ∷ b ∷ bs) = last-answer (b ∷ bs)
 
 abbrev pub answer-to : List Call → Answer
-answer-to cs = last-answer (machine-run 222 116 cs (start smallest-routine) .0)
+answer-to cs = last-answer (machine-run (record { image = 222; journal = 116 }) cs (start smallest-routine) .0)
 
 abbrev pub vips-after : List Call → List ℕ
-vips-after cs = vips (machine-run 222 116 cs (start smallest-routine) .1 .now .explored-blocks)
+vips-after cs = vips (machine-run (record { image = 222; journal = 116 }) cs (start smallest-routine) .1 .now .explored-blocks)
 
 -- the same of the library's steps, from the opening of the smallest file; the vips are those of the routine that the book then holds
 abbrev pub library-run : List Call → List Answer × State
@@ -128,7 +128,7 @@ pub record Instances : Type 0 where
   pub nop : length (instruction-bytes (plain 41 [])) ≡ 32
   pub mov : length (instruction-bytes (plain 0 (Reg any-register ∷ Imm (record { value = 1; «bit_count» = 64 }) ∷ []))) ≡ 76
   -- "nop" with count 1, then end: 8
-  pub nop-count : span (instruction as-it-comes (bytes 4 3 ++ (110 ∷ 111 ∷ 112 ∷ bytes 4 1)) 0) ≡ no 8
+  pub nop-count : span (instruction (bytes 4 3 ++ (110 ∷ 111 ∷ 112 ∷ bytes 4 1)) 0) ≡ no 8
   -- On the 114 bytes, image 222 and journal 116, create 5, 6, 7: length 222, used 60
   pub created : answer-to creates ≡ answered 222 60
   pub created-order : vips-after creates ≡ 5 ∷ 6 ∷ 7 ∷ []

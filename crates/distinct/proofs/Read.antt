@@ -57,10 +57,10 @@ unfolding count vipsFrom
 none-over s o zero v b h = refl
 none-over s o (suc n) v b h = omega (arith, hit-other v (word 8 s o) (λ e. omega (arith, vip-le s o b)), none-over s (blockEnd s o) n v b h)
 
-pub vips-read : (exact : Bool) (s : List ℕ) (n o : ℕ) {bs : List BasicBlock} {e : ℕ} → many (block exact) n s o ≡ ok bs e → vipsFrom s o n ≡ vips bs
+pub vips-read : (s : List ℕ) (n o : ℕ) {bs : List BasicBlock} {e : ℕ} → many block n s o ≡ ok bs e → vipsFrom s o n ≡ vips bs
 unfolding many vipsFrom
-vips-read exact s zero o {bs} {e} q = ap vips (inv-ok q .0)
-vips-read exact s (suc n) o {bs} {e} q =
-    let a = inv (block exact s o) _ q in
-    let r = inv (many (block exact) n s (a .1)) _ (a .3) in
-    rw (block-vip s exact o (a .2), block-ends s exact o (a .2)) (ap (λ l. a .0 .vip ∷ l) (vips-read exact s n (a .1) (r .2)) ∙ ap vips (inv-ok (r .3) .0))
+vips-read s zero o {bs} {e} q = ap vips (inv-ok q .0)
+vips-read s (suc n) o {bs} {e} q =
+    let a = inv (block s o) _ q in
+    let r = inv (many block n s (a .1)) _ (a .3) in
+    rw (block-vip s o (a .2), block-ends s o (a .2)) (ap (λ l. a .0 .vip ∷ l) (vips-read s n (a .1) (r .2)) ∙ ap vips (inv-ok (r .3) .0))

@@ -25,28 +25,26 @@ pub record Passing (xs : List ℕ) (size : ℕ) (b : List ℕ) (lo : ℕ) : Type
 pub pass-start : (xs b : List ℕ) → Passing xs (length b) b 0
 pass-start xs b = record { len = refl; within = omega arith; once = λ v l. absurd (omega arith) }
 
-module _ (xs : List ℕ) (lo r : ℕ) (b b′ : List ℕ) (g : Gathered xs lo r b) (s : Sorted b b′) where
-  pub pass-twice : (t : Bool) → t ≡ true → Has-repeat b′ t → repeats xs ≡ true
-  pass-twice t e w =
+module _ {xs : List ℕ} {lo r : ℕ} {b b′ : List ℕ} (g : Gathered xs lo r b) (s : Sorted b b′) where
+  pub pass-twice : {t : Bool} → Has-repeat b′ t → t ≡ true → repeats xs ≡ true
+  pass-twice w e =
       let k = w .twice e in
       rep-true xs (k .0) (omega (arith, k .1, k .2, s .same (k .0), g .only (k .0) (k .1)))
 
-  pub pass-more : (size : ℕ) (b₀ : List ℕ) (t : Bool) → (r ≡ 0 → ⊥) → t ≡ false → Has-repeat b′ t → Passing xs size b₀ lo → length b′ ≡ size → Passing xs size b′ r
-  pass-more size b₀ t n e w p l =
-      let in-top : r ≤ TOP = g .within in
-      let pos : 0 < r = lt-of (omega arith) n in
+  pub pass-more : {size : ℕ} {b₀ : List ℕ} {t : Bool} → Has-repeat b′ t → t ≡ false → Passing xs size b₀ lo → 0 < r → length b′ ≡ size → Passing xs size b′ r
+  pass-more w e p pos l =
       record {
         len = l;
-        within = in-top;
-        once = λ v h. ⊎-elim (λ z. p .once v z) (λ z. omega (arith, g .all pos v z h, s .same v, w .once e v (omega arith))) (below? v lo);
+        within = g .within;
+        once = λ v h. ⊎-elim (λ z. p .once v z) (λ z. omega (arith, g .all pos v z h, s .same v, w .once e v (omega (arith, g .within)))) (below? v lo);
       }
 
-pub pass-end : (s : List ℕ) (o n size : ℕ) (b : List ℕ) (lo : ℕ) → Bytes s → TOP ≤ lo → TopTwice (vipsFrom s o n) false → Passing (vipsFrom s o n) size b lo
-    → repeats (vipsFrom s o n) ≡ false
-pass-end s o n size b lo y h t p = rep-false (vipsFrom s o n) (λ v. ⊎-elim
+pub pass-end : (s : List ℕ) (o n : ℕ) {size : ℕ} {b : List ℕ} {lo : ℕ} → Bytes s → TopTwice (vipsFrom s o n) false → Passing (vipsFrom s o n) size b lo
+    → TOP ≤ lo → repeats (vipsFrom s o n) ≡ false
+pass-end s o n y t p h = rep-false (vipsFrom s o n) (λ v. ⊎-elim
     (λ z. p .once v (omega arith))
     (λ z. ⊎-elim
-    (λ e. let w : count v (vipsFrom s o n) ≡ count TOP (vipsFrom s o n) = ap (λ (k : ℕ). count k (vipsFrom s o n)) e in omega (arith, t .once refl))
+    (λ e. omega (arith, ap (λ (k : ℕ). count k (vipsFrom s o n)) e, t .once refl))
     (λ e. omega (arith, none-over s o n v y (lt-of (omega arith) e)))
     (equal? v TOP))
     (below? v TOP))
@@ -55,5 +53,5 @@ pass-end s o n size b lo y h t p = rep-false (vipsFrom s o n) (λ v. ⊎-elim
 pub few : (s : List ℕ) (o n : ℕ) → n < 2 → repeats (vipsFrom s o n) ≡ false
 few s o n h = rep-false (vipsFrom s o n) (λ v. omega (arith, count-few s o n v))
 
-pub not-twice : (xs : List ℕ) (r : Bool) → r ≡ false → TopTwice xs r → TopTwice xs false
-not-twice xs r e t = rw e at t
+pub not-twice : {xs : List ℕ} {r : Bool} → TopTwice xs r → r ≡ false → TopTwice xs false
+not-twice t e = rw e at t

@@ -1,7 +1,7 @@
 // Whether two blocks share a vip: document 01's refusal 9. The blocks were accepted before, the file is only read, and the memory is 64,000
 // bytes of stack. n blocks take at most n / 8000 + 2 walks, whatever their vips and their order; no contract says this.
 ghost use mathlib.Core.Path.{_≡_};
-ghost use mathlib.Core.Bool.{Bool, true, false};
+ghost use mathlib.Core.Bool.{true, false};
 ghost use mathlib.Core.List.{List};
 ghost use Prim.Native.Nat.{ℕ, _<_};
 ghost use lib.ListN.{length};
@@ -107,10 +107,9 @@ fn has_repeat_in(s: &[u8], start: usize, count: usize, b: &mut [u64]) -> bool
     }
 }
 
-// Whether two of the `count` blocks from `start` share a vip. It says so of blocks that a walk accepted, `exact` or not; of other bytes it says
-// nothing.
+// Whether two of the `count` blocks from `start` share a vip. It says so of blocks that a walk accepted; of other bytes it says nothing.
 pub fn has_repeat(s: &[u8], start: usize, count: u32) -> bool
-    ensures { λ r. ⌜ ((exact : Bool) (bs : List BasicBlock) (end : ℕ) → many (block exact) count (now (s .entry)) start ≡ ok bs end → r ≡ repeats (vips bs)) ⌝ }
+    ensures { λ r. ⌜ ((bs : List BasicBlock) (end : ℕ) → many block count (now (s .entry)) start ≡ ok bs end → r ≡ repeats (vips bs)) ⌝ }
 {
     let mut b = [0u64; 8000];
     has_repeat_in(s, start, count as usize, &mut b)

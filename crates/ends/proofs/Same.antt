@@ -73,12 +73,11 @@ module _ (s : List ℕ) where
           record { is = sym z; in-s = omega arith }
       go false q p = let z : _≡_ {A = ℕ} 0 1 = cc in absurd (omega arith)
 
-  flag-end : (exact : Bool) (o : ℕ) {v : Bool} {n : ℕ} → flag exact s o ≡ ok v n → Further s o 1 n
+  flag-end : (o : ℕ) {v : Bool} {n : ℕ} → flag s o ≡ ok v n → Further s o 1 n
   unfolding flag
-  flag-end exact o {v} {n} e =
+  flag-end o {v} {n} e =
       let b = inv (uint 1 s o) _ e in
-      let t = inv-check _ _ _ _ (b .3) in
-      let z : b .1 ≡ n = inv-ok (t .1) .1 in
+      let z : b .1 ≡ n = inv-ok (b .3) .1 in
       rw z at (u-end 1 o (b .2))
 
   immediate-end : (o : ℕ) {x : ImmediateDesc} {n : ℕ} → immediate s o ≡ ok x n → Further s o 12 n
@@ -163,69 +162,68 @@ module _ (s : List ℕ) where
   unfolding registersEnd
   registers-ends o e = flat-ends register 24 (λ o x n. register-end o) o e
 
-  module _ (exact : Bool) where
-    pub instruction-ends : (o : ℕ) {x : Instruction} {n : ℕ} → instruction exact s o ≡ ok x n → instructionEnd s o ≡ n
-    unfolding instruction opcode named after-opcode instructionEnd
-    instruction-ends o {x} {n} e =
-        let a = inv _ _ e in
-        let size = inv (uint 4 s o) _ (a .2) in
-        let name = inv (part (size .0) s (size .1)) _ (size .3) in
-        let text = inv-check _ _ _ _ (name .3) in
-        let count = inv (uint 4 s (name .1)) _ (text .1) in
-        let known = inv-check _ _ _ _ (count .3) in
-        let right = inv-check _ _ _ _ (known .1) in
-        let k₁ : number (name .0) ≡ a .0 = inv-ok (right .1) .0 in
-        let k₂ : count .1 ≡ a .1 = inv-ok (right .1) .1 in
-        let ops = inv (many operand (getD counts (a .0) 0) s (a .1)) _ (a .3) in
-        let vip = inv (uint 8 s (ops .1)) _ (ops .3) in
-        let off = inv _ _ (vip .3) in
-        let idx = inv (uint 4 s (off .1)) _ (off .3) in
-        let rst = inv (flag exact s (idx .1)) _ (idx .3) in
-        let k₃ : rst .1 ≡ n = inv-ok (rst .3) .1 in
-        let c₁ : count .0 ≡ getD counts (a .0) 0 = eqb-true _ _ (right .0) ∙ ap (λ j. getD counts j 0) k₁ in
-        let e₁ : jump s o 4 ≡ size .1 = jumps (u-end 4 o (size .2)) in
-        let e₂ : jump s (size .1) (size .0) ≡ name .1 = jumps (part-end (size .0) (size .1) (name .2)) in
-        let e₃ : jump s (name .1) 4 ≡ a .1 = jumps (u-end 4 (name .1) (count .2)) ∙ k₂ in
-        let e₄ : times (operandEnd s) (getD counts (a .0) 0) (a .1) ≡ ops .1 = many-ends operand (operandEnd s) (λ o x n. operand-ends o) _ (a .1) (ops .2) in
-        let e₅ : jump s (ops .1) 21 ≡ rst .1 =
-        jumps (then (then (then (u-end 8 (ops .1) (vip .2)) (i-end 8 (vip .1) w64 (off .2))) (u-end 4 (off .1) (idx .2))) (flag-end exact (idx .1) (rst .2))) in
-        rw (e₁, u-word 4 o (size .2), e₂, u-word 4 (name .1) (count .2), e₃, c₁, e₄) (e₅ ∙ k₃)
+  pub instruction-ends : (o : ℕ) {x : Instruction} {n : ℕ} → instruction s o ≡ ok x n → instructionEnd s o ≡ n
+  unfolding instruction opcode named after-opcode instructionEnd
+  instruction-ends o {x} {n} e =
+      let a = inv _ _ e in
+      let size = inv (uint 4 s o) _ (a .2) in
+      let name = inv (part (size .0) s (size .1)) _ (size .3) in
+      let text = inv-check _ _ _ _ (name .3) in
+      let count = inv (uint 4 s (name .1)) _ (text .1) in
+      let known = inv-check _ _ _ _ (count .3) in
+      let right = inv-check _ _ _ _ (known .1) in
+      let k₁ : number (name .0) ≡ a .0 = inv-ok (right .1) .0 in
+      let k₂ : count .1 ≡ a .1 = inv-ok (right .1) .1 in
+      let ops = inv (many operand (getD counts (a .0) 0) s (a .1)) _ (a .3) in
+      let vip = inv (uint 8 s (ops .1)) _ (ops .3) in
+      let off = inv _ _ (vip .3) in
+      let idx = inv (uint 4 s (off .1)) _ (off .3) in
+      let rst = inv (flag s (idx .1)) _ (idx .3) in
+      let k₃ : rst .1 ≡ n = inv-ok (rst .3) .1 in
+      let c₁ : count .0 ≡ getD counts (a .0) 0 = eqb-true _ _ (right .0) ∙ ap (λ j. getD counts j 0) k₁ in
+      let e₁ : jump s o 4 ≡ size .1 = jumps (u-end 4 o (size .2)) in
+      let e₂ : jump s (size .1) (size .0) ≡ name .1 = jumps (part-end (size .0) (size .1) (name .2)) in
+      let e₃ : jump s (name .1) 4 ≡ a .1 = jumps (u-end 4 (name .1) (count .2)) ∙ k₂ in
+      let e₄ : times (operandEnd s) (getD counts (a .0) 0) (a .1) ≡ ops .1 = many-ends operand (operandEnd s) (λ o x n. operand-ends o) _ (a .1) (ops .2) in
+      let e₅ : jump s (ops .1) 21 ≡ rst .1 =
+      jumps (then (then (then (u-end 8 (ops .1) (vip .2)) (i-end 8 (vip .1) w64 (off .2))) (u-end 4 (off .1) (idx .2))) (flag-end (idx .1) (rst .2))) in
+      rw (e₁, u-word 4 o (size .2), e₂, u-word 4 (name .1) (count .2), e₃, c₁, e₄) (e₅ ∙ k₃)
 
-    both : (o : ℕ) {b : BasicBlock} {n : ℕ} → block exact s o ≡ ok b n → (word 8 s o ≡ b .vip) × (blockEnd s o ≡ n)
-    unfolding block blockEnd
-    both o {b} {n} e =
-        let vip = inv (uint 8 s o) _ e in
-        let off = inv _ _ (vip .3) in
-        let idx = inv (uint 4 s (off .1)) _ (off .3) in
-        let tmp = inv (uint 4 s (idx .1)) _ (idx .3) in
-        let ins = inv (counted (instruction exact) s (tmp .1)) _ (tmp .3) in
-        let prev = inv (counted u64 s (ins .1)) _ (ins .3) in
-        let next = inv (counted u64 s (prev .1)) _ (prev .3) in
-        let k : next .1 ≡ n = inv-ok (next .3) .1 in
-        let v : vip .0 ≡ b .vip = ap (λ (x : BasicBlock). x .vip) (inv-ok (next .3) .0) in
-        let cnt = inv (uint 4 s (tmp .1)) _ (ins .2) in
-        let e₁ : jump s o 24 ≡ tmp .1 =
-        jumps (then (then (then (u-end 8 o (vip .2)) (i-end 8 (vip .1) w64 (off .2))) (u-end 4 (off .1) (idx .2))) (u-end 4 (idx .1) (tmp .2))) in
-        let e₂ : jump s (tmp .1) 4 ≡ cnt .1 = jumps (u-end 4 (tmp .1) (cnt .2)) in
-        let e₃ : times (instructionEnd s) (cnt .0) (cnt .1) ≡ ins .1 = many-ends (instruction exact) (instructionEnd s) (λ o x n. instruction-ends o) _ (cnt .1) (cnt .3) in
-        (u-word 8 o (vip .2) ∙ v, rw (e₁, u-word 4 (tmp .1) (cnt .2), e₂, e₃, vips-ends (ins .1) (prev .2), vips-ends (prev .1) (next .2)) k)
+  both : (o : ℕ) {b : BasicBlock} {n : ℕ} → block s o ≡ ok b n → (word 8 s o ≡ b .vip) × (blockEnd s o ≡ n)
+  unfolding block blockEnd
+  both o {b} {n} e =
+      let vip = inv (uint 8 s o) _ e in
+      let off = inv _ _ (vip .3) in
+      let idx = inv (uint 4 s (off .1)) _ (off .3) in
+      let tmp = inv (uint 4 s (idx .1)) _ (idx .3) in
+      let ins = inv (counted instruction s (tmp .1)) _ (tmp .3) in
+      let prev = inv (counted u64 s (ins .1)) _ (ins .3) in
+      let next = inv (counted u64 s (prev .1)) _ (prev .3) in
+      let k : next .1 ≡ n = inv-ok (next .3) .1 in
+      let v : vip .0 ≡ b .vip = ap (λ (x : BasicBlock). x .vip) (inv-ok (next .3) .0) in
+      let cnt = inv (uint 4 s (tmp .1)) _ (ins .2) in
+      let e₁ : jump s o 24 ≡ tmp .1 =
+      jumps (then (then (then (u-end 8 o (vip .2)) (i-end 8 (vip .1) w64 (off .2))) (u-end 4 (off .1) (idx .2))) (u-end 4 (idx .1) (tmp .2))) in
+      let e₂ : jump s (tmp .1) 4 ≡ cnt .1 = jumps (u-end 4 (tmp .1) (cnt .2)) in
+      let e₃ : times (instructionEnd s) (cnt .0) (cnt .1) ≡ ins .1 = many-ends instruction (instructionEnd s) (λ o x n. instruction-ends o) _ (cnt .1) (cnt .3) in
+      (u-word 8 o (vip .2) ∙ v, rw (e₁, u-word 4 (tmp .1) (cnt .2), e₂, e₃, vips-ends (ins .1) (prev .2), vips-ends (prev .1) (next .2)) k)
 
-    pub block-vip : (o : ℕ) {b : BasicBlock} {n : ℕ} → block exact s o ≡ ok b n → word 8 s o ≡ b .vip
-    block-vip o e = both o e .0
+  pub block-vip : (o : ℕ) {b : BasicBlock} {n : ℕ} → block s o ≡ ok b n → word 8 s o ≡ b .vip
+  block-vip o e = both o e .0
 
-    pub block-ends : (o : ℕ) {b : BasicBlock} {n : ℕ} → block exact s o ≡ ok b n → blockEnd s o ≡ n
-    block-ends o e = both o e .1
+  pub block-ends : (o : ℕ) {b : BasicBlock} {n : ℕ} → block s o ≡ ok b n → blockEnd s o ≡ n
+  block-ends o e = both o e .1
 
-    pub convention-ends : (o : ℕ) {c : RoutineConvention} {n : ℕ} → convention exact s o ≡ ok c n → conventionEnd s o ≡ n
-    unfolding convention conventionEnd
-    convention-ends o {c} {n} e =
-        let volatile = inv (counted register s o) _ e in
-        let param = inv (counted register s (volatile .1)) _ (volatile .3) in
-        let retval = inv (counted register s (param .1)) _ (param .3) in
-        let frame = inv (register s (retval .1)) _ (retval .3) in
-        let shadow = inv (uint 8 s (frame .1)) _ (frame .3) in
-        let purge = inv (flag exact s (shadow .1)) _ (shadow .3) in
-        let k : purge .1 ≡ n = inv-ok (purge .3) .1 in
-        let e₁ : jump s (retval .1) 33 ≡ purge .1 =
-        jumps (then (then (register-end (retval .1) (frame .2)) (u-end 8 (frame .1) (shadow .2))) (flag-end exact (shadow .1) (purge .2))) in
-        rw (registers-ends o (volatile .2), registers-ends (volatile .1) (param .2), registers-ends (param .1) (retval .2)) (e₁ ∙ k)
+  pub convention-ends : (o : ℕ) {c : RoutineConvention} {n : ℕ} → convention s o ≡ ok c n → conventionEnd s o ≡ n
+  unfolding convention conventionEnd
+  convention-ends o {c} {n} e =
+      let volatile = inv (counted register s o) _ e in
+      let param = inv (counted register s (volatile .1)) _ (volatile .3) in
+      let retval = inv (counted register s (param .1)) _ (param .3) in
+      let frame = inv (register s (retval .1)) _ (retval .3) in
+      let shadow = inv (uint 8 s (frame .1)) _ (frame .3) in
+      let purge = inv (flag s (shadow .1)) _ (shadow .3) in
+      let k : purge .1 ≡ n = inv-ok (purge .3) .1 in
+      let e₁ : jump s (retval .1) 33 ≡ purge .1 =
+      jumps (then (then (register-end (retval .1) (frame .2)) (u-end 8 (frame .1) (shadow .2))) (flag-end (shadow .1) (purge .2))) in
+      rw (registers-ends o (volatile .2), registers-ends (volatile .1) (param .2), registers-ends (param .1) (retval .2)) (e₁ ∙ k)

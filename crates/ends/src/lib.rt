@@ -8,6 +8,53 @@ use fields::U32Read;
 use fields::U64Read;
 use pod::Vip;
 
+// The count before a list's elements.
+pub const COUNT_SIZE: usize = 4;
+
+pub const VIP_SIZE: usize = 8;
+
+// In a routine, where the machine's byte stands in the header of 8 bytes, the entry vip after the header, and the first convention after that.
+pub const MACHINE_AT: usize = 4;
+
+pub const ENTRY_VIP_AT: usize = 8;
+
+pub const CONVENTIONS_AT: usize = ENTRY_VIP_AT + VIP_SIZE;
+
+// A register: flags 8, combined id 8, bit count 4, bit offset 4.
+pub const REGISTER_SIZE: usize = 24;
+
+// An immediate: value 8, bit count 4.
+pub const IMMEDIATE_SIZE: usize = 12;
+
+// In a block, where the numbers after its vip stand: sp offset 8, sp index 4, last temporary index 4.
+pub const SP_OFFSET_AT: usize = VIP_SIZE;
+
+pub const SP_INDEX_AT: usize = SP_OFFSET_AT + 8;
+
+pub const LAST_TEMPORARY_AT: usize = SP_INDEX_AT + 4;
+
+// In a block, the numbers before its lists. The count of its instructions stands after them.
+pub const BLOCK_HEAD_SIZE: usize = LAST_TEMPORARY_AT + 4;
+
+// In a block, where its instructions begin: after their count.
+pub const INSTRUCTIONS_AT: usize = BLOCK_HEAD_SIZE + COUNT_SIZE;
+
+// A block whose three lists are empty, and where its last count stands.
+pub const EMPTY_BLOCK_SIZE: usize = BLOCK_HEAD_SIZE + 3 * COUNT_SIZE;
+
+pub const LAST_COUNT_AT: usize = EMPTY_BLOCK_SIZE - COUNT_SIZE;
+
+// In an instruction, the fields past its operands: vip 8, sp offset 8, sp index 4, sp reset 1.
+pub const INSTRUCTION_TAIL: usize = 21;
+
+// In a convention, from its frame register on: where the shadow space stands, and where the purge.
+pub const SHADOW_SPACE_AT: usize = REGISTER_SIZE;
+
+pub const PURGE_AT: usize = SHADOW_SPACE_AT + 8;
+
+// In a convention, the fields past its lists: frame register 24, shadow space 8, purge 1.
+pub const CONVENTION_TAIL: usize = PURGE_AT + 1;
+
 // A block that was passed: its vip, and the offset past it.
 pub struct PassedBlock {
     pub vip: Vip,
@@ -50,15 +97,15 @@ pub fn word64(s: &[u8], at: usize) -> u64
     }
 }
 
-// The end of the operand at `at`: its kind, then an immediate of 12 bytes or a register of 24.
+// The end of the operand at `at`: its kind, then an immediate or a register.
 fn operand_end(s: &[u8], at: usize) -> usize
     ensures { λ r. ⌜ r ≡ operandEnd (now (s .entry)) at ⌝ }
 {
     let a = jump(s, at, 4);
     if word32(s, at) == 0 {
-        jump(s, a, 12)
+        jump(s, a, IMMEDIATE_SIZE)
     } else {
-        jump(s, a, 24)
+        jump(s, a, REGISTER_SIZE)
     }
 }
 
@@ -112,10 +159,10 @@ fn fast_instruction_end(s: &[u8], at: usize) -> usize
         o = fast_operand_end(s, o);
         left -= 1;
     }
-    o + 21
+    o + INSTRUCTION_TAIL
 }
 
-// The end of the instruction at `at`. The 21 bytes past the operands: vip 8, sp offset 8, sp index 4, sp reset 1.
+// The end of the instruction at `at`.
 pub fn instruction_end(s: &[u8], at: usize) -> usize
     ensures { λ r. ⌜ r ≡ instructionEnd (now (s .entry)) at ⌝ }
 {
@@ -127,9 +174,9 @@ pub fn instruction_end(s: &[u8], at: usize) -> usize
     let size = word32(s, at);
     let n = jump(s, a, size as usize);
     let count = word32(s, n);
-    let b = jump(s, n, 4);
+    let b = jump(s, n, COUNT_SIZE);
     let e = operands_end(s, b, count);
-    jump(s, e, 21)
+    jump(s, e, INSTRUCTION_TAIL)
 }
 
 pub fn instructions_end(s: &[u8], at: usize, count: u32) -> usize
@@ -148,9 +195,9 @@ pub fn instructions_end(s: &[u8], at: usize, count: u32) -> usize
 pub fn vips_end(s: &[u8], at: usize) -> usize
     ensures { λ r. ⌜ r ≡ vipsEnd (now (s .entry)) at ⌝ }
 {
-    let a = jump(s, at, 4);
+    let a = jump(s, at, COUNT_SIZE);
     let count = word32(s, at);
-    jump(s, a, 8 * (count as usize))
+    jump(s, a, VIP_SIZE * (count as usize))
 }
 
 // The end of the block at `at` where it has no instruction and no vips, as one length test and three loads tell; or 0.
@@ -160,22 +207,22 @@ fn fast_block_end(s: &[u8], at: usize) -> usize
     if s.len() < at {
         return 0;
     }
-    if s.len() - at < 36 {
+    if s.len() - at < EMPTY_BLOCK_SIZE {
         return 0;
     }
-    if fields::four(s, at + 24) != 0 {
+    if fields::four(s, at + BLOCK_HEAD_SIZE) != 0 {
         return 0;
     }
-    if fields::four(s, at + 28) != 0 {
+    if fields::four(s, at + INSTRUCTIONS_AT) != 0 {
         return 0;
     }
-    if fields::four(s, at + 32) != 0 {
+    if fields::four(s, at + LAST_COUNT_AT) != 0 {
         return 0;
     }
-    at + 36
+    at + EMPTY_BLOCK_SIZE
 }
 
-// The end of the block at `at`. The 24 bytes before its lists: vip 8, sp offset 8, sp index 4, last temporary index 4.
+// The end of the block at `at`.
 pub fn block_end(s: &[u8], at: usize) -> usize
     ensures { λ r. ⌜ r ≡ blockEnd (now (s .entry)) at ⌝ }
 {
@@ -183,9 +230,9 @@ pub fn block_end(s: &[u8], at: usize) -> usize
     if 0 < end {
         return end;
     }
-    let i = jump(s, at, 24);
+    let i = jump(s, at, BLOCK_HEAD_SIZE);
     let count = word32(s, i);
-    let a = jump(s, i, 4);
+    let a = jump(s, i, COUNT_SIZE);
     let e = instructions_end(s, a, count);
     let p = vips_end(s, e);
     vips_end(s, p)
@@ -217,19 +264,19 @@ pub fn blocks_end(s: &[u8], at: usize, count: usize) -> usize
 pub fn registers_end(s: &[u8], at: usize) -> usize
     ensures { λ r. ⌜ r ≡ registersEnd (now (s .entry)) at ⌝ }
 {
-    let a = jump(s, at, 4);
+    let a = jump(s, at, COUNT_SIZE);
     let count = word32(s, at);
-    jump(s, a, 24 * (count as usize))
+    jump(s, a, REGISTER_SIZE * (count as usize))
 }
 
-// The end of the convention at `at`. The 33 bytes past its lists: frame register 24, shadow space 8, purge 1.
+// The end of the convention at `at`.
 pub fn convention_end(s: &[u8], at: usize) -> usize
     ensures { λ r. ⌜ r ≡ conventionEnd (now (s .entry)) at ⌝ }
 {
     let a = registers_end(s, at);
     let b = registers_end(s, a);
     let c = registers_end(s, b);
-    jump(s, c, 33)
+    jump(s, c, CONVENTION_TAIL)
 }
 
 // The end of `count` conventions from `at` on.

@@ -32,6 +32,10 @@ drop-parts A M Z f t h k = ap (drop t) (sym (append-assoc A M Z)) ∙ drop-at (A
 reversed-parts : (A M Z : List ℕ) (f t : ℕ) → length A ≡ f → f + length M ≡ t → reversed f t (A ++ (M ++ Z)) ≡ A ++ (rev M ++ Z)
 reversed-parts A M Z f t h k = rw (take-at A (M ++ Z) f h, slice-parts A M Z f t h k, drop-parts A M Z f t h k)
 
+-- a part that stands reversed, reversed again
+reversed-back : (A M Z : List ℕ) (f t : ℕ) {a : List ℕ} → a ≡ A ++ (rev M ++ Z) → length A ≡ f → f + length M ≡ t → reversed f t a ≡ A ++ (M ++ Z)
+reversed-back A M Z f t e h k = ap (reversed f t) e ∙ reversed-parts A (rev M) Z f t h (omega (arith, length-rev M)) ∙ rw (rev-rev M)
+
 -- the two ends swapped, of a list in parts: what is left to reverse is the middle, M
 module _ (A X M Y B : List ℕ) (i k n : ℕ) (hi : length A ≡ i) (hx : length X ≡ n) (hy : length Y ≡ n) (hk : i + n + length M ≡ k) where
   ends-swapped : swapped-back i k n (A ++ (X ++ (M ++ (Y ++ B)))) ≡ A ++ (rev Y ++ (M ++ (rev X ++ B)))
@@ -82,28 +86,13 @@ module _ (A P Q R Z : List ℕ) (s b c e : ℕ) (hs : length A ≡ s) (hb : s + 
   four-parts : (q p : ℕ) → q ≡ s + (e - c) → p ≡ e - (b - s)
       → reversed p e (reversed q p (reversed s q (reversed s e (A ++ (P ++ (Q ++ (R ++ Z))))))) ≡ A ++ (R ++ (Q ++ (P ++ Z)))
   four-parts q p hq hp =
-      let n : length (P ++ (Q ++ R)) ≡ length P + (length Q + length R) = length-append P (Q ++ R) ∙ ap (λ (k : ℕ). length P + k) (length-append Q R) in
-      let w : s + length (P ++ (Q ++ R)) ≡ e = omega arith in
-      let e0 : A ++ (P ++ (Q ++ (R ++ Z))) ≡ A ++ ((P ++ (Q ++ R)) ++ Z) = simp append-assoc in
+      let w : s + length (P ++ (Q ++ R)) ≡ e = omega (arith, length-append P (Q ++ R), length-append Q R) in
       let v : rev (P ++ (Q ++ R)) ++ Z ≡ rev R ++ (rev Q ++ (rev P ++ Z)) = rw (rev-append P (Q ++ R), rev-append Q R) (simp append-assoc) in
-      let x1 : reversed s e (A ++ (P ++ (Q ++ (R ++ Z)))) ≡ A ++ (rev R ++ (rev Q ++ (rev P ++ Z))) = ap (reversed s e) e0 ∙ reversed-parts A (P ++ (Q ++ R)) Z s e hs w ∙ ap (λ (l : List ℕ). A ++ l) v in
-      let lr : length (rev R) ≡ length R = length-rev R in
-      let lq : length (rev Q) ≡ length Q = length-rev Q in
-      let lp : length (rev P) ≡ length P = length-rev P in
-      let q1 : s + length (rev R) ≡ q = omega arith in
-      let x2 : reversed s q (A ++ (rev R ++ (rev Q ++ (rev P ++ Z)))) ≡ A ++ (R ++ (rev Q ++ (rev P ++ Z))) =
-      reversed-parts A (rev R) (rev Q ++ (rev P ++ Z)) s q hs q1 ∙ ap (λ (l : List ℕ). A ++ (l ++ (rev Q ++ (rev P ++ Z)))) (rev-rev R) in
-      let q2 : length (A ++ R) ≡ q = omega (arith, length-append A R) in
-      let p1 : q + length (rev Q) ≡ p = omega arith in
-      let x3 : reversed q p (A ++ (R ++ (rev Q ++ (rev P ++ Z)))) ≡ A ++ (R ++ (Q ++ (rev P ++ Z))) =
-      ap (reversed q p) (sym (append-assoc A R (rev Q ++ (rev P ++ Z)))) ∙ reversed-parts (A ++ R) (rev Q) (rev P ++ Z) q p q2 p1 ∙ ap (λ (l : List ℕ). (A ++ R) ++ (l ++ (rev P ++ Z))) (rev-rev Q)
-      ∙ append-assoc A R (Q ++ (rev P ++ Z)) in
-      let p2 : length (A ++ (R ++ Q)) ≡ p = omega (arith, length-append A (R ++ Q), length-append R Q) in
-      let e1 : p + length (rev P) ≡ e = omega arith in
-      let g : (l : List ℕ) → A ++ (R ++ (Q ++ l)) ≡ (A ++ (R ++ Q)) ++ l = λ l. simp append-assoc in
-      let x4 : reversed p e (A ++ (R ++ (Q ++ (rev P ++ Z)))) ≡ A ++ (R ++ (Q ++ (P ++ Z))) =
-      ap (reversed p e) (g (rev P ++ Z)) ∙ reversed-parts (A ++ (R ++ Q)) (rev P) Z p e p2 e1 ∙ ap (λ (l : List ℕ). (A ++ (R ++ Q)) ++ (l ++ Z)) (rev-rev P) ∙ sym (g (P ++ Z)) in
-      ap (λ (l : List ℕ). reversed p e (reversed q p (reversed s q l))) x1 ∙ ap (λ (l : List ℕ). reversed p e (reversed q p l)) x2 ∙ ap (reversed p e) x3 ∙ x4
+      let x : reversed s e (A ++ (P ++ (Q ++ (R ++ Z)))) ≡ A ++ (rev R ++ (rev Q ++ (rev P ++ Z))) =
+      ap (reversed s e) (simp append-assoc) ∙ reversed-parts A (P ++ (Q ++ R)) Z s e hs w ∙ ap (λ (l : List ℕ). A ++ l) v in
+      let y = reversed-back A R (rev Q ++ (rev P ++ Z)) s q x hs (omega arith) in
+      let z = reversed-back (A ++ R) Q (rev P ++ Z) q p (y ∙ sym (append-assoc A R _)) (omega (arith, length-append A R)) (omega arith) in
+      reversed-back (A ++ (R ++ Q)) P Z p e (z ∙ simp append-assoc) (omega (arith, length-append A (R ++ Q), length-append R Q)) (omega arith) ∙ simp append-assoc
 
 drop-slice : (a : List ℕ) (b c : ℕ) → b ≤ c → c ≤ length a → drop b a ≡ slice b c a ++ drop c a
 unfolding slice
@@ -120,26 +109,27 @@ module _ (a : List ℕ) (s b c e : ℕ) (hb : s ≤ b) (hc : b ≤ c) (he : c �
       ∙ ap (λ (l : List ℕ). slice s b a ++ l) (drop-slice a b c hc (omega arith) ∙ ap (λ (l : List ℕ). slice b c a ++ l) (drop-slice a c e he h)))
 
   -- four reversals exchange the parts
-  pub four : reversed (e - (b - s)) e (reversed (s + (e - c)) (e - (b - s)) (reversed s (s + (e - c)) (reversed s e a))) ≡ exchanged s b c e a
+  pub four : {z : List ℕ} → z ≡ reversed (e - (b - s)) e (reversed (s + (e - c)) (e - (b - s)) (reversed s (s + (e - c)) (reversed s e a))) → z ≡ exchanged s b c e a
   unfolding exchanged slice
-  four =
+  four q =
       let la : length (take s a) ≡ s = length-take-le s a (omega arith) in
       let lp : length (slice s b a) ≡ b - s = length-slice s b a (omega arith) in
       let lq : length (slice b c a) ≡ c - b = length-slice b c a (omega arith) in
       let lr : length (slice c e a) ≡ e - c = length-slice c e a h in
-      ap (λ (l : List ℕ). reversed (e - (b - s)) e (reversed (s + (e - c)) (e - (b - s)) (reversed s (s + (e - c)) (reversed s e l)))) cut
+      q
+      ∙ ap (λ (l : List ℕ). reversed (e - (b - s)) e (reversed (s + (e - c)) (e - (b - s)) (reversed s (s + (e - c)) (reversed s e l)))) cut
       ∙ four-parts (take s a) (slice s b a) (slice b c a) (slice c e a) (drop e a) s b c e la (omega arith) (omega arith) (omega arith) _ _ refl refl
 
 -- a turn of the loop that reverses from both ends: to reverse what is left is to reverse all
-pub reversed-turn : (a : List ℕ) (i j n : ℕ) → i ≤ j → n + n ≤ j - i → j ≤ length a → reversed (i + n) (j - n) (swapped-back i (j - n) n a) ≡ reversed i j a
+pub reversed-turn : (a : List ℕ) {z : List ℕ} (i j n : ℕ) → z ≡ swapped-back i (j - n) n a → i ≤ j → n + n ≤ j - i → j ≤ length a → reversed (i + n) (j - n) z ≡ reversed i j a
 unfolding slice
-reversed-turn a i j n o h l =
+reversed-turn a i j n q o h l =
     let w : a ≡ take i a ++ (slice i (i + n) a ++ (slice (i + n) (j - n) a ++ (slice (j - n) j a ++ drop j a))) = cut a i (i + n) (j - n) j (omega arith) (omega arith) (omega arith) l in
     let la : length (take i a) ≡ i = length-take-le i a (omega arith) in
     let lx : length (slice i (i + n) a) ≡ n = length-slice i (i + n) a (omega arith) ∙ omega arith in
     let lm : length (slice (i + n) (j - n) a) ≡ j - n - (i + n) = length-slice (i + n) (j - n) a (omega arith) in
     let ly : length (slice (j - n) j a) ≡ n = length-slice (j - n) j a l ∙ omega arith in
-    ap (λ (s : List ℕ). reversed (i + n) (j - n) (swapped-back i (j - n) n s)) w
+    ap (reversed (i + n) (j - n)) (q ∙ ap (swapped-back i (j - n) n) w)
     ∙ swapped-parts (take i a) (slice i (i + n) a) (slice (i + n) (j - n) a) (slice (j - n) j a) (drop j a) i (j - n) n la lx ly (omega arith) j (omega arith)
     ∙ ap (reversed i j) (sym w)
 
@@ -148,10 +138,10 @@ pub back-none : (a b : List ℕ) (at : ℕ) → a ≡ put (at + length b - 0) (r
 unfolding rev
 back-none a b at = sym (put-nil _ a)
 
-pub back-more : (a b s : List ℕ) (at i : ℕ) → at + length b ≤ length a → i < length b → s ≡ put (at + length b - i) (rev (take i b)) a
+pub back-more : (a b s : List ℕ) (at i : ℕ) → s ≡ put (at + length b - i) (rev (take i b)) a → at + length b ≤ length a → i < length b
     → set s (at + length b - 1 - i) (getD b i 0) ≡ put (at + length b - (i + 1)) (rev (take (i + 1) b)) a
 unfolding rev
-back-more a b s at i h l e =
+back-more a b s at i e h l =
     let o : ℕ = at + length b - (i + 1) in
     let n : length (rev (take i b)) ≡ i = length-rev (take i b) ∙ length-take-le i b (omega arith) in
     let p : at + length b - i ≡ o + 1 = omega arith in
@@ -165,26 +155,17 @@ back-more a b s at i h l e =
     ∙ put-put-before o (getD b i 0 ∷ []) (rev (take i b)) a (omega arith)
     ∙ ap (λ (k : List ℕ). put o k a) r
 
-pub back-all : (a b s : List ℕ) (at i : ℕ) → i ≤ length b → length b ≤ i → s ≡ put (at + length b - i) (rev (take i b)) a → s ≡ put at (rev b) a
-back-all a b s at i h l e =
+pub back-all : (a b s : List ℕ) (at i : ℕ) → s ≡ put (at + length b - i) (rev (take i b)) a → i ≤ length b → length b ≤ i → s ≡ put at (rev b) a
+back-all a b s at i e h l =
     let n : i ≡ length b = omega arith in
     let p : at + length b - i ≡ at = omega arith in
     e ∙ ap₂ (λ (k : ℕ) (u : List ℕ). put k (rev u) a) p (take-all i b l)
 
 -- a part copied over the whole of another list
-whole : (a x x′ : List ℕ) (f n : ℕ) → length x ≡ n → f + n ≤ length a → x′ ≡ put 0 (take (f + n - f) (drop f a)) x → x′ ≡ take n (drop f a)
+pub whole : (a x z : List ℕ) (f : ℕ) → z ≡ put 0 (take (f + length x - f) (drop f a)) x → f + length x ≤ length a → z ≡ take (length x) (drop f a)
 unfolding put
-whole a x x′ f n l h e =
-    let w : f + n - f ≡ n = omega arith in
-    let m : length x ≤ 0 + length (take n (drop f a)) = omega (arith, length-part f n a h) in
-    let z : drop (0 + length (take n (drop f a))) x ≡ [] = drop-of-length-le x m in
-    e ∙ rw (w, z) (append-nil (take n (drop f a)))
-
--- the two ends copied out, and copied back last byte first
-pub both-ends : (a x y x′ y′ a′ a″ : List ℕ) (i k n : ℕ) → i + n ≤ k → k + n ≤ length a → length x ≡ n → length y ≡ n
-    → x′ ≡ put 0 (take (i + n - i) (drop i a)) x → y′ ≡ put 0 (take (k + n - k) (drop k a)) y
-    → a′ ≡ put i (rev y′) a → a″ ≡ put k (rev x′) a′ → a″ ≡ swapped-back i k n a
-both-ends a x y x′ y′ a′ a″ i k n h l lx ly ex ey e e′ =
-    let u : x′ ≡ take n (drop i a) = whole a x x′ i n lx (omega arith) ex in
-    let v : y′ ≡ take n (drop k a) = whole a y y′ k n ly l ey in
-    e′ ∙ ap₂ (λ (p q : List ℕ). put k (rev p) q) u (e ∙ ap (λ (q : List ℕ). put i (rev q) a) v)
+whole a x z f e h =
+    let w : f + length x - f ≡ length x = omega arith in
+    let m : length x ≤ 0 + length (take (length x) (drop f a)) = omega (arith, length-part f (length x) a h) in
+    let n : drop (0 + length (take (length x) (drop f a))) x ≡ [] = drop-of-length-le x m in
+    e ∙ rw (w, n) (append-nil (take (length x) (drop f a)))

@@ -3,7 +3,7 @@
 // A function that has a `requires` is for the crates above, which call it only with numbers that they have tested against the slice's length.
 ghost use mathlib.Core.Path.{_≡_};
 ghost use Prim.Native.Nat.{_+_, _≤_};
-ghost use lib.ListN.{length};
+ghost use lib.ListN.{length, take, drop};
 ghost use Rattle.fields.specs.Bytes.{put};
 ghost use Rattle.bytes.specs.Bytes.{rev};
 ghost use Rattle.exchange.specs.Parts.{exchanged, reversed, swapped-back};
@@ -24,15 +24,22 @@ fn copy_back(a: &mut [u8], at: usize, b: &[u8])
     }
 }
 
+// The bytes of `a` from `from` on, as many as `x` has, into `x`.
+fn copy_out(x: &mut [u8], a: &[u8], from: usize)
+    requires { ⌜ from + length (now x) ≤ length (now a) ⌝ }
+    ensures { λ _. ⌜ now (x .exit) ≡ take (length (now (x .entry))) (drop from (now (a .entry))) ⌝ }
+{
+    let end = from + x.len();
+    buffer::copy_at(x, 0, &a[from..end]);
+}
+
 // The `n` bytes from `i` and the `n` bytes from `k`, each reversed, change places, by way of `x` and `y`.
 fn swap_back(a: &mut [u8], x: &mut [u8], y: &mut [u8], i: usize, k: usize, n: usize)
     requires { ⌜ (i + n ≤ k) × ((k + n ≤ length (now a)) × ((length (now x) ≡ n) × (length (now y) ≡ n))) ⌝ }
     ensures { λ _. ⌜ now (a .exit) ≡ swapped-back i k n (now (a .entry)) ⌝ }
 {
-    let m = i + n;
-    let e = k + n;
-    buffer::copy_at(x, 0, &a[i..m]);
-    buffer::copy_at(y, 0, &a[k..e]);
+    copy_out(x, a, i);
+    copy_out(y, a, k);
     copy_back(a, i, y);
     copy_back(a, k, x);
 }

@@ -3,5 +3,4 @@ pub mod Lists
 pub mod Bytes
 pub mod Parse
 pub mod Answers
-pub mod Bounded
 pub mod Outcome

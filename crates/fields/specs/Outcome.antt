@@ -35,6 +35,11 @@ unfoldable pub what-is-read : {A : Type 0} → Res A → Outcome (A × ℕ)
 what-is-read (ok a n) = accepted (a, n)
 what-is-read (no e) = refused e
 
+-- the refusal's number, and 0 of an accepted outcome
+unfoldable pub refusal-of : {A : Type 0} → Outcome A → ℕ
+refusal-of (accepted a) = 0
+refusal-of (refused e) = e
+
 -- An attempt at a call on a state s: what the call answers, and the state that it leaves. A refusal leaves s as it was, whatever the call
 unfoldable pub attempt : {A S : Type 0} → S → Outcome (A × S) → Outcome A × S
 attempt s (refused e) = (refused e, s)

@@ -1,13 +1,13 @@
 -- Reading a list of bytes from an offset: a value with the offset past it, or a refusal's number.
 use Prim.Native.Nat.{ℕ, zero, suc, _+_, _*_}
 use mathlib.Core.List.{List, [], _∷_}
-use mathlib.Core.Bool.{Bool, true, false, not}
+use mathlib.Core.Bool.{Bool, not}
 use lib.ListN.{length, getD, take, drop}
 use lib.IntN.{ℤ}
 use lib.Dec.{leb, eqb}
 use mir.Syntax.{Width, w32, w64}
 use mir.Val.{toZ}
-use Rattle.fields.specs.Refusals.{short-file, spoiled-book}
+use Rattle.fields.specs.Refusals.{short-file}
 use Rattle.fields.specs.Lists.{choose}
 
 pub data Res (A : Type 0) : Type 0 where
@@ -83,23 +83,16 @@ many p (suc n) s o = bind (p s o) (λ x m. bind (many p n s m) (λ xs e. ok (x �
 abbrev pub counted : {A : Type 0} → Reader A → Reader (List A)
 counted p = u32 >>= many p
 
--- whether a byte is taken where the written form has at most `most` there: a file is read as it comes, with `exact` false; of an image, where
--- `exact` is true, only the written form is
-unfoldable pub taken : Bool → ℕ → ℕ → Bool
-taken exact most b = choose exact (leb b most) true
-
 -- the pad: ignored, and written 0
-unfoldable pub pad : Bool → Reader Unit
-pad exact = do
-  b ← u8
-  check spoiled-book (taken exact 0 b)
+unfoldable pub pad : Reader Unit
+pad = do
+  u8
   done tt
 
 -- sp reset and purge: nonzero is true, and written 1; 0 is false, and written 0
-unfoldable pub flag : Bool → Reader Bool
-flag exact = do
+unfoldable pub flag : Reader Bool
+flag = do
   b ← u8
-  check spoiled-book (taken exact 1 b)
   done (not (eqb b 0))
 
 -- what of an answer does not depend on the value: the offset past it, or the refusal

@@ -4,9 +4,9 @@ ghost use mir.Syntax.{w32, w64};
 ghost use Prim.Native.Nat.{_+_, _≤_};
 ghost use lib.ListN.{length, take, drop};
 ghost use lib.Dec.{leb};
-ghost use Rattle.fields.specs.Parse.{le, int, uint, bind, span, taken, pad, flag, u8, u32, u64, i32, i64, refusal-in};
-ghost use Rattle.fields.specs.Bounded.{bounded};
-ghost use Rattle.fields.specs.Answers.{of-skip, of-u8, of-u32, of-u64, of-i32, of-i64};
+ghost use Rattle.fields.specs.Bytes.{most-lent};
+ghost use Rattle.fields.specs.Parse.{le, int, uint, part, bind, span, u8, u32, u64, i32, i64, refusal-in};
+ghost use Rattle.fields.specs.Answers.{of-skip, of-walked, of-u8, of-u32, of-u64, of-i32, of-i64};
 
 // The refusals of document 01's table.
 pub const SHORT_FILE: u8 = 1;
@@ -46,6 +46,13 @@ pub const LEFTOVER: u8 = 17;
 // An image or a journal is at most this long.
 pub const MOST_LENT: usize = 16_777_216;
 
+// Whether so many bytes may be lent as an image or as a journal.
+pub fn is_lent(len: usize) -> bool
+    ensures { λ r. ⌜ r ≡ leb len most-lent ⌝ }
+{
+    len <= MOST_LENT
+}
+
 pub enum U8Read {
     Value(u8, usize),
     Refused(u8),
@@ -74,6 +81,12 @@ pub enum I64Read {
 // A part of the file that is passed over: the offset past it, or the refusal.
 pub enum Skip {
     Past(usize),
+    Refused(u8),
+}
+
+// A part with flags in it that is passed over: the offset past it and whether its bytes are its written form, or the refusal.
+pub enum Walked {
+    Past(usize, bool),
     Refused(u8),
 }
 
@@ -124,11 +137,17 @@ pub fn i64_refusal(field: I64Read) -> u8
     }
 }
 
-// The refusal of a part that was refused, and 0 of one that was passed over. It is pub for the callers whose own answer is no `Skip`.
+// The refusal of a part that was refused, and 0 of one that was passed over. They are pub for the callers whose own answer is of another type.
 pub fn skip_refusal(far: Skip) -> u8
     ensures { λ r. ⌜ r ≡ refusal-in (of-skip far) ⌝ }
 {
     if let Skip::Refused(e) = far { e } else { 0 }
+}
+
+pub fn walked_refusal(far: Walked) -> u8
+    ensures { λ r. ⌜ r ≡ refusal-in (of-walked far) ⌝ }
+{
+    if let Walked::Refused(e) = far { e } else { 0 }
 }
 
 // A number of `k` bytes. It is pub for the header's marks, of 4 and 2.
@@ -267,6 +286,17 @@ pub fn part_of(s: &[u8], at: usize, n: usize) -> &[u8]
     &s[at..end]
 }
 
+// The `k` bytes from `at` are passed over. It is pub for the readers above, which take them by `part_of`.
+pub fn part_skip(s: &[u8], at: usize, k: usize) -> Skip
+    ensures { λ r. ⌜ of-skip r ≡ span (part k (now (s .entry)) at) ⌝ }
+{
+    if within(s, at, k) {
+        Skip::Past(at + k)
+    } else {
+        Skip::Refused(SHORT_FILE)
+    }
+}
+
 // A field of `k` bytes is passed over, after what was passed over so far. It is pub for the crates above, which ask for 1 to 8 bytes.
 pub fn then_uint(s: &[u8], far: Skip, k: usize) -> Skip
     requires { ⌜ k ≤ 8 ⌝ }
@@ -281,44 +311,4 @@ pub fn then_uint(s: &[u8], far: Skip, k: usize) -> Skip
     } else {
         far
     }
-}
-
-// Whether the byte `b` is taken where the written form has at most `most`: any, unless `exact`.
-pub fn is_taken(exact: bool, most: u8, b: u8) -> bool
-    ensures { λ r. ⌜ r ≡ taken exact most b ⌝ }
-{
-    if exact { b <= most } else { true }
-}
-
-// A byte that the written form has at most `most` of, after what was passed over so far.
-fn then_byte(s: &[u8], far: Skip, exact: bool, most: u8) -> Skip
-    ensures { λ r. ⌜ of-skip r ≡ bind (of-skip far) (λ _ n. bounded exact most (now (s .entry)) n) ⌝ }
-{
-    if let Skip::Past(at) = far {
-        if within(s, at, 1) {
-            if is_taken(exact, most, s[at]) {
-                Skip::Past(at + 1)
-            } else {
-                Skip::Refused(SPOILED_BOOK)
-            }
-        } else {
-            Skip::Refused(SHORT_FILE)
-        }
-    } else {
-        far
-    }
-}
-
-// The header's pad is passed over.
-pub fn then_pad(s: &[u8], far: Skip, exact: bool) -> Skip
-    ensures { λ r. ⌜ of-skip r ≡ bind (of-skip far) (λ _ n. span (pad exact (now (s .entry)) n)) ⌝ }
-{
-    then_byte(s, far, exact, 0)
-}
-
-// An sp reset or purge byte is passed over.
-pub fn then_flag(s: &[u8], far: Skip, exact: bool) -> Skip
-    ensures { λ r. ⌜ of-skip r ≡ bind (of-skip far) (λ _ n. span (flag exact (now (s .entry)) n)) ⌝ }
-{
-    then_byte(s, far, exact, 1)
 }

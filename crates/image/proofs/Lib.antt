@@ -2,3 +2,8 @@ pub mod Inspects
 pub mod Stands
 pub mod Parts
 pub mod Searches
+pub mod Swaps
+pub mod Laid
+pub mod Here
+pub mod Cuts
+pub mod Fills

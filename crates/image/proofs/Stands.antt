@@ -3,7 +3,6 @@
 -- Assumes nothing.
 use mathlib.Core.Path.{_≡_, sym, ap, _∙_}
 use mathlib.Core.List.{List, [], _∷_, _++_}
-use mathlib.Core.Bool.{false}
 use Prim.Native.Nat.{ℕ, zero, suc, _+_, _*_, _-_, _^_, _≤_, _<_}
 use native.Mathlib.Nat.{add-zero, zero-add, le-of-suc-le-suc}
 use native.Mathlib.Omega.{arith}
@@ -40,16 +39,16 @@ module _ {s : List ℕ} where
   jump-at l o k e t = jump-in s o k (omega (arith, fits t))
 
   pub convention-far : (o : ℕ) (c : RoutineConvention) → Convention-holds c → At s o (convention-bytes c) → conventionEnd s o ≡ o + length (convention-bytes c)
-  convention-far o c h t = convention-ends s false o (convention-layout .back false c h s o t)
+  convention-far o c h t = convention-ends s o (convention-layout .back c h s o t)
 
   pub instruction-far : (o : ℕ) (i : Instruction) → Instruction-holds i → At s o (instruction-bytes i) → instructionEnd s o ≡ o + length (instruction-bytes i)
-  instruction-far o i h t = instruction-ends s false o (instruction-layout .back false i h s o t)
+  instruction-far o i h t = instruction-ends s o (instruction-layout .back i h s o t)
 
   pub block-far : (o : ℕ) (b : BasicBlock) → Block-holds b → At s o (block-bytes b) → blockEnd s o ≡ o + length (block-bytes b)
-  block-far o b h t = block-ends s false o (block-layout .back false b h s o t)
+  block-far o b h t = block-ends s o (block-layout .back b h s o t)
 
   pub block-word : (o : ℕ) (b : BasicBlock) → Block-holds b → At s o (block-bytes b) → word 8 s o ≡ b .vip
-  block-word o b h t = block-vip s false o (block-layout .back false b h s o t)
+  block-word o b h t = block-vip s o (block-layout .back b h s o t)
 
   -- a list's elements, one after the other
   module _ {A : Type 0} (w : A → List ℕ) where

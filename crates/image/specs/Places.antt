@@ -1,26 +1,26 @@
 -- What is found in an image that holds a routine.
 use Prim.Native.Nat.{ℕ, zero, suc, _+_}
 use mathlib.Core.Path.{_≡_}
-use mathlib.Core.Bool.{Bool, false}
+use mathlib.Core.Bool.{Bool, false, _&&_}
 use mathlib.Core.List.{List}
 use lib.Dec.{eqb}
 use lib.ListN.{length, take}
-use Rattle.fields.specs.Parse.{Res, ok, no, span}
+use Rattle.fields.specs.Parse.{Res, ok, no}
 use Rattle.pod.specs.Values.{Routine}
-use Rattle.pod.specs.Layout.{routine, as-written}
-use Rattle.pod.specs.Written.{convention-bytes, instruction-bytes, many-bytes}
+use Rattle.pod.specs.Layout.{routine}
+use Rattle.pod.specs.Written.{convention-bytes, instruction-bytes, many-bytes, routine-bytes, walked}
 use Rattle.machine.specs.Edits.{place as place-of, block-at}
 use Rattle.book.specs.Holding.{block-start}
 use Rattle.image.specs.declared.Found.{Found}
 
--- what was passed over ends at n
-abbrev pub ends-at : ℕ → Res Unit → Bool
-ends-at n (ok t m) = eqb m n
+-- what was walked over ends at n, and is in written form
+abbrev pub ends-at : ℕ → Res Bool → Bool
+ends-at n (ok written m) = eqb m n && written
 ends-at n (no e) = false
 
 -- exactly one accepted routine in written form
 unfoldable pub is-routine : List ℕ → Bool
-is-routine s = ends-at (length s) (span (routine as-written s 0))
+is-routine s = ends-at (length s) (walked routine routine-bytes s 0)
 
 -- the place of the block with the vip and where it begins; the number of blocks and the end of the last where no block has it
 pub record Finds (x : Routine) (v : ℕ) (r : Found) : Type 0 where

@@ -11,15 +11,15 @@ ghost use Rattle.book.specs.Says.{state, refusal-of};
 ghost use Rattle.book.specs.Holding.{Holding, blocks-start, block-start};
 ghost use Rattle.image.specs.Places.{is-routine, Finds, convention-start, instruction-start};
 use book::Book;
-use fields::Skip;
+use fields::Walked;
 use pod::Vip;
 
 // Whether `s` is exactly one accepted routine in written form.
 fn is_routine(s: &[u8]) -> bool
     ensures { λ r. ⌜ r ≡ is-routine (now (s .entry)) ⌝ }
 {
-    if let Skip::Past(end) = routine::routine_skip(s, 0, true) {
-        end == s.len()
+    if let Walked::Past(end, written) = reader::pass_file(s) {
+        (end == s.len()) & written
     } else {
         false
     }
@@ -29,10 +29,10 @@ fn is_routine(s: &[u8]) -> bool
 pub fn inspect(book: Book, image: &[u8], journal: &[u8]) -> u64
     ensures { λ r. ⌜ r ≡ refusal-of (held (state (now (image .entry)) (now (journal .entry)) book)) ⌝ }
 {
-    if fields::MOST_LENT < image.len() {
+    if !fields::is_lent(image.len()) {
         return book::LENDING_TOO_LARGE;
     }
-    if fields::MOST_LENT < journal.len() {
+    if !fields::is_lent(journal.len()) {
         return book::LENDING_TOO_LARGE;
     }
     let written = book.written;
@@ -53,9 +53,6 @@ pub fn inspect(book: Book, image: &[u8], journal: &[u8]) -> u64
     0
 }
 
-// In a block, where the count of its instructions stands.
-pub const COUNT_AT: usize = 24;
-
 // Where the blocks begin, and how many there are.
 pub struct Blocks {
     pub start: usize,
@@ -74,22 +71,22 @@ pub struct Found {
 pub fn special_count(image: &[u8]) -> u32
     ensures { λ r. ⌜ ((x : Routine) → Holding (now (image .entry)) x → r ≡ length (x .spec-subroutine-conventions)) ⌝ }
 {
-    let a = ends::convention_end(image, 16);
+    let a = ends::convention_end(image, ends::CONVENTIONS_AT);
     let b = ends::convention_end(image, a);
     ends::word32(image, b)
 }
 
-// The header and the entry vip are 16 bytes; then the two conventions, the special ones after their count, and the count of blocks.
+// After the header and the entry vip: the two conventions, the special ones after their count, and the count of blocks.
 pub fn blocks_of(image: &[u8]) -> Blocks
     ensures { λ r. ⌜ ((x : Routine) → Holding (now (image .entry)) x → (r .start ≡ blocks-start x) × (r .count ≡ length (x .explored-blocks))) ⌝ }
 {
-    let a = ends::convention_end(image, 16);
+    let a = ends::convention_end(image, ends::CONVENTIONS_AT);
     let b = ends::convention_end(image, a);
     let special = ends::word32(image, b);
-    let c = ends::jump(image, b, 4);
+    let c = ends::jump(image, b, ends::COUNT_SIZE);
     let d = ends::conventions_end(image, c, special as usize);
     let count = ends::word32(image, d);
-    let start = ends::jump(image, d, 4);
+    let start = ends::jump(image, d, ends::COUNT_SIZE);
     Blocks { start, count }
 }
 
@@ -135,32 +132,33 @@ pub fn convention_offset(image: &[u8], place: usize) -> usize
     ensures { λ r. ⌜ ((x : Routine) → Holding (now (image .entry)) x → place < length (conventions x) → r ≡ convention-start x place) ⌝ }
 {
     if place == 0 {
-        return 16;
+        return ends::CONVENTIONS_AT;
     }
-    let a = ends::convention_end(image, 16);
+    let a = ends::convention_end(image, ends::CONVENTIONS_AT);
     if place == 1 {
         return a;
     }
     let b = ends::convention_end(image, a);
-    let c = ends::jump(image, b, 4);
+    let c = ends::jump(image, b, ends::COUNT_SIZE);
     ends::conventions_end(image, c, place - 2)
 }
 
-// The offset of instruction `k` of the block at offset `at`, or past its last where `k` is their number. The 28 bytes before them: the block's
-// four numbers 24, and the count of instructions 4.
+// The offset of instruction `k` of the block at offset `at`, or past its last where `k` is their number.
 pub fn instruction_offset(image: &[u8], at: usize, k: u32) -> usize
-    ensures { λ r. ⌜ ((x : Routine) (i : ℕ) → Holding (now (image .entry)) x → i < length (x .explored-blocks) → at ≡ block-start x i → k ≤ length (block-at i (x .explored-blocks) .instructions) → r ≡ instruction-start x i k) ⌝ }
+    ensures { λ r. ⌜ ((x : Routine) (i : ℕ) → Holding (now (image .entry)) x → i < length (x .explored-blocks) → at ≡ block-start x i
+        → k ≤ length (block-at i (x .explored-blocks) .instructions) → r ≡ instruction-start x i k) ⌝ }
 {
-    let a = ends::jump(image, at, 28);
+    let a = ends::jump(image, at, ends::INSTRUCTIONS_AT);
     ends::instructions_end(image, a, k)
 }
 
 // The offset past the instructions of the block at offset `at`.
 pub fn instructions_end(image: &[u8], at: usize) -> usize
-    ensures { λ r. ⌜ ((x : Routine) (i : ℕ) → Holding (now (image .entry)) x → i < length (x .explored-blocks) → at ≡ block-start x i → r ≡ instruction-start x i (length (block-at i (x .explored-blocks) .instructions))) ⌝ }
+    ensures { λ r. ⌜ ((x : Routine) (i : ℕ) → Holding (now (image .entry)) x → i < length (x .explored-blocks) → at ≡ block-start x i
+        → r ≡ instruction-start x i (length (block-at i (x .explored-blocks) .instructions))) ⌝ }
 {
-    let a = ends::jump(image, at, COUNT_AT);
+    let a = ends::jump(image, at, ends::BLOCK_HEAD_SIZE);
     let count = ends::word32(image, a);
-    let b = ends::jump(image, a, 4);
+    let b = ends::jump(image, a, ends::COUNT_SIZE);
     ends::instructions_end(image, b, count)
 }

@@ -1,15 +1,13 @@
 -- An instruction that is passed over where nothing is refused.
 -- Assumes nothing.
 use mathlib.Core.Path.{_≡_, refl, sym, ap, _∙_}
-use mathlib.Core.Bool.{Bool, true}
 use mathlib.Core.List.{List}
 use Prim.Native.Nat.{ℕ, _+_, _≤_, _<_}
 use native.Mathlib.Omega.{arith}
 use lib.ListN.{length, getD, take, drop}
 use borrow.Author.Tests.{lt-ltb, eq-eqb}
-use Rattle.fields.specs.Parse.{Res, ok, bind, span, le, uint, many, taken, flag}
+use Rattle.fields.specs.Parse.{Res, ok, bind, span, le, uint, many}
 use Rattle.fields.proofs.Le.{uint-ok, span-ok}
-use Rattle.fields.proofs.Bound.{bounded-ok, flag-is}
 use Rattle.fields.proofs.Steps.{on-check, on-part}
 use Rattle.op.specs.Ops.{number, counts}
 use Rattle.op.proofs.Packed.{text-of}
@@ -20,7 +18,7 @@ on-field : {A : Type 0} (k : ℕ) (s : List ℕ) (o : ℕ) (f : ℕ → ℕ → 
 unfolding bind
 on-field k s o f h e = rw (uint-ok k s o h) e
 
-module _ (exact : Bool) (s : List ℕ) (at n k : ℕ) (h : at + 4 + n + 4 ≤ length s) (l : k < 49) (e : n ≡ le 4 s at) (m : number (take n (drop (at + 4) s)) ≡ k) where
+module _ (s : List ℕ) (at n k : ℕ) (h : at + 4 + n + 4 ≤ length s) (l : k < 49) (e : n ≡ le 4 s at) (m : number (take n (drop (at + 4) s)) ≡ k) where
   name-ok : le 4 s (at + 4 + n) ≡ getD counts k 0 → ok k (at + 4 + n + 4) ≡ named (take n (drop (at + 4) s)) s (at + 4 + n)
   unfolding named
   name-ok c =
@@ -32,17 +30,15 @@ module _ (exact : Bool) (s : List ℕ) (at n k : ℕ) (h : at + 4 + n + 4 ≤ le
   unfolding opcode
   opcode-ok c = on-field 4 s at _ (omega arith) (rw (← e) (on-part n s (at + 4) _ (omega arith) (name-ok c)))
 
-  tail-ok : (o : ℕ) → o + 21 ≤ length s → taken exact 1 (getD s (o + 20) 0) ≡ true → span (many operand (getD counts k 0) s (at + 4 + n + 4)) ≡ ok tt o
-      → span (after-opcode exact k s (at + 4 + n + 4)) ≡ ok tt (o + 21)
+  tail-ok : (o : ℕ) → o + 21 ≤ length s → span (many operand (getD counts k 0) s (at + 4 + n + 4)) ≡ ok tt o
+      → span (after-opcode k s (at + 4 + n + 4)) ≡ ok tt (o + 21)
   unfolding bind
-  tail-ok o g t q =
-      let e : o + 8 + 8 + 4 ≡ o + 20 = omega arith in
-      let f : span (flag exact s (o + 8 + 8 + 4)) ≡ ok tt (o + 8 + 8 + 4 + 1) = sym (flag-is exact s _) ∙ bounded-ok exact 1 s _ (omega arith) (rw e t) in
-      sym (after-skip exact k s (at + 4 + n + 4))
-      ∙ rw (q, span-ok 8 s o (omega arith), span-ok 8 s (o + 8) (omega arith), span-ok 4 s (o + 8 + 8) (omega arith), f)
+  tail-ok o g q =
+      sym (after-skip k s (at + 4 + n + 4))
+      ∙ rw (q, span-ok 8 s o (omega arith), span-ok 8 s (o + 8) (omega arith), span-ok 4 s (o + 8 + 8) (omega arith), span-ok 1 s (o + 8 + 8 + 4) (omega arith))
       (ap (λ x. ok tt x) (omega arith))
 
-  pub fast-ok : (o : ℕ) → le 4 s (at + 4 + n) ≡ getD counts k 0 → o + 21 ≤ length s → taken exact 1 (getD s (o + 20) 0) ≡ true
-      → span (many operand (getD counts k 0) s (at + 4 + n + 4)) ≡ ok tt o → span (instruction exact s at) ≡ ok tt (o + 21)
+  pub fast-ok : (o : ℕ) → le 4 s (at + 4 + n) ≡ getD counts k 0 → o + 21 ≤ length s
+      → span (many operand (getD counts k 0) s (at + 4 + n + 4)) ≡ ok tt o → span (instruction s at) ≡ ok tt (o + 21)
   unfolding instruction bind
-  fast-ok o c g t q = rw (← opcode-ok c) (tail-ok o g t q)
+  fast-ok o c g q = rw (← opcode-ok c) (tail-ok o g q)

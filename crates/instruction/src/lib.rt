@@ -2,11 +2,13 @@
 ghost use mathlib.Core.Path.{_≡_};
 ghost use Prim.Native.Nat.{_<_};
 ghost use Rattle.fields.specs.Parse.{ok, many, span, refusal-in};
-ghost use Rattle.fields.specs.Answers.{of-skip};
+ghost use Rattle.fields.specs.Answers.{of-skip, of-walked};
 ghost use Rattle.pod.specs.Layout.{operand, named, opcode, instruction};
+ghost use Rattle.pod.specs.Written.{instruction-bytes, walked};
 ghost use Rattle.instruction.specs.Answers.{of-op};
 use fields::Skip;
 use fields::U32Read;
+use fields::Walked;
 use pod::OperandRead;
 
 pub enum OpRead {
@@ -54,13 +56,12 @@ pub fn op_at(s: &[u8], at: usize) -> OpRead
     let size = fields::u32_at(s, at);
     if let U32Read::Value(k, a) = size {
         let n = k as usize;
-        if s.len() < a {
-            return OpRead::Refused(fields::SHORT_FILE);
+        let name = fields::part_skip(s, a, n);
+        if let Skip::Past(b) = name {
+            named_at(s, fields::part_of(s, a, n), b)
+        } else {
+            OpRead::Refused(fields::skip_refusal(name))
         }
-        if s.len() - a < n {
-            return OpRead::Refused(fields::SHORT_FILE);
-        }
-        named_at(s, fields::part_of(s, a, n), a + n)
     } else {
         OpRead::Refused(fields::u32_refusal(size))
     }
@@ -85,8 +86,8 @@ fn operands_run(s: &[u8], at: usize, count: u32) -> Skip
 }
 
 // The offset past the instruction at `at`, or 0 where this does not tell: near the end of the file, and where it is refused.
-fn fast_end(s: &[u8], at: usize, exact: bool) -> usize
-    ensures { λ r. ⌜ (0 < r → span (instruction exact (now (s .entry)) at) ≡ ok tt r) ⌝ }
+fn fast_end(s: &[u8], at: usize) -> usize
+    ensures { λ r. ⌜ (0 < r → span (instruction (now (s .entry)) at) ≡ ok tt r) ⌝ }
 {
     if s.len() < at {
         return 0;
@@ -114,18 +115,14 @@ fn fast_end(s: &[u8], at: usize, exact: bool) -> usize
         }
         left -= 1;
     }
-    if fields::is_taken(exact, 1, s[o + 20]) {
-        o + 21
-    } else {
-        0
-    }
+    o + 21
 }
 
-// The instruction at `at` is passed over.
-pub fn instruction_skip(s: &[u8], at: usize, exact: bool) -> Skip
-    ensures { λ r. ⌜ of-skip r ≡ span (instruction exact (now (s .entry)) at) ⌝ }
+// The instruction at `at` is passed over: the fast way, or else field by field.
+fn instruction_past(s: &[u8], at: usize) -> Skip
+    ensures { λ r. ⌜ of-skip r ≡ span (instruction (now (s .entry)) at) ⌝ }
 {
-    let end = fast_end(s, at, exact);
+    let end = fast_end(s, at);
     if 0 < end {
         return Skip::Past(end);
     }
@@ -135,8 +132,20 @@ pub fn instruction_skip(s: &[u8], at: usize, exact: bool) -> Skip
         let v = fields::then_uint(s, o, 8);
         let f = fields::then_uint(s, v, 8);
         let i = fields::then_uint(s, f, 4);
-        fields::then_flag(s, i, exact)
+        fields::then_uint(s, i, 1)
     } else {
         Skip::Refused(op_refusal(op))
+    }
+}
+
+// The instruction at `at` is walked over. Its flag, sp reset, is its last byte: in written form it is at most 1.
+pub fn instruction_skip(s: &[u8], at: usize) -> Walked
+    ensures { λ r. ⌜ of-walked r ≡ walked instruction instruction-bytes (now (s .entry)) at ⌝ }
+{
+    let far = instruction_past(s, at);
+    if let Skip::Past(end) = far {
+        Walked::Past(end, s[end - 1] <= 1)
+    } else {
+        Walked::Refused(fields::skip_refusal(far))
     }
 }

@@ -17,7 +17,9 @@ use Rattle.pod.specs.Values.{Routine}
 use Rattle.pod.specs.Written.{bytes}
 use Rattle.buffer.proofs.Put.{put-put}
 use Rattle.pod.proofs.Sizes.{length-bytes}
-use Rattle.machine.specs.Journal.{Trailer, trailer, trailer-bytes, undo-entry, undone}
+use Rattle.fields.specs.Outcome.{after, refuse-unless}
+use Rattle.machine.specs.Journal.{or-spoiled, undo-entry, undone}
+use Rattle.machine.specs.Trailer.{Trailer, trailer, trailer-bytes}
 use Rattle.journal.specs.Says.{trailer-with}
 
 module _ (i v p n k : ℕ) (a : List ℕ) (h : i + 20 ≤ length a) where
@@ -85,8 +87,8 @@ module _ (j : List ℕ) (u : ℕ) (l : u ≤ length j) (h : 20 ≤ u) where
       trailer-at s 0 n ∙ rw (a, b, c, d)
 
   -- so what an undo does is told by the trailer read there
-  pub undone-by : (N : ℕ) (r : Routine) (t : Trailer) → trailer j (u - 20) ≡ ok t u → undone N r (take u j) ≡ undo-entry N r (take (u - 20) j) (ok t 20)
-  unfolding undone choose
+  pub undone-by : (N : ℕ) (r : Routine) (t : Trailer) → trailer j (u - 20) ≡ ok t u → undone N r (take u j) ≡ undo-entry N r (take (u - 20) j) t
+  unfolding undone or-spoiled refuse-unless choose after
   undone-by N r t e =
       let k : 20 ≤ length (take u j) = omega (arith, used-size) in
       let m : u - 20 + 20 ≤ length j = omega arith in

@@ -5,17 +5,17 @@
 ghost use mathlib.Core.Path.{_≡_};
 ghost use Prim.Native.Nat.{_+_, _-_, _≤_};
 ghost use lib.ListN.{length};
+ghost use Rattle.machine.specs.Trailer.{trailer, trailer-bytes};
 ghost use Rattle.fields.specs.Parse.{ok};
 ghost use Rattle.fields.specs.Bytes.{put, zeros};
-ghost use Rattle.machine.specs.Journal.{trailer, trailer-bytes};
 ghost use Rattle.journal.specs.Says.{trailer-with, trailer-of};
 use pod::Vip;
 
-// `place` is the block's, and `length` the size of what was removed or appended.
+// `place` is the block's, and `len`, document 01's length, the size of what was removed or appended.
 pub struct Trailer {
     pub vip: Vip,
     pub place: u32,
-    pub length: u32,
+    pub len: u32,
     pub kind: u32,
 }
 
@@ -45,12 +45,12 @@ pub fn read_trailer(journal: &[u8], at: usize) -> Trailer
 {
     let vip = Vip(fields::eight(journal, at));
     let place = fields::four(journal, at + 8) as u32;
-    let length = fields::four(journal, at + 12) as u32;
+    let len = fields::four(journal, at + 12) as u32;
     let kind = fields::four(journal, at + 16) as u32;
     Trailer {
         vip,
         place,
-        length,
+        len,
         kind,
     }
 }

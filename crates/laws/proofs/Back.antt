@@ -3,10 +3,9 @@
 use mathlib.Core.Path.{_≡_, refl, sym, ap, _∙_}
 use mathlib.Core.List.{List, [], _∷_, _++_, append-nil}
 use mathlib.Core.Bool.{Bool, true, false}
-use Prim.Native.Nat.{ℕ, zero, suc, _+_, _*_, _/_, _%_, _^_, _≤_, _<_}
+use Prim.Native.Nat.{ℕ, zero, suc, _+_, _*_, _/_, _%_, _^_, _<_}
 use native.Mathlib.Nat.{add-zero}
 use native.Mathlib.Omega.{arith}
-use lib.Dec.{leb}
 use lib.ListN.{length, length-append}
 use lib.Seq.{take-at}
 use lib.Pow.{pow-add}
@@ -15,7 +14,7 @@ use borrow.Author.Tests.{le-leb}
 use mir.Syntax.{Width}
 use mir.Val.{ofZ, SFits, bits}
 use mir.ValLaws.{toZ-ofZ, ofZ-fits}
-use Rattle.fields.specs.Parse.{ok, Reader, bind, _>>=_, _>>_, done, check, le, uint, int, part, many, counted, taken, pad, flag}
+use Rattle.fields.specs.Parse.{ok, Reader, bind, _>>=_, _>>_, done, check, le, uint, int, part, many, counted, pad, flag}
 use Rattle.fields.proofs.Le.{uint-ok}
 use Rattle.fields.specs.Lists.{choose, Each}
 use Rattle.pod.specs.Written.{bytes, bit, many-bytes, counted-bytes}
@@ -73,24 +72,15 @@ pub part-reads : (l : List ℕ) → Reads (part (length l)) l l
 unfolding part choose
 part-reads l s o t = rw (le-leb _ _ (fits t), t .is, take-at l (t .rest) (length l) refl)
 
--- the written form of the pad and of a flag is taken, whether reading is exact or not
-module _ (exact : Bool) where
-  taken-upto : (most b : ℕ) → b ≤ most → taken exact most b ≡ true
-  unfolding taken choose
-  taken-upto most b h = go exact
-    where
-      go : (e : Bool) → choose e (leb b most) true ≡ true
-      go true = le-leb b most h
-      go false = refl
+-- the written form of the pad and of a flag
+pub pad-reads : Reads pad tt (bytes 1 0)
+unfolding pad
+pad-reads = last _ _ _ (uint-reads 1 0 (omega arith)) (done-reads tt)
 
-  pub pad-reads : Reads (pad exact) tt (bytes 1 0)
-  unfolding pad
-  pad-reads = last _ _ _ (uint-reads 1 0 (omega arith)) (pass _ _ _ _ (taken-upto 0 0 (omega arith)) (done-reads tt))
-
-  pub flag-reads : (b : Bool) → Reads (flag exact) b (bytes 1 (bit b))
-  unfolding flag
-  flag-reads true = last _ _ _ (uint-reads 1 1 (omega arith)) (pass _ _ _ _ (taken-upto 1 1 (omega arith)) (done-reads true))
-  flag-reads false = last _ _ _ (uint-reads 1 0 (omega arith)) (pass _ _ _ _ (taken-upto 1 0 (omega arith)) (done-reads false))
+pub flag-reads : (b : Bool) → Reads flag b (bytes 1 (bit b))
+unfolding flag
+flag-reads true = last _ _ _ (uint-reads 1 1 (omega arith)) (done-reads true)
+flag-reads false = last _ _ _ (uint-reads 1 0 (omega arith)) (done-reads false)
 
 module _ {A : Type 0} (p : Reader A) (w : A → List ℕ) {P : A → Type 0} (each : (x : A) → P x → Reads p x (w x)) where
   run-reads : (xs : List A) → Each P xs → Reads (many p (length xs)) xs (many-bytes w xs)

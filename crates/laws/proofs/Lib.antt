@@ -8,4 +8,7 @@ pub mod Octets
 pub mod Layouts
 pub mod Sizes
 pub mod Place
+pub mod Every
+pub mod Refusals
 pub mod Local
+pub mod Walks

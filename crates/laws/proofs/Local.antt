@@ -1,8 +1,8 @@
 -- What a reader answers at o depends only on the bytes from o on: read from them alone, it answers the same, o bytes less far. The law of each
--- way to make a reader, and then of the layouts up to the block.
+-- way to make a reader, and so of the layouts up to the block.
 -- Assumes nothing.
 use mathlib.Core.Path.{_≡_, refl, sym, ap, ap₂, _∙_}
-use mathlib.Core.List.{List, [], _∷_}
+use mathlib.Core.List.{List}
 use mathlib.Core.Bool.{Bool, true, false}
 use Prim.Native.Nat.{ℕ, zero, suc, _+_, _*_, _≤_, zero-le}
 use native.Mathlib.Nat.{add-zero, zero-add, add-assoc}
@@ -11,11 +11,11 @@ use lib.Dec.{leb}
 use lib.ListN.{length, take, drop, length-drop}
 use lib.Seq.{getD-drop, drop-drop}
 use borrow.Author.Tests.{leb-true, leb-false, le-leb, lt-leb}
-use mir.Syntax.{Width}
-use Rattle.fields.specs.Parse.{Res, ok, no, Reader, bind, _>>=_, done, check, le, uint, int, part, many, counted, flag, u32}
+use Rattle.fields.specs.Parse.{Res, ok, no, Reader, bind, _>>=_, done, le, uint, part, many, counted}
 use Rattle.fields.proofs.Le.{uint-ok, uint-no, uint-is}
-use Rattle.pod.specs.Layout.{register, immediate, operand, of-kind, named, opcode, after-opcode, instruction, convention, block}
+use Rattle.pod.specs.Layout.{instruction, convention, block}
 use Rattle.laws.specs.Moved.{moved}
+use Rattle.laws.proofs.Every.{Kept, several, lists, an-instruction, a-convention, a-block}
 use Rattle.fields.proofs.Invert.{inv}
 use Rattle.fields.specs.Lists.{choose}
 
@@ -57,9 +57,6 @@ pub local-choose : {A : Type 0} (t : Bool) (p q : Reader A) → Local p → Loca
 unfolding choose
 local-choose true p q h k = h
 local-choose false p q h k = k
-
-pub local-check : (e : ℕ) (t : Bool) → Local (check e t)
-local-check e t = local-choose t _ _ (local-done tt) (local-no e)
 
 le-drop : (k : ℕ) (s : List ℕ) (o i : ℕ) → le k (drop o s) i ≡ le k s (o + i)
 unfolding le
@@ -103,61 +100,20 @@ local-part k =
         let h = leb-false (o + k) (length s) q in
         rw (q, lt-leb (0 + k) (length (drop o s)) (omega (arith, length-drop o s)))
 
-pub local-int : (w : Width) (k : ℕ) → Local (uint k >>= λ v. done (int w v))
-local-int w k = local-bind _ _ (local-uint k) λ v. local-done _
-
-pub local-flag : (exact : Bool) → Local (flag exact)
-unfolding flag
-local-flag exact = local-bind _ _ (local-uint 1) λ b. local-bind _ _ (local-check _ _) λ t. local-done _
+kept : Kept (λ e. Unit) (λ A p. Local p)
+kept = record { then = local-bind; gives = local-done; refuses = λ e h. local-no e; either = local-choose; number = local-uint; bytes = local-part }
 
 pub local-many : {A : Type 0} (p : Reader A) → Local p → (n : ℕ) → Local (many p n)
-unfolding many
-local-many p h zero = local-done []
-local-many p h (suc n) = local-bind p _ h λ x. local-bind (many p n) _ (local-many p h n) λ xs. local-done (x ∷ xs)
+local-many = several kept
 
 pub local-counted : {A : Type 0} (p : Reader A) → Local p → Local (counted p)
-local-counted p h = local-bind u32 (many p) (local-uint 4) (local-many p h)
+local-counted = lists kept
 
-pub local-register : Local register
-unfolding register
-local-register =
-    local-bind _ _ (local-uint 8) λ flags. local-bind _ _ (local-uint 8) λ id. local-bind _ _ (local-check _ _) λ t.
-    local-bind _ _ (local-int _ 4) λ width. local-bind _ _ (local-int _ 4) λ offset. local-done _
+pub local-instruction : Local instruction
+local-instruction = an-instruction kept tt tt tt tt tt
 
-pub local-immediate : Local immediate
-unfolding immediate
-local-immediate = local-bind _ _ (local-uint 8) λ value. local-bind _ _ (local-uint 4) λ width. local-done _
+pub local-convention : Local convention
+local-convention = a-convention kept tt
 
-pub local-operand : Local operand
-unfolding operand
-local-operand =
-    local-bind u32 of-kind (local-uint 4) λ k.
-    local-choose _ _ _ (local-bind _ _ local-immediate λ i. local-done _)
-    (local-choose _ _ _ (local-bind _ _ local-register λ r. local-done _) (local-no 6))
-
-pub local-opcode : Local opcode
-unfolding opcode named
-local-opcode =
-    local-bind _ _ (local-uint 4) λ size. local-bind _ _ (local-part size) λ name. local-bind _ _ (local-check _ _) λ t.
-    local-bind _ _ (local-uint 4) λ count. local-bind _ _ (local-check _ _) λ t. local-bind _ _ (local-check _ _) λ t. local-done _
-
-module _ (exact : Bool) where
-  pub local-instruction : Local (instruction exact)
-  unfolding instruction after-opcode
-  local-instruction =
-      local-bind _ _ local-opcode λ op. local-bind _ _ (local-many operand local-operand _) λ xs. local-bind _ _ (local-uint 8) λ vip.
-      local-bind _ _ (local-int _ 8) λ sp. local-bind _ _ (local-uint 4) λ index. local-bind _ _ (local-flag exact) λ reset. local-done _
-
-  pub local-convention : Local (convention exact)
-  unfolding convention
-  local-convention =
-      local-bind _ _ (local-counted register local-register) λ volatile. local-bind _ _ (local-counted register local-register) λ param.
-      local-bind _ _ (local-counted register local-register) λ retval. local-bind _ _ local-register λ frame.
-      local-bind _ _ (local-uint 8) λ shadow. local-bind _ _ (local-flag exact) λ purge. local-done _
-
-  pub local-block : Local (block exact)
-  unfolding block
-  local-block =
-      local-bind _ _ (local-uint 8) λ vip. local-bind _ _ (local-int _ 8) λ sp. local-bind _ _ (local-uint 4) λ index.
-      local-bind _ _ (local-uint 4) λ temporary. local-bind _ _ (local-counted (instruction exact) local-instruction) λ is.
-      local-bind _ _ (local-counted (uint 8) (local-uint 8)) λ prev. local-bind _ _ (local-counted (uint 8) (local-uint 8)) λ next. local-done _
+pub local-block : Local block
+local-block = a-block kept tt tt tt tt tt

@@ -8,7 +8,8 @@ use Rattle.fields.specs.Bytes.{Bytes}
 use Rattle.fields.specs.Lists.{Each}
 use Rattle.op.proofs.Packed.{listed-bytes}
 use Rattle.pod.specs.Values.{Instruction, RoutineConvention, BasicBlock, Routine}
-use Rattle.pod.specs.Written.{bytes, many-bytes, counted-bytes, header-bytes, register-bytes, immediate-bytes, operand-bytes, name-bytes, instruction-bytes, convention-bytes, block-head-bytes, block-bytes, routine-head-bytes, routine-bytes}
+use Rattle.pod.specs.Written.{bytes, many-bytes, counted-bytes, header-bytes, register-bytes, immediate-bytes, operand-bytes}
+use Rattle.pod.specs.Written.{name-bytes, instruction-bytes, convention-bytes, block-head-bytes, block-bytes, routine-head-bytes, routine-bytes}
 use Rattle.pod.specs.declared.RegisterDesc.{RegisterDesc}
 use Rattle.pod.specs.declared.ImmediateDesc.{ImmediateDesc}
 use Rattle.pod.specs.declared.Operand.{Operand}

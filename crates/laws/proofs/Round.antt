@@ -2,7 +2,7 @@
 -- Assumes nothing.
 use mathlib.Core.Path.{_≡_, refl, sym, ap, _∙_}
 use mathlib.Core.List.{List, [], _++_, append-assoc}
-use mathlib.Core.Bool.{Bool, true, not}
+use mathlib.Core.Bool.{true, not}
 use Prim.Native.Nat.{ℕ, _<_}
 use native.Mathlib.Omega.{arith}
 use lib.ListN.{length, getD}
@@ -16,7 +16,8 @@ use Rattle.op.proofs.Same.{short}
 use Rattle.op.proofs.Packed.{listed-number, listed-text, few}
 use Rattle.pod.specs.Values.{Instruction, RoutineConvention, BasicBlock, Routine}
 use Rattle.pod.specs.Layout.{header, register, immediate, operand, of-kind, named, opcode, after-opcode, instruction, convention, block, blocks, routine}
-use Rattle.pod.specs.Written.{bytes, counted-bytes, header-bytes, register-bytes, immediate-bytes, operand-bytes, name-bytes, instruction-bytes, convention-bytes, block-head-bytes, block-bytes, routine-head-bytes, routine-bytes}
+use Rattle.pod.specs.Written.{bytes, counted-bytes, header-bytes, register-bytes, immediate-bytes, operand-bytes}
+use Rattle.pod.specs.Written.{name-bytes, instruction-bytes, convention-bytes, block-head-bytes, block-bytes, routine-head-bytes, routine-bytes}
 use Rattle.pod.specs.declared.RegisterDesc.{RegisterDesc}
 use Rattle.pod.specs.declared.ImmediateDesc.{ImmediateDesc}
 use Rattle.pod.specs.declared.Operand.{Operand}
@@ -24,14 +25,14 @@ use Rattle.pod.specs.declared.Operand.the-variants.{Imm, Reg}
 use Rattle.laws.specs.Holds.{Header-holds, Register-holds, Immediate-holds, Operand-holds, Instruction-holds, Convention-holds, Block-holds, Blocks-holds, Routine-holds}
 use Rattle.laws.proofs.Back.{Reads, same-bytes, seq, last, pass, done-reads, uint-reads, int-reads, part-reads, pad-reads, flag-reads, many-reads, counted-reads}
 
-pub header-reads : (exact : Bool) (m : ℕ) → Header-holds m → Reads (header exact) m (header-bytes m)
+pub header-reads : (m : ℕ) → Header-holds m → Reads header m (header-bytes m)
 unfolding header header-bytes
-header-reads exact m h =
+header-reads m h =
     seq _ _ _ _ (uint-reads 4 0x4c495456 (omega arith))
     (pass _ _ _ _ refl
     (seq _ _ _ _ (uint-reads 1 m (omega arith))
     (pass _ _ _ _ (le-leb _ _ h)
-    (seq _ _ _ _ (pad-reads exact)
+    (seq _ _ _ _ pad-reads
     (last _ _ _ (uint-reads 2 0xdead (omega arith)) (pass _ _ _ _ refl (done-reads m)))))))
 
 pub register-reads : (r : RegisterDesc) → Register-holds r → Reads register r (register-bytes r)
@@ -71,51 +72,51 @@ opcode-reads op h =
     (seq _ _ _ _ (uint-reads 4 (length w) (omega (arith, short op)))
     (seq _ _ _ _ (part-reads w) (named-reads w op (listed-text op h) (listed-number op h) h)))
 
-pub instruction-reads : (exact : Bool) (i : Instruction) → Instruction-holds i → Reads (instruction exact) i (instruction-bytes i)
+pub instruction-reads : (i : Instruction) → Instruction-holds i → Reads instruction i (instruction-bytes i)
 unfolding instruction after-opcode instruction-bytes counted-bytes
-instruction-reads exact i h =
+instruction-reads i h =
     same-bytes (simp (h .count, append-assoc))
     (seq _ _ _ _ (opcode-reads (i .op) (h .op))
     (seq _ _ _ _ (many-reads operand operand-bytes operand-reads (getD counts (i .op) 0) (i .operands) (h .count) (h .operands))
     (seq _ _ _ _ (uint-reads 8 (i .vip) (h .vip))
     (seq _ _ _ _ (int-reads w64 8 (i .sp-offset) refl (h .sp-offset))
     (seq _ _ _ _ (uint-reads 4 (i .sp-index) (h .sp-index))
-    (last _ _ _ (flag-reads exact (i .sp-reset)) (done-reads i)))))))
+    (last _ _ _ (flag-reads (i .sp-reset)) (done-reads i)))))))
 
-pub convention-reads : (exact : Bool) (c : RoutineConvention) → Convention-holds c → Reads (convention exact) c (convention-bytes c)
+pub convention-reads : (c : RoutineConvention) → Convention-holds c → Reads convention c (convention-bytes c)
 unfolding convention convention-bytes
-convention-reads exact c h =
+convention-reads c h =
     seq _ _ _ _ (counted-reads register register-bytes register-reads (c .volatile-registers) (h .volatile))
     (seq _ _ _ _ (counted-reads register register-bytes register-reads (c .param-registers) (h .param))
     (seq _ _ _ _ (counted-reads register register-bytes register-reads (c .retval-registers) (h .retval))
     (seq _ _ _ _ (register-reads (c .frame-register) (h .frame))
     (seq _ _ _ _ (uint-reads 8 (c .shadow-space) (h .shadow))
-    (last _ _ _ (flag-reads exact (c .purge-stack)) (done-reads c))))))
+    (last _ _ _ (flag-reads (c .purge-stack)) (done-reads c))))))
 
-pub block-reads : (exact : Bool) (b : BasicBlock) → Block-holds b → Reads (block exact) b (block-bytes b)
+pub block-reads : (b : BasicBlock) → Block-holds b → Reads block b (block-bytes b)
 unfolding block block-bytes block-head-bytes
-block-reads exact b h =
+block-reads b h =
     same-bytes (simp append-assoc)
     (seq _ _ _ _ (uint-reads 8 (b .vip) (h .vip))
     (seq _ _ _ _ (int-reads w64 8 (b .sp-offset) refl (h .sp-offset))
     (seq _ _ _ _ (uint-reads 4 (b .sp-index) (h .sp-index))
     (seq _ _ _ _ (uint-reads 4 (b .last-temporary-index) (h .last-temporary))
-    (seq _ _ _ _ (counted-reads (instruction exact) instruction-bytes (instruction-reads exact) (b .instructions) (h .instructions))
+    (seq _ _ _ _ (counted-reads instruction instruction-bytes instruction-reads (b .instructions) (h .instructions))
     (seq _ _ _ _ (counted-reads u64 (bytes 8) (uint-reads 8) (b .prev-vip) (h .prev))
     (last _ _ _ (counted-reads u64 (bytes 8) (uint-reads 8) (b .next-vip) (h .next)) (done-reads b))))))))
 
-pub blocks-reads : (exact : Bool) (bs : List BasicBlock) → Blocks-holds bs → Reads (blocks exact) bs (counted-bytes block-bytes bs)
+pub blocks-reads : (bs : List BasicBlock) → Blocks-holds bs → Reads blocks bs (counted-bytes block-bytes bs)
 unfolding blocks
-blocks-reads exact bs h =
-    last _ _ _ (counted-reads (block exact) block-bytes (block-reads exact) bs (h .listed)) (pass _ _ _ _ (ap not (h .distinct)) (done-reads bs))
+blocks-reads bs h =
+    last _ _ _ (counted-reads block block-bytes block-reads bs (h .listed)) (pass _ _ _ _ (ap not (h .distinct)) (done-reads bs))
 
-pub routine-reads : (exact : Bool) (r : Routine) → Routine-holds r → Reads (routine exact) r (routine-bytes r)
+pub routine-reads : (r : Routine) → Routine-holds r → Reads routine r (routine-bytes r)
 unfolding routine routine-bytes routine-head-bytes
-routine-reads exact r h =
+routine-reads r h =
     same-bytes (simp append-assoc)
-    (seq _ _ _ _ (header-reads exact (r .arch-id) (h .machine))
+    (seq _ _ _ _ (header-reads (r .arch-id) (h .machine))
     (seq _ _ _ _ (uint-reads 8 (r .vip) (h .entry))
-    (seq _ _ _ _ (convention-reads exact (r .routine-convention) (h .own))
-    (seq _ _ _ _ (convention-reads exact (r .subroutine-convention) (h .sub))
-    (seq _ _ _ _ (counted-reads (convention exact) convention-bytes (convention-reads exact) (r .spec-subroutine-conventions) (h .special))
-    (last _ _ _ (blocks-reads exact (r .explored-blocks) (h .blocks)) (done-reads r)))))))
+    (seq _ _ _ _ (convention-reads (r .routine-convention) (h .own))
+    (seq _ _ _ _ (convention-reads (r .subroutine-convention) (h .sub))
+    (seq _ _ _ _ (counted-reads convention convention-bytes convention-reads (r .spec-subroutine-conventions) (h .special))
+    (last _ _ _ (blocks-reads (r .explored-blocks) (h .blocks)) (done-reads r)))))))

@@ -7,7 +7,8 @@ use native.Mathlib.Omega.{arith}
 use lib.ListN.{length, getD, length-append}
 use Rattle.op.specs.Ops.{names}
 use Rattle.pod.specs.Values.{Instruction, RoutineConvention, BasicBlock, Routine}
-use Rattle.pod.specs.Written.{bytes, many-bytes, counted-bytes, header-bytes, register-bytes, immediate-bytes, operand-bytes, name-bytes, instruction-bytes, convention-bytes, block-head-bytes, block-bytes, routine-head-bytes, routine-bytes}
+use Rattle.pod.specs.Written.{bytes, many-bytes, counted-bytes, header-bytes, register-bytes, immediate-bytes, operand-bytes}
+use Rattle.pod.specs.Written.{name-bytes, instruction-bytes, convention-bytes, block-head-bytes, block-bytes, routine-head-bytes, routine-bytes}
 use Rattle.pod.specs.declared.RegisterDesc.{RegisterDesc}
 use Rattle.pod.specs.declared.ImmediateDesc.{ImmediateDesc}
 use Rattle.pod.specs.declared.Operand.the-variants.{Imm, Reg}

@@ -1,5 +1,5 @@
--- The bytes that a value was read from, against its written form: the written form is what the roles make of them, and is they themselves where
--- reading was exact. The law of each way to make a reader.
+-- The bytes that a value was read from, against its written form: the written form is what the roles make of them. The law of each way to make a
+-- reader.
 -- Assumes nothing.
 use mathlib.Core.Path.{_≡_, refl, sym, ap, ap₂, _∙_}
 use mathlib.Core.List.{List, [], _∷_, _++_, append-assoc}
@@ -15,9 +15,9 @@ use borrow.Author.Tests.{leb-true}
 use mir.Syntax.{Width}
 use mir.Val.{Fits, SFits, ofZ, bits}
 use mir.ValLaws.{ofZ-toZ, toZ-fits}
-use Rattle.fields.specs.Parse.{Reader, done, _>>=_, le, uint, int, part, many, counted, taken, pad, flag}
+use Rattle.fields.specs.Parse.{Reader, done, _>>=_, le, uint, int, part, many, counted, pad, flag}
 use Rattle.fields.proofs.Le.{uint-is, le-lt}
-use Rattle.fields.specs.Lists.{choose, Each}
+use Rattle.fields.specs.Lists.{Each}
 use Rattle.fields.specs.Bytes.{Bytes}
 use Rattle.pod.specs.Written.{bytes, bit, many-bytes, counted-bytes}
 use Rattle.laws.specs.Holds.{List-holds}
@@ -25,24 +25,21 @@ use Rattle.laws.specs.Normal.{Role, keep, normalise, keeps, last-flag, m
 use Rattle.laws.specs.Normal as N
 use Rattle.laws.proofs.At.{fits, none, Spans, within, _then_}
 use Rattle.laws.proofs.Back.{length-bytes}
-use Rattle.laws.proofs.Post.{Post, give, step, test, either, never, so}
+use Rattle.laws.proofs.Post.{Post, give, step, either, never, so}
 
 -- the bytes `found` stand from o to n
-pub record Took (exact : Bool) (s : List ℕ) (o : ℕ) (m : List Role) (l : List ℕ) (n : ℕ) : Type 0 where
+pub record Took (s : List ℕ) (o : ℕ) (m : List Role) (l : List ℕ) (n : ℕ) : Type 0 where
   pub found : List ℕ
   pub stands : Spans s o found n
   pub lined-up : length m ≡ length found
   pub normal : normalise m found ≡ l
-  pub same : exact ≡ true → found ≡ l
 
--- read exactly, they are the written form
-pub exactly : {s : List ℕ} {o n : ℕ} {m : List Role} {l : List ℕ} → Took true s o m l n → Spans s o l n
-exactly {s} {o} {n} t = rw (t .same refl) at (t .stands)
-
-normal-keeps : (l : List ℕ) → normalise (keeps (length l)) l ≡ l
+pub normal-kept : (j : ℕ) (l : List ℕ) → length l ≡ j → normalise (keeps j) l ≡ l
 unfolding normalise
-normal-keeps [] = refl
-normal-keeps (x ∷ l) = ap (λ r. x ∷ r) (normal-keeps l)
+normal-kept zero [] h = refl
+normal-kept zero (x ∷ l) h = absurd (omega arith)
+normal-kept (suc j) [] h = absurd (omega arith)
+normal-kept (suc j) (x ∷ l) h = ap (λ r. x ∷ r) (normal-kept j l (omega arith))
 
 normal-append : (m k : List Role) (a b : List ℕ) → length m ≡ length a → normalise (m ++ k) (a ++ b) ≡ normalise m a ++ normalise k b
 unfolding normalise
@@ -58,8 +55,8 @@ length-normalise [] (x ∷ a) e = absurd (omega arith)
 length-normalise (y ∷ m) [] e = absurd (omega arith)
 length-normalise (y ∷ m) (x ∷ a) e = ap suc (length-normalise m a (omega arith))
 
-module _ {exact : Bool} {s : List ℕ} where
-  module _ {o n : ℕ} {m : List Role} {l : List ℕ} (t : Took exact s o m l n) where
+module _ {s : List ℕ} where
+  module _ {o n : ℕ} {m : List Role} {l : List ℕ} (t : Took s o m l n) where
     -- its size
     pub took-to : n ≡ o + length l
     took-to = t .stands .to ∙ ap (λ k. o + k) (sym (length-normalise m (t .found) (t .lined-up)) ∙ ap length (t .normal))
@@ -72,28 +69,27 @@ module _ {exact : Bool} {s : List ℕ} where
         let e : length (t .found) ≡ n - o = omega (arith, t .stands .to) in
         sym (rw (t .stands .at .is, take-at (t .found) (t .stands .at .rest) (n - o) e) (t .normal))
 
-  pub took-none : {o : ℕ} → o ≤ length s → Took exact s o [] [] o
+  pub took-none : {o : ℕ} → o ≤ length s → Took s o [] [] o
   unfolding normalise
-  took-none {o} h = record { found = []; stands = record { at = none h; to = sym (add-zero o) }; lined-up = refl; normal = refl; same = λ e. refl }
+  took-none {o} h = record { found = []; stands = record { at = none h; to = sym (add-zero o) }; lined-up = refl; normal = refl }
 
   -- as they stand
-  pub kept : {o n : ℕ} {l : List ℕ} → Spans s o l n → Took exact s o (keeps (length l)) l n
-  kept {o} {n} {l} h = record { found = l; stands = h; lined-up = length-replicate (length l) keep; normal = normal-keeps l; same = λ e. refl }
+  pub kept : {o n : ℕ} {l : List ℕ} → Spans s o l n → Took s o (keeps (length l)) l n
+  kept {o} {n} {l} h = record { found = l; stands = h; lined-up = length-replicate (length l) keep; normal = normal-kept (length l) l refl }
 
   infixr 20 _also_
-  pub _also_ : {o e n : ℕ} {m k : List Role} {a b : List ℕ} → Took exact s o m a e → Took exact s e k b n → Took exact s o (m ++ k) (a ++ b) n
+  pub _also_ : {o e n : ℕ} {m k : List Role} {a b : List ℕ} → Took s o m a e → Took s e k b n → Took s o (m ++ k) (a ++ b) n
   _also_ {o} {e} {n} {m} {k} {a} {b} t u =
       record {
         found = t .found ++ u .found;
         stands = t .stands then u .stands;
         lined-up = length-append m k ∙ ap₂ (λ i j. i + j) (t .lined-up) (u .lined-up) ∙ sym (length-append (t .found) (u .found));
         normal = normal-append m k (t .found) (u .found) (t .lined-up) ∙ ap₂ (λ i j. i ++ j) (t .normal) (u .normal);
-        same = λ q. ap₂ (λ i j. i ++ j) (t .same q) (u .same q);
       }
 
 -- with a flag as the last byte
-pub record Flagged (exact : Bool) (s : List ℕ) (o : ℕ) (l : List ℕ) (n : ℕ) : Type 0 where
-  pub took : Took exact s o (last-flag l) l n
+pub record Flagged (s : List ℕ) (o : ℕ) (l : List ℕ) (n : ℕ) : Type 0 where
+  pub took : Took s o (last-flag l) l n
   pub some : 0 < length l
 
 last-flag-append : (a b : List ℕ) → 0 < length b → last-flag (a ++ b) ≡ keeps (length a) ++ last-flag b
@@ -103,8 +99,8 @@ last-flag-append a b h =
     rw (e, ← replicate-append-replicate (length a) (length b - 1) keep) (append-assoc (keeps (length a)) (keeps (length b - 1)) (N.flag ∷ []))
 
 infixr 20 _ahead_
-pub _ahead_ : {exact : Bool} {s : List ℕ} {o e n : ℕ} {a b : List ℕ} → Spans s o a e → Flagged exact s e b n → Flagged exact s o (a ++ b) n
-_ahead_ {exact} {s} {o} {e} {n} {a} {b} h t =
+pub _ahead_ : {s : List ℕ} {o e n : ℕ} {a b : List ℕ} → Spans s o a e → Flagged s e b n → Flagged s o (a ++ b) n
+_ahead_ {s} {o} {e} {n} {a} {b} h t =
     record { took = rw (last-flag-append a b (t .some)) (kept h also (t .took)); some = rw (length-append a b) (omega (arith, t .some)) }
 
 bytes-le : (k : ℕ) (s : List ℕ) (o : ℕ) → Bytes s → o + k ≤ length s → drop o s ≡ bytes k (le k s o) ++ drop (o + k) s
@@ -150,37 +146,19 @@ part-took {s} o k =
     let e : length (take k (drop o s)) ≡ k = simp (length-take, length-drop) (omega arith) in
     give (e, record { at = record { rest = drop k (drop o s); is = sym (take-append-drop k (drop o s)); within = omega arith }; to = rw e })) (λ q. never 1)
 
--- a byte that is taken where the written form has at most `most`
-taken-most : (exact : Bool) (most v : ℕ) → taken exact most v ≡ true → exact ≡ true → v ≤ most
-unfolding taken choose
-taken-most true most v h e = leb-true v most h
-taken-most false most v h e = let z : _≡_ {A = ℕ} 0 1 = cc in absurd (omega arith)
-
-flag-byte : (v : ℕ) → v ≤ 1 → v ≡ bit (not (eqb v 0))
-flag-byte zero h = refl
-flag-byte (suc zero) h = refl
-flag-byte (suc (suc v)) h = absurd (omega arith)
-
 small-bit : (t : Bool) → bit t ≡ bit t % 256
 small-bit true = refl
 small-bit false = refl
 
-module _ (exact : Bool) {s : List ℕ} (b : Bytes s) (o : ℕ) where
-  pub pad-took : Post (pad exact s o) (λ x n. Took exact s o (N.pad ∷ []) (bytes 1 0) n)
+module _ {s : List ℕ} (b : Bytes s) (o : ℕ) where
+  pub pad-took : Post (pad s o) (λ x n. Took s o (N.pad ∷ []) (bytes 1 0) n)
   unfolding pad normalise bytes
-  pad-took =
-      step _ (uint-took b o 1) λ v n u. test _ _ _ _ λ q. give (record {
-        found = bytes 1 v;
-        stands = u .1;
-        lined-up = refl;
-        normal = refl;
-        same = λ e. let z : v ≡ 0 = omega (arith, taken-most exact 0 v q e) in ap (bytes 1) z;
-      })
+  pad-took = step _ (uint-took b o 1) λ v n u. give (record { found = bytes 1 v; stands = u .1; lined-up = refl; normal = refl })
 
-  pub flag-took : Post (flag exact s o) (λ x n. Flagged exact s o (bytes 1 (bit x)) n)
+  pub flag-took : Post (flag s o) (λ x n. Flagged s o (bytes 1 (bit x)) n)
   unfolding flag normalise bytes last-flag
   flag-took =
-      step _ (uint-took b o 1) λ v n u. test _ _ _ _ λ q.
+      step _ (uint-took b o 1) λ v n u.
       let w : v % 256 ≡ v = omega (arith, u .0) in
       give (record {
         took = record {
@@ -188,33 +166,35 @@ module _ (exact : Bool) {s : List ℕ} (b : Bytes s) (o : ℕ) where
           stands = u .1;
           lined-up = refl;
           normal = ap (λ l. l ∷ []) (ap (λ i. bit (not (eqb i 0))) w ∙ small-bit (not (eqb v 0)));
-          same = λ e. ap (bytes 1) (flag-byte v (taken-most exact 1 v q e));
         };
         some = omega arith;
       })
 
 -- lists
-module _ {A : Type 0} (exact : Bool) (p : Reader A) {P : A → Type 0} (m : A → List Role) (w : A → List ℕ) {s : List ℕ}
-    (each : (o : ℕ) → Post (p s o) (λ a n. P a × Took exact s o (m a) (w a) n)) where
-  pub many-took : (k o : ℕ) → o ≤ length s → Post (many p k s o) (λ xs n. (length xs ≡ k) × Each P xs × Took exact s o (many-roles m xs) (many-bytes w xs) n)
+module _ {A : Type 0} (p : Reader A) {P : A → Type 0} (m : A → List Role) (w : A → List ℕ) {s : List ℕ}
+    (each : (o : ℕ) → Post (p s o) (λ a n. P a × Took s o (m a) (w a) n)) where
+  pub many-took : (k o : ℕ) → o ≤ length s → Post (many p k s o) (λ xs n. (length xs ≡ k) × Each P xs × Took s o (many-roles m xs) (many-bytes w xs) n)
   unfolding many many-roles many-bytes
   many-took zero o h = give (refl, tt, took-none h)
   many-took (suc k) o h =
       step _ (each o) λ x n u. step _ (many-took k n (took-within (u .1))) λ xs e v.
       give (ap suc (v .0), (u .0, v .1), u .1 also v .2)
 
-  pub counted-took : Bytes s → (o : ℕ) → Post (counted p s o) (λ xs n. List-holds P xs × Took exact s o (counted-roles m xs) (counted-bytes w xs) n)
+  pub counted-took : Bytes s → (o : ℕ) → Post (counted p s o) (λ xs n. List-holds P xs × Took s o (counted-roles m xs) (counted-bytes w xs) n)
   unfolding counted-roles counted-bytes bytes
   counted-took b o =
       step _ (uint-took b o 4) λ k e u. so (λ xs n v. (record { count = rw (v .0) (u .0); each = v .1 }, kept (rw (← v .0) at (u .1)) also v .2)) (many-took k e (within (u .1)))
 
 -- of elements that are read as they stand
 module _ {A : Type 0} (p : Reader A) {P : A → Type 0} (w : A → List ℕ) {s : List ℕ} (each : (o : ℕ) → Post (p s o) (λ a n. P a × Spans s o (w a) n)) where
-  all-kept : (o : ℕ) → Post (p s o) (λ a n. P a × Took true s o (keeps (length (w a))) (w a) n)
-  all-kept o = so (λ a n h. (h .0, kept (h .1))) (each o)
-
   pub many-spans : (k o : ℕ) → o ≤ length s → Post (many p k s o) (λ xs n. (length xs ≡ k) × Each P xs × Spans s o (many-bytes w xs) n)
-  many-spans k o h = so (λ xs n u. (u .0, u .1, exactly (u .2))) (many-took true p _ w all-kept k o h)
+  unfolding many many-bytes
+  many-spans zero o h = give (refl, tt, record { at = none h; to = sym (add-zero o) })
+  many-spans (suc k) o h =
+      step _ (each o) λ x n u. step _ (many-spans k n (within (u .1))) λ xs e v.
+      give (ap suc (v .0), (u .0, v .1), u .1 then v .2)
 
   pub counted-spans : Bytes s → (o : ℕ) → Post (counted p s o) (λ xs n. List-holds P xs × Spans s o (counted-bytes w xs) n)
-  counted-spans b o = so (λ xs n u. (u .0, exactly (u .1))) (counted-took true p _ w all-kept b o)
+  unfolding counted-bytes
+  counted-spans b o =
+      step _ (uint-took b o 4) λ k e u. so (λ xs n v. (record { count = rw (v .0) (u .0); each = v .1 }, (rw (← v .0) at (u .1)) then v .2)) (many-spans k e (within (u .1)))

@@ -1,7 +1,7 @@
 -- The values that the layouts hold: a number of k bytes is below 2^8k, a list's count is a u32, and none of the refusals is due.
 use Prim.Native.Nat.{ℕ, _/_, _^_, _≤_, _<_}
 use mathlib.Core.Path.{_≡_}
-use mathlib.Core.List.{List, [], _∷_}
+use mathlib.Core.List.{List}
 use mathlib.Core.Bool.{false}
 use lib.ListN.{length, getD}
 use mir.Syntax.{w32, w64}

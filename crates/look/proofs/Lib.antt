@@ -1,4 +1,4 @@
-pub mod Elements
-pub mod Reach
-pub mod Blocks
-pub mod Routines
+pub mod Counted
+pub mod Reaches
+pub mod InBlock
+pub mod InConvention

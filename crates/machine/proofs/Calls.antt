@@ -1,43 +1,107 @@
--- What an edit does to a book that holds a routine, case by case: the answer and the state, from which test failed first. By computing the step.
+-- What a call does to a book that holds a routine, case by case: the answer and the state, from which test failed first. By computing the step.
 -- Assumes nothing.
-use mathlib.Core.Path.{_≡_}
-use mathlib.Core.List.{List}
-use Prim.Native.Nat.{ℕ, _+_, _≤_, _<_}
-use lib.ListN.{length}
-use borrow.Author.Tests.{le-leb, lt-leb}
-use Rattle.fields.specs.Bytes.{put}
-use Rattle.fields.specs.Outcome.{refused, accepted}
+use mathlib.Core.Path.{_≡_, refl, _∙_}
+use mathlib.Core.Bool.{Bool, true, false}
+use Prim.Native.Nat.{ℕ, _+_, _-_, _≤_, _<_}
+use native.Mathlib.Omega.{arith}
+use lib.ListN.{length, take}
+use lib.Dec.{leb}
+use borrow.Author.Tests.{le-leb, lt-leb, leb-true, eq-eqb, ne-eqb}
+use Rattle.fields.specs.Bytes.{zeros, put}
+use Rattle.fields.specs.Outcome.{Outcome, refused, accepted, after, refuse-if, refuse-unless, attempt}
+use Rattle.fields.specs.Lists.{choose}
+use Rattle.fields.proofs.Outcomes.{unless-passed, not-both}
 use Rattle.pod.specs.Values.{Routine}
-use Rattle.machine.specs.Edits.{Edit, edited}
-use Rattle.machine.specs.Machine.{Call, edit, size}
-use Rattle.machine.specs.Journal.{entry}
-use Rattle.machine.specs.Book.{State, in-image, held, stored, edit-step, acted, step}
+use Rattle.machine.specs.Edits.{size, Edit, edited, Lengths, admit}
+use Rattle.machine.specs.Machine.{Call, edit, undo, Answer}
+use Rattle.machine.specs.Journal.{entry, undone}
+use Rattle.machine.specs.Book.{State, holding, book-answers, held, edit-book, restored, undo-book, call-book, step}
+
+-- 11, 12, or neither
+module _ (lent : Lengths) (written used : ℕ) where
+  pub not-admitted-11 : lent .image < written → admit lent written used ≡ refused 11
+  unfolding admit refuse-unless choose after
+  not-admitted-11 h = rw (lt-leb written (lent .image) h)
+
+  pub not-admitted-12 : written ≤ lent .image → lent .journal < used → admit lent written used ≡ refused 12
+  unfolding admit refuse-unless choose after
+  not-admitted-12 h k = rw (le-leb written (lent .image) h, lt-leb used (lent .journal) k)
+
+  pub admitted : written ≤ lent .image → used ≤ lent .journal → admit lent written used ≡ accepted tt
+  unfolding admit refuse-unless choose after
+  admitted h k = rw (le-leb written (lent .image) h, le-leb used (lent .journal) k)
+
+  -- what an accepted admission says
+  pub was-admitted : admit lent written used ≡ accepted tt → (written ≤ lent .image) × (used ≤ lent .journal)
+  unfolding admit refuse-unless choose
+  was-admitted h =
+      let p = unless-passed 11 _ (leb written (lent .image)) h in
+      (leb-true written (lent .image) (p .0), fits (p .1))
+    where
+      go : (t : Bool) → refuse-unless t 12 ≡ accepted tt → t ≡ true
+      go true q = refl
+      go false q = not-both q
+
+      fits : refuse-unless (leb used (lent .journal)) 12 ≡ accepted tt → used ≤ lent .journal
+      fits q = leb-true used (lent .journal) (go (leb used (lent .journal)) q)
 
 -- 10 and 13
 pub step-refused : (c : Call) (s : State) {k : ℕ} → held s ≡ refused k → step c s ≡ (refused k, s)
-unfolding step acted
+unfolding step attempt after
 step-refused c s h = rw h
 
--- the state after an accepted call: the routine r, the book's used part n, and the journal j
-abbrev pub left-by : State → Routine → ℕ → List ℕ → State
-left-by s r n j = record { image = in-image (length (s .image)) r; journal = j; book = record { written = size r; used = n } }
+-- what a call answers that leaves s, and s
+abbrev pub left : State → Answer × State
+left s = (accepted (book-answers s .0), s)
 
 module _ (s : State) (r : Routine) (h : held s ≡ accepted r) where
   pub edit-refused : (e : Edit) {k : ℕ} → edited e r ≡ refused k → step (edit e) s ≡ (refused k, s)
-  unfolding step acted edit-step
+  unfolding step call-book edit-book attempt after
   edit-refused e q = rw (h, q)
 
   module _ (e : Edit) {r′ : Routine} (q : edited e r ≡ accepted r′) where
-    pub edit-full : length (s .image) < size r′ → step (edit e) s ≡ (refused 11, s)
-    unfolding step acted edit-step stored
-    edit-full n = rw (h, q, lt-leb (size r′) (length (s .image)) n)
+    abbrev N : ℕ
+    N = length (s .image)
 
-    pub edit-journal-full : size r′ ≤ length (s .image) → length (s .journal) < s .book .used + length (entry e r) → step (edit e) s ≡ (refused 12, s)
-    unfolding step acted edit-step stored
-    edit-journal-full n m = rw (h, q, le-leb (size r′) (length (s .image)) n, lt-leb (s .book .used + length (entry e r)) (length (s .journal)) m)
+    abbrev spent : ℕ
+    spent = s .book .used + length (entry e r)
 
-    pub edit-done : size r′ ≤ length (s .image) → s .book .used + length (entry e r) ≤ length (s .journal)
-        → step (edit e) s
-        ≡ (accepted (record { written = size r′; used = s .book .used + length (entry e r) }), left-by s r′ (s .book .used + length (entry e r)) (put (s .book .used) (entry e r) (s .journal)))
-    unfolding step acted edit-step stored
-    edit-done n m = rw (h, q, le-leb (size r′) (length (s .image)) n, le-leb (s .book .used + length (entry e r)) (length (s .journal)) m)
+    abbrev lent : Lengths
+    lent = record { image = N; journal = length (s .journal) }
+
+    -- 11 or 12
+    pub edit-not-admitted : {k : ℕ} → admit lent (size r′) spent ≡ refused k → step (edit e) s ≡ (refused k, s)
+    unfolding step call-book edit-book attempt after
+    edit-not-admitted n = rw (h, q, n)
+
+    pub edit-full : N < size r′ → step (edit e) s ≡ (refused 11, s)
+    edit-full n = edit-not-admitted (not-admitted-11 lent (size r′) spent n)
+
+    pub edit-journal-full : size r′ ≤ N → length (s .journal) < spent → step (edit e) s ≡ (refused 12, s)
+    edit-journal-full n m = edit-not-admitted (not-admitted-12 lent (size r′) spent n m)
+
+    pub edit-done : admit lent (size r′) spent ≡ accepted tt → step (edit e) s ≡ left (holding N r′ spent (put (s .book .used) (entry e r) (s .journal)))
+    unfolding step call-book edit-book attempt after
+    edit-done n = rw (h, q, n)
+
+  -- take back: nothing is used, the entry does not fit, or it does
+  pub undo-empty : s .book .used ≡ 0 → step undo s ≡ (refused 16, s)
+  unfolding step call-book undo-book attempt after refuse-if choose
+  undo-empty z = rw (h, eq-eqb (s .book .used) 0 z)
+
+  module _ (z : 0 < s .book .used) where
+    abbrev last : Outcome (Routine × ℕ)
+    last = undone (length (s .image)) r (take (s .book .used) (s .journal))
+
+    pub undo-is : step undo s ≡ attempt s (restored s last)
+    unfolding step call-book undo-book after refuse-if choose
+    undo-is = rw (h, ne-eqb (s .book .used) 0 (λ e. omega arith))
+
+    pub undo-spoiled : {k : ℕ} → last ≡ refused k → step undo s ≡ (refused k, s)
+    unfolding restored attempt after
+    undo-spoiled q = undo-is ∙ rw q
+
+    pub undo-done : {x : Routine × ℕ} → last ≡ accepted x
+        → step undo s ≡ left (holding (length (s .image)) (x .0) (s .book .used - x .1) (put (s .book .used - x .1) (zeros (x .1)) (s .journal)))
+    unfolding restored attempt after
+    undo-done q = undo-is ∙ rw q

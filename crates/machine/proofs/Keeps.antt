@@ -9,26 +9,27 @@ use native.Mathlib.Omega.{arith}
 use lib.ListN.{length}
 use lib.Dec.{ltb, eqb}
 use borrow.Author.Tests.{ltb-false, eqb-true, eqb-false}
-use Rattle.fields.specs.Parse.{Res, ok, no}
-use Rattle.fields.specs.Outcome.{Outcome, refused, accepted}
-use Rattle.fields.specs.Lists.{choose, Each}
-use Rattle.fields.specs.Bytes.{Bytes}
+use Rattle.fields.specs.Parse.{ok}
+use Rattle.fields.specs.Outcome.{accepted, what-is-read}
+use Rattle.fields.proofs.Outcomes.{came, was-read, if-passed, unless-passed}
+use Rattle.fields.specs.Lists.{Each}
+use Rattle.fields.specs.Bytes.{Bytes, most-lent}
 use Rattle.pod.specs.Values.{Instruction, BasicBlock, Routine}
 use Rattle.pod.specs.Blocks.{vips, repeats}
-use Rattle.pod.specs.Layout.{instruction, as-it-comes}
+use Rattle.pod.specs.Layout.{instruction}
 use Rattle.pod.specs.Written.{many-bytes, instruction-bytes, block-bytes, routine-head-bytes}
-use Rattle.pod.specs.Descs.{most-lent}
 use Rattle.laws.specs.Holds.{Instruction-holds, Block-holds, Routine-holds}
 use Rattle.laws.proofs.Layouts.{instruction-layout, read-holds, read-to, read-within}
 use Rattle.laws.proofs.Sizes.{instruction-size, block-size, block-least, block-empty, routine-size}
-use Rattle.machine.specs.Edits.{Edit, create, remove, append, present, place, empty-block, block-at, remove-at, change-at, append-to, with-blocks, appended, edited}
-use Rattle.machine.specs.Machine.{edit, Sendable, size}
-use Rattle.machine.proofs.Lists.{total, total-snoc, total-least, many-total, total-remove, total-change, each-snoc, each-at, each-remove, each-change, one, one-same, one-other, found, absent-count, once-count, count-once}
+use Rattle.machine.specs.Edits.{Edit, create, remove, append, present, place, empty-block, block-at, remove-at, change-at, append-to, with-blocks, edited, size}
+use Rattle.machine.specs.Machine.{edit, Sendable}
+use Rattle.machine.proofs.Lists.{total, total-snoc, total-least, many-total, total-remove, total-change, each-snoc, each-at, each-remove}
+use Rattle.machine.proofs.Lists.{each-change, one, one-same, one-other, found, absent-count, once-count, count-once}
 
 -- What an accepted edit did
 pub record Appended (v : ℕ) (s : List ℕ) (r r′ : Routine) : Type 0 where
   pub instruction′ : Instruction
-  pub read : instruction as-it-comes s 0 ≡ ok instruction′ (length s)
+  pub read : instruction s 0 ≡ ok instruction′ (length s)
   pub holds : Instruction-holds instruction′
   pub long : length (instruction-bytes instruction′) ≡ length s
   pub there : present v (r .explored-blocks) ≡ true
@@ -39,45 +40,35 @@ Did (create v) r r′ = (present v (r .explored-blocks) ≡ false) × (r′ ≡ 
 Did (remove v) r r′ = (present v (r .explored-blocks) ≡ true) × (r′ ≡ with-blocks (remove-at (place v (r .explored-blocks)) (r .explored-blocks)) r)
 Did (append v s) r r′ = Appended v s r r′
 
--- an accepted choice
-on-false : {A : Type 0} (t : Bool) (e : ℕ) (a : A) (x : A) → choose t (refused e) (accepted a) ≡ accepted x → (t ≡ false) × (x ≡ a)
-unfolding choose
-on-false true e a x q = let z : _≡_ {A = ℕ} 0 1 = cc in absurd (omega arith)
-on-false false e a x q = (refl, cc)
-
-on-true : {A : Type 0} (t : Bool) (e : ℕ) (a : A) (x : A) → choose t (accepted a) (refused e) ≡ accepted x → (t ≡ true) × (x ≡ a)
-unfolding choose
-on-true true e a x q = (refl, cc)
-on-true false e a x q = let z : _≡_ {A = ℕ} 0 1 = cc in absurd (omega arith)
-
-past : {A : Type 0} (t : Bool) (e : ℕ) (a : Outcome A) (x : A) → choose t (refused e) a ≡ accepted x → (t ≡ false) × (a ≡ accepted x)
-unfolding choose
-past true e a x q = let z : _≡_ {A = ℕ} 0 1 = cc in absurd (omega arith)
-past false e a x q = (refl, q)
-
-did-append : (v : ℕ) (s : List ℕ) → Bytes s → (r r′ : Routine) (q : Res Instruction) → instruction as-it-comes s 0 ≡ q → appended v r s q ≡ accepted r′ → Appended v s r r′
-unfolding appended
-did-append v s b r r′ (no e) q d = let z : _≡_ {A = ℕ} 0 1 = cc in absurd (omega arith)
-did-append v s b r r′ (ok i n) q d =
-    let p = past (ltb n (length s)) 17 _ r′ d in
-    let t = on-true (present v (r .explored-blocks)) 15 _ r′ (p .1) in
-    let l = ltb-false n (length s) (p .0) in
-    let h = read-within instruction-layout false b q in
-    let e : n ≡ length s = omega arith in
+did-append : (v : ℕ) (s : List ℕ) → Bytes s → (r r′ : Routine) → edited (append v s) r ≡ accepted r′ → Appended v s r r′
+unfolding edited
+did-append v s b r r′ d =
+    let x = came (what-is-read (instruction s 0)) _ d in
+    let q = was-read (instruction s 0) (x .1) in
+    let p = if-passed 17 _ (ltb (x .0 .1) (length s)) (x .2) in
+    let t = unless-passed 15 _ (present v (r .explored-blocks)) (p .1) in
+    let y = t .1 in
+    let l = ltb-false (x .0 .1) (length s) (p .0) in
+    let h = read-within instruction-layout b q in
+    let e : x .0 .1 ≡ length s = omega arith in
     record {
-      instruction′ = i;
-      read = q ∙ ap (ok i) e;
-      holds = read-holds instruction-layout false b q;
-      long = omega (arith, read-to instruction-layout false b q);
+      instruction′ = x .0 .0;
+      read = q ∙ ap (ok (x .0 .0)) e;
+      holds = read-holds instruction-layout b q;
+      long = omega (arith, read-to instruction-layout b q);
       there = t .0;
-      is = t .1;
+      is = cc;
     }
+
+pub removed : (v : ℕ) (r r′ : Routine) → edited (remove v) r ≡ accepted r′ → Did (remove v) r r′
+unfolding edited
+removed v r r′ q = let p = unless-passed 15 _ (present v (r .explored-blocks)) q in let y = p .1 in (p .0, cc)
 
 pub did : (e : Edit) (r r′ : Routine) → Sendable (edit e) → edited e r ≡ accepted r′ → Did e r r′
 unfolding edited
-did (create v) r r′ f q = on-false (present v (r .explored-blocks)) 14 _ r′ q
-did (remove v) r r′ f q = on-true (present v (r .explored-blocks)) 15 _ r′ q
-did (append v s) r r′ f q = did-append v s (f .1) r r′ (instruction as-it-comes s 0) refl q
+did (create v) r r′ f q = let p = if-passed 14 _ (present v (r .explored-blocks)) q in let y = p .1 in (p .0, cc)
+did (remove v) r r′ f q = removed v r r′ q
+did (append v s) r r′ f q = did-append v s (f .1) r r′ q
 
 -- Sizes
 abbrev pub weight : BasicBlock → ℕ

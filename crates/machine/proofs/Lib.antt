@@ -3,6 +3,5 @@ pub mod Keeps
 pub mod Undo
 pub mod Held
 pub mod Simulation
-pub mod Rewritten
 pub mod Parts
 pub mod Calls

@@ -2,28 +2,25 @@
 -- which is, entry by entry, what the edits on the machine's stack wrote. Every call keeps it.
 -- Assumes nothing.
 use mathlib.Core.Path.{_≡_, refl, sym, ap, ap₂, _∙_}
-use mathlib.Core.Bool.{Bool, true, false}
 use mathlib.Core.List.{List, [], _∷_, _++_, append-assoc}
 use Prim.Native.Nat.{ℕ, zero, suc, _+_, _-_, _≤_}
 use native.Mathlib.Nat.{suc-sub-suc, sub-zero, zero-sub}
 use native.Mathlib.Omega.{arith}
 use lib.ListN.{length, take, drop, length-append, length-replicate, replicate-append-replicate}
 use lib.Seq.{take-append-seam, drop-append-add, drop-append-seam}
-use lib.Dec.{leb, eqb}
-use borrow.Author.Tests.{eq-eqb, ne-eqb, leb-true}
-use Rattle.fields.specs.Bytes.{zeros, put}
-use Rattle.fields.specs.Outcome.{Outcome, refused, accepted}
-use Rattle.fields.specs.Lists.{choose, Each}
+use Rattle.fields.specs.Bytes.{zeros, put, most-lent}
+use Rattle.fields.specs.Outcome.{Outcome, refused, accepted, after, attempt}
+use Rattle.fields.specs.Lists.{Each}
 use Rattle.pod.specs.Values.{Routine}
-use Rattle.pod.specs.Descs.{most-lent}
 use Rattle.laws.specs.Holds.{Routine-holds}
-use Rattle.machine.specs.Edits.{Edit, create, remove, append, edited, cost}
-use Rattle.machine.specs.Machine.{Call, edit, undo, Sendable, Answer, Stack, used-by, Machine, size, admitted, after-edit, after-undo, machine-step, machine-run}
+use Rattle.machine.specs.Edits.{size, Edit, create, remove, append, edited, cost, Lengths, lengths, admit}
+use Rattle.machine.specs.Machine.{Call, edit, undo, Sendable, Answer, Stack, used-by, Machine, machine-answers, machine-edit, machine-undo, machine-call, machine-step, machine-run}
 use Rattle.machine.specs.Journal.{entry, undone}
-use Rattle.machine.specs.Book.{State, in-image, held, stored, edit-step, restored, undo-step, acted, step, run}
+use Rattle.machine.specs.Book.{State, in-image, holding, held, step, run}
 use Rattle.machine.proofs.Held.{length-image, sound-held}
 use Rattle.machine.proofs.Keeps.{Did, did, keeps}
 use Rattle.machine.proofs.Undo.{entry-cost, leads-back}
+use Rattle.machine.proofs.Calls.{left, was-admitted, edit-refused, edit-not-admitted, edit-done, undo-empty, undo-done}
 
 -- Bytes put over the zeros after j, and zeros put back
 drop-zeros : (k n : ℕ) → drop k (zeros n) ≡ zeros (n - k)
@@ -38,7 +35,15 @@ put-zeros j x n = rw (take-append-seam j (zeros n), drop-append-add j (zeros n) 
 pub put-back : (es x : List ℕ) (n m : ℕ) → m ≡ length x + n → put (length es) (zeros (length x)) ((es ++ x) ++ zeros n) ≡ es ++ zeros m
 unfolding put
 put-back es x n m h =
-    rw (append-assoc, take-append-seam es (x ++ zeros n), length-replicate {A = ℕ} (length x) 0, drop-append-add es (x ++ zeros n) (length x), drop-append-seam x (zeros n), replicate-append-replicate {A = ℕ} (length x) n 0, h)
+    rw (
+      append-assoc,
+      take-append-seam es (x ++ zeros n),
+      length-replicate {A = ℕ} (length x) 0,
+      drop-append-add es (x ++ zeros n) (length x),
+      drop-append-seam x (zeros n),
+      replicate-append-replicate {A = ℕ} (length x) n 0,
+      h,
+    )
 
 cost-least : (e : Edit) (r : Routine) → 20 ≤ cost e r
 unfolding cost
@@ -68,27 +73,42 @@ linked-used N r [] j l = sym (ap length l)
 linked-used N r (p ∷ ps) j l =
     omega (arith, linked-used N (p .0) ps (l .0 .rest) (l .1), ap length (l .0 .is), length-append (l .0 .rest) (entry (l .0 .by) (p .0)), l .0 .costs)
 
--- the state of a routine and a used part, in lendings of N and J bytes
-abbrev pub state-of : ℕ → ℕ → Routine → List ℕ → State
-state-of N J r j = record { image = in-image N r; journal = j ++ zeros (J - length j); book = record { written = size r; used = length j } }
+-- the state of a routine and a used part, in lendings of these lengths
+abbrev pub state-of : Lengths → Routine → List ℕ → State
+state-of lent r j = holding (lent .image) r (length j) (j ++ zeros (lent .journal - length j))
 
-pub record Sim (N J : ℕ) (m : Machine) (s : State) : Type 0 where
+-- the machine after an edit of that cost
+abbrev pushed : Machine → Routine → ℕ → Machine
+pushed m r k = record { now = r; stack = (m .now, k) ∷ m .stack }
+
+pushed-used : (m : Machine) (r : Routine) (k : ℕ) → used-by (pushed m r k .stack) ≡ used-by (m .stack) + k
+unfolding used-by
+pushed-used m r k = omega arith
+
+pub record Sim (lent : Lengths) (m : Machine) (s : State) : Type 0 where
   pub j : List ℕ
-  pub is : s ≡ state-of N J (m .now) j
-  pub room : size (m .now) ≤ N
-  pub journal-room : length j ≤ J
+  pub is : s ≡ state-of lent (m .now) j
+  pub room : size (m .now) ≤ lent .image
+  pub journal-room : length j ≤ lent .journal
   pub holds : Routine-holds (m .now)
-  pub link : Linked N (m .now) (m .stack) j
+  pub link : Linked (lent .image) (m .now) (m .stack) j
 
-abbrev pub Agree : ℕ → ℕ → Answer × State → Answer × Machine → Type 0
-Agree N J x y = (x .0 ≡ y .0) × Sim N J (y .1) (x .1)
+pub record Agree (lent : Lengths) (x : Answer × State) (y : Answer × Machine) : Type 0 where
+  pub answer : x .0 ≡ y .0
+  pub sim : Sim lent (y .1) (x .1)
 
-module _ (N J : ℕ) (small : N ≤ most-lent) (journal-small : J ≤ most-lent) where
+module _ (lent : Lengths) (small : lent .image ≤ most-lent) (journal-small : lent .journal ≤ most-lent) where
+  abbrev N : ℕ
+  N = lent .image
+
+  abbrev J : ℕ
+  J = lent .journal
+
   length-journal : (j : List ℕ) → length j ≤ J → length (j ++ zeros (J - length j)) ≡ J
   length-journal j h = simp (length-append, length-replicate) (omega arith)
 
   -- such a book is not spoiled
-  pub holds-it : (r : Routine) (j : List ℕ) → Routine-holds r → size r ≤ N → length j ≤ J → held (state-of N J r j) ≡ accepted r
+  pub holds-it : (r : Routine) (j : List ℕ) → Routine-holds r → size r ≤ N → length j ≤ J → held (state-of lent r j) ≡ accepted r
   holds-it r j o h k =
       let n = length-image N r h in
       let m = length-journal j k in
@@ -103,47 +123,74 @@ module _ (N J : ℕ) (small : N ≤ most-lent) (journal-small : J ≤ most-lent)
       })
 
   module _ (m : Machine) (j : List ℕ) (o : Routine-holds (m .now)) (h : size (m .now) ≤ N) (k : length j ≤ J) (l : Linked N (m .now) (m .stack) j) where
-    stays : Sim N J m (state-of N J (m .now) j)
+    abbrev S : State
+    S = state-of lent (m .now) j
+
+    stays : Sim lent m S
     stays = record { j = j; is = refl; room = h; journal-room = k; holds = o; link = l }
 
-    -- an edit whose tests of 11 and 12 gave t and u
-    stored-sim : (e : Edit) (r : Routine) → Sendable (edit e) → Did e (m .now) r → (t u : Bool) → leb (size r) N ≡ t
-        → leb (length j + length (entry e (m .now))) J ≡ u
-        → Agree N J (stored t u e (m .now) r (state-of N J (m .now) j)) (admitted t u (length (entry e (m .now))) r m)
-    unfolding stored admitted
-    stored-sim e r f d false u p q = (refl, stays)
-    stored-sim e r f d true false p q = (refl, stays)
-    stored-sim e r f d true true p q =
+    -- a refusal leaves both as they were
+    both-refuse : (e : ℕ) → Agree lent (refused e, S) (refused e, m)
+    both-refuse e = record { answer = refl; sim = stays }
+
+    -- an edit that was accepted
+    stored-sim : (e : Edit) (r : Routine) → Sendable (edit e) → Did e (m .now) r → size r ≤ N → length j + length (entry e (m .now)) ≤ J
+        → Agree lent (left (holding N r (length j + length (entry e (m .now))) (put (length j) (entry e (m .now)) (j ++ zeros (J - length j)))))
+        (accepted (machine-answers (pushed m r (length (entry e (m .now)))) .0), pushed m r (length (entry e (m .now))))
+    stored-sim e r f d a b =
         let x = entry e (m .now) in
-        let a : size r ≤ N = leb-true _ _ p in
-        let b : length j + length x ≤ J = leb-true _ _ q in
         let c : length (j ++ x) ≡ length j + length x = length-append j x in
         let w : used-by (m .stack) ≡ length j = linked-used N (m .now) (m .stack) j l in
         let n : J - length j - length x ≡ J - length (j ++ x) = omega arith in
         let y : put (length j) x (j ++ zeros (J - length j)) ≡ (j ++ x) ++ zeros (J - length (j ++ x))
-        = put-zeros j x (J - length j) ∙ ap (λ i. (j ++ x) ++ zeros i) n in (
-          ap (λ i. accepted (record { written = size r; used = i + length x })) (sym w),
-          record {
+        = put-zeros j x (J - length j) ∙ ap (λ i. (j ++ x) ++ zeros i) n in
+        record {
+          answer = ap (λ i. accepted (record { written = size r; used = i })) (omega (arith, pushed-used m r (length x), w));
+          sim = record {
             j = j ++ x;
-            is = λ i. record { image = in-image (length-image N (m .now) h i) r; journal = y i; book = record { written = size r; used = sym c i } };
+            is = ap₂ (λ n j. holding N r n j) (sym c) y;
             room = a;
             journal-room = omega arith;
             holds = keeps e (m .now) r f o d (omega arith);
             link = (record { by = e; rest = j; is = refl; costs = refl; did = d; sent = f; holds = o; room = h }, l);
-          },
-        )
+          };
+        }
 
-    edit-sim : (e : Edit) → Sendable (edit e) → (q : Outcome Routine) → edited e (m .now) ≡ q
-        → Agree N J (edit-step e (m .now) (state-of N J (m .now) j) q) (after-edit N J (cost e (m .now)) m q)
-    unfolding edit-step after-edit
-    edit-sim e f (refused n) q = (refl, stays)
-    edit-sim e f (accepted r) q =
-        rw (length-image N (m .now) h, length-journal j k, linked-used N (m .now) (m .stack) j l, ← entry-cost e (m .now))
-        (stored-sim e r f (did e (m .now) r f q) _ _ refl refl)
+    abbrev spent : Edit → ℕ
+    spent e = length j + length (entry e (m .now))
 
-    undo-sim : (ps : Stack) → Linked N (m .now) ps j → Agree N J (undo-step (m .now) (state-of N J (m .now) j)) (after-undo m ps)
-    unfolding undo-step after-undo restored choose
-    undo-sim [] z = rw (eq-eqb (length j) 0 (ap length z)) (refl, stays)
+    -- the machine's sum of costs is the book's
+    spent-is : (e : Edit) → used-by (m .stack) + cost e (m .now) ≡ spent e
+    spent-is e = omega (arith, linked-used N (m .now) (m .stack) j l, entry-cost e (m .now))
+
+    lengths-are : lengths (S .image) (S .journal) ≡ lent
+    lengths-are = ap₂ (λ i k. record { image = i; journal = k }) (length-image N (m .now) h) (length-journal j k)
+
+    held-here : held S ≡ accepted (m .now)
+    held-here = holds-it (m .now) j o h k
+
+    module _ (e : Edit) (f : Sendable (edit e)) where
+      -- an edit that makes r of the routine, by whether it is admitted
+      admit-sim : (r : Routine) → edited e (m .now) ≡ accepted r → (a : Outcome Unit) → admit lent (size r) (spent e) ≡ a
+          → Agree lent (step (edit e) S) (machine-step lent (edit e) m)
+      unfolding machine-step machine-call machine-edit attempt after
+      admit-sim r q (refused n) x =
+          let y : admit (lengths (S .image) (S .journal)) (size r) (spent e) ≡ refused n = ap (λ i. admit i (size r) (spent e)) lengths-are ∙ x in
+          rw (edit-not-admitted S (m .now) held-here e q y, q, spent-is e, x) (both-refuse n)
+      admit-sim r q (accepted t) x =
+          let y : admit (lengths (S .image) (S .journal)) (size r) (spent e) ≡ accepted t = ap (λ i. admit i (size r) (spent e)) lengths-are ∙ x in
+          let w = was-admitted lent (size r) (spent e) x in
+          rw (edit-done S (m .now) held-here e q y, q, spent-is e, x, length-image N (m .now) h, ← entry-cost e (m .now))
+          (stored-sim e r f (did e (m .now) r f q) (w .0) (w .1))
+
+      edit-sim : (q : Outcome Routine) → edited e (m .now) ≡ q → Agree lent (step (edit e) S) (machine-step lent (edit e) m)
+      unfolding machine-step machine-call machine-edit attempt after
+      edit-sim (refused n) q = rw (edit-refused S (m .now) held-here e q, q) (both-refuse n)
+      edit-sim (accepted r) q = admit-sim r q (admit lent (size r) (spent e)) refl
+
+    undo-sim : (ps : Stack) → Linked N (m .now) ps j → Agree lent (step undo S) (attempt m (machine-undo ps))
+    unfolding machine-undo attempt
+    undo-sim [] z = rw (undo-empty S (m .now) held-here (ap length z)) (both-refuse 16)
     undo-sim (p ∷ ps) c =
         let es = c .0 .rest in
         let x = entry (c .0 .by) (p .0) in
@@ -152,37 +199,31 @@ module _ (N J : ℕ) (small : N ≤ most-lent) (journal-small : J ≤ most-lent)
         let u : undone N (m .now) j ≡ accepted (p .0, length x)
         = rw i (leads-back N (c .0 .by) (p .0) (m .now) es small (c .0 .sent) (c .0 .holds) (c .0 .room) h (c .0 .did)) in
         let b : 20 ≤ length x = rw (entry-cost (c .0 .by) (p .0)) (cost-least (c .0 .by) (p .0)) in
-        let z : eqb (length j) 0 ≡ false = ne-eqb (length j) 0 (λ q. omega arith) in
         let t : take (length j) (j ++ zeros (J - length j)) ≡ j = take-append-seam j (zeros (J - length j)) in
+        let v : undone (length (S .image)) (m .now) (take (length j) (j ++ zeros (J - length j))) ≡ accepted (p .0, length x)
+        = ap₂ (λ i j. undone i (m .now) j) (length-image N (m .now) h) t ∙ u in
         let w : length j - length x ≡ length es = omega arith in
         let y : put (length es) (zeros (length x)) (j ++ zeros (J - length j)) ≡ es ++ zeros (J - length es)
         = ap (λ s. put (length es) (zeros (length x)) (s ++ zeros (J - length j))) i ∙ put-back es x (J - length j) (J - length es) (omega arith) in
-        rw (z, length-image N (m .now) h, t, u, w, linked-used N (p .0) ps es (c .1)) (
-          refl,
-          record {
-            j = es;
-            is = λ i. record { image = in-image (length-image N (m .now) h i) (p .0); journal = y i; book = record { written = size (p .0); used = length es } };
-            room = c .0 .room;
-            journal-room = omega arith;
-            holds = c .0 .holds;
-            link = c .1;
-          },
-        )
+        rw (undo-done S (m .now) held-here (omega arith) v, length-image N (m .now) h, w, linked-used N (p .0) ps es (c .1))
+        (record {
+          answer = refl;
+          sim = record { j = es; is = ap (λ j. holding N (p .0) (length es) j) y; room = c .0 .room; journal-room = omega arith; holds = c .0 .holds; link = c .1 };
+        })
 
-  of-sim : (c : Call) (m : Machine) (j : List ℕ) → Sendable c → Routine-holds (m .now) → size (m .now) ≤ N → length j ≤ J → Linked N (m .now) (m .stack) j
-      → Agree N J (step c (state-of N J (m .now) j)) (machine-step N J c m)
-  unfolding step acted machine-step
-  of-sim (edit e) m j f o h k l = rw (holds-it (m .now) j o h k) (edit-sim m j o h k l e f (edited e (m .now)) refl)
-  of-sim undo m j f o h k l = rw (holds-it (m .now) j o h k) (undo-sim m j o h k l (m .stack) l)
+    call-sim : (c : Call) → Sendable c → Agree lent (step c S) (machine-step lent c m)
+    unfolding machine-step machine-call
+    call-sim (edit e) f = edit-sim e f (edited e (m .now)) refl
+    call-sim undo f = undo-sim (m .stack) l
 
-  pub step-sim : (c : Call) (m : Machine) (s : State) → Sendable c → Sim N J m s → Agree N J (step c s) (machine-step N J c m)
-  step-sim c m s f i = rw (i .is) (of-sim c m (i .j) f (i .holds) (i .room) (i .journal-room) (i .link))
+  pub step-sim : (c : Call) (m : Machine) (s : State) → Sendable c → Sim lent m s → Agree lent (step c s) (machine-step lent c m)
+  step-sim c m s f i = rw (i .is) (call-sim m (i .j) (i .holds) (i .room) (i .journal-room) (i .link) c f)
 
-  pub run-sim : (cs : List Call) (m : Machine) (s : State) → Each Sendable cs → Sim N J m s
-      → (run cs s .0 ≡ machine-run N J cs m .0) × Sim N J (machine-run N J cs m .1) (run cs s .1)
+  pub run-sim : (cs : List Call) (m : Machine) (s : State) → Each Sendable cs → Sim lent m s
+      → (run cs s .0 ≡ machine-run lent cs m .0) × Sim lent (machine-run lent cs m .1) (run cs s .1)
   unfolding run machine-run
   run-sim [] m s f i = (refl, i)
   run-sim (c ∷ cs) m s f i =
       let a = step-sim c m s (f .0) i in
-      let b = run-sim cs (machine-step N J c m .1) (step c s .1) (f .1) (a .1) in
-      (ap₂ _∷_ (a .0) (b .0), b .1)
+      let b = run-sim cs (machine-step lent c m .1) (step c s .1) (f .1) (a .sim) in
+      (ap₂ _∷_ (a .answer) (b .0), b .1)

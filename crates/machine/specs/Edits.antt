@@ -1,18 +1,18 @@
--- The edits of a routine: create, remove and append, what each makes of the routine or why it is refused, and what it costs.
+-- The edits of a routine: create, remove and append, what each makes of the routine or why it is refused, what it costs, and the tests for 11 and 12.
 use Prim.Native.Nat.{ℕ, zero, suc, _+_}
 use mathlib.Core.Bool.{Bool}
 use mathlib.Core.List.{List, [], _∷_, _++_}
 use lib.ListN.{length, getD}
-use lib.Dec.{eqb, ltb}
+use lib.Dec.{eqb, leb, ltb}
 use lib.IntN.{pos}
-use Rattle.fields.specs.Refusals.{block-present, no-such-block, leftover}
-use Rattle.fields.specs.Parse.{Res, ok, no}
-use Rattle.fields.specs.Outcome.{Outcome, refused, accepted}
+use Rattle.fields.specs.Refusals.{image-full, journal-full, block-present, no-such-block, leftover}
+use Rattle.fields.specs.Outcome.{Outcome, accepted, _>>=_, _>>_, refuse-if, refuse-unless, what-is-read}
 use Rattle.fields.specs.Lists.{choose, has, last-of, but-last}
 use Rattle.pod.specs.Values.{Instruction, BasicBlock, Routine}
 use Rattle.pod.specs.Blocks.{vips}
-use Rattle.pod.specs.Layout.{instruction, as-it-comes}
-use Rattle.pod.specs.Written.{block-bytes}
+use Rattle.pod.specs.Layout.{instruction}
+use Rattle.pod.specs.Written.{block-bytes, routine-bytes}
+use Rattle.machine.specs.Trailer.{trailer-size}
 
 -- one of the blocks has the vip
 abbrev pub present : ℕ → List BasicBlock → Bool
@@ -81,34 +81,46 @@ with-blocks bs r =
       explored-blocks = bs;
     }
 
+-- the size of a routine's written form
+abbrev pub size : Routine → ℕ
+size r = length (routine-bytes r)
+
 -- create(vip), remove(vip), append(vip, bytes)
 pub data Edit : Type 0 where
   create : ℕ → Edit
   remove : ℕ → Edit
   append : ℕ → List ℕ → Edit
 
--- append: reading refusals, 17, 15
-unfoldable pub appended : ℕ → Routine → List ℕ → Res Instruction → Outcome Routine
-appended v r s (no e) = refused e
-appended v r s (ok i n) =
-    choose (ltb n (length s)) (refused leftover)
-    (choose (present v (r .explored-blocks))
-    (accepted (with-blocks (change-at (place v (r .explored-blocks)) (append-to i) (r .explored-blocks)) r))
-    (refused no-such-block))
-
--- the routine after an edit, or why it is refused
+-- the routine after an edit, or why it is refused. create: 14. remove: 15. append: reading refusals, 17, 15
 unfoldable pub edited : Edit → Routine → Outcome Routine
-edited (create v) r =
-    choose (present v (r .explored-blocks)) (refused block-present)
-    (accepted (with-blocks (r .explored-blocks ++ (empty-block v ∷ [])) r))
-edited (remove v) r =
-    choose (present v (r .explored-blocks))
-    (accepted (with-blocks (remove-at (place v (r .explored-blocks)) (r .explored-blocks)) r))
-    (refused no-such-block)
-edited (append v s) r = appended v r s (instruction as-it-comes s 0)
+edited (create v) r = do
+  refuse-if (present v (r .explored-blocks)) block-present
+  accepted (with-blocks (r .explored-blocks ++ (empty-block v ∷ [])) r)
+edited (remove v) r = do
+  refuse-unless (present v (r .explored-blocks)) no-such-block
+  accepted (with-blocks (remove-at (place v (r .explored-blocks)) (r .explored-blocks)) r)
+edited (append v s) r = do
+  x ← what-is-read (instruction s 0)
+  refuse-if (ltb (x .1) (length s)) leftover
+  refuse-unless (present v (r .explored-blocks)) no-such-block
+  accepted (with-blocks (change-at (place v (r .explored-blocks)) (append-to (x .0)) (r .explored-blocks)) r)
 
--- what an edit costs: 20, and for a removal the removed block's size
+-- what an edit costs: an entry's trailer, and for a removal the removed block's size
 unfoldable pub cost : Edit → Routine → ℕ
-cost (create v) r = 20
-cost (remove v) r = 20 + length (block-bytes (block-at (place v (r .explored-blocks)) (r .explored-blocks)))
-cost (append v s) r = 20
+cost (create v) r = trailer-size
+cost (remove v) r = trailer-size + length (block-bytes (block-at (place v (r .explored-blocks)) (r .explored-blocks)))
+cost (append v s) r = trailer-size
+
+-- the lengths of the lent image and journal
+pub record Lengths : Type 0 where
+  pub image : ℕ
+  pub journal : ℕ
+
+abbrev pub lengths : List ℕ → List ℕ → Lengths
+lengths image journal = record { image = length image; journal = length journal }
+
+-- Edits then check 11, 12: what will be written must fit the image, and what will be used the journal
+unfoldable pub admit : Lengths → ℕ → ℕ → Outcome Unit
+admit lent written used = do
+  refuse-unless (leb written (lent .image)) image-full
+  refuse-unless (leb used (lent .journal)) journal-full

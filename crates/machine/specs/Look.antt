@@ -3,7 +3,7 @@ use Prim.Native.Nat.{ℕ, zero, suc}
 use mathlib.Core.List.{List, [], _∷_}
 use lib.Dec.{eqb}
 use Rattle.fields.specs.Refusals.{no-such-block}
-use Rattle.fields.specs.Outcome.{Outcome, refused, accepted, after}
+use Rattle.fields.specs.Outcome.{Outcome, refused, accepted, _>>=_}
 use Rattle.fields.specs.Lists.{choose}
 use Rattle.pod.specs.Values.{Instruction, RoutineConvention, BasicBlock, Routine}
 use Rattle.pod.specs.declared.RegisterDesc.{RegisterDesc}
@@ -21,25 +21,34 @@ look-routine s = held s
 
 -- a block: its four numbers, and three lists to count
 abbrev pub look-block : ℕ → State → Outcome BasicBlock
-look-block i s = after (held s) (λ r. element i (r .explored-blocks))
+look-block i s = do
+  r ← held s
+  element i (r .explored-blocks)
 
 -- one of a block's instructions
 abbrev pub look-instruction : ℕ → ℕ → State → Outcome Instruction
-look-instruction i j s = after (look-block i s) (λ b. element j (b .instructions))
+look-instruction i j s = do
+  b ← look-block i s
+  element j (b .instructions)
 
 -- a block's list of vips: 0 prev, 1 next
 abbrev pub vip-list : ℕ → BasicBlock → Outcome (List ℕ)
 vip-list k b = choose (eqb k 0) (accepted (b .prev-vip)) (choose (eqb k 1) (accepted (b .next-vip)) (refused no-such-block))
 
 abbrev pub look-vip : ℕ → ℕ → ℕ → State → Outcome ℕ
-look-vip i k j s = after (look-block i s) (λ b. after (vip-list k b) (element j))
+look-vip i k j s = do
+  b ← look-block i s
+  vips ← vip-list k b
+  element j vips
 
 -- convention 0 is the routine's, 1 the subroutine's, then the special ones
 abbrev pub conventions : Routine → List RoutineConvention
 conventions r = r .routine-convention ∷ r .subroutine-convention ∷ r .spec-subroutine-conventions
 
 abbrev pub look-convention : ℕ → State → Outcome RoutineConvention
-look-convention i s = after (held s) (λ r. element i (conventions r))
+look-convention i s = do
+  r ← held s
+  element i (conventions r)
 
 -- a convention's list of registers: 0 volatile, 1 param, 2 retval
 abbrev pub register-list : ℕ → RoutineConvention → Outcome (List RegisterDesc)
@@ -48,4 +57,7 @@ register-list k c =
     (choose (eqb k 1) (accepted (c .param-registers)) (choose (eqb k 2) (accepted (c .retval-registers)) (refused no-such-block)))
 
 abbrev pub look-register : ℕ → ℕ → ℕ → State → Outcome RegisterDesc
-look-register i k j s = after (look-convention i s) (λ c. after (register-list k c) (element j))
+look-register i k j s = do
+  c ← look-convention i s
+  registers ← register-list k c
+  element j registers

@@ -1,15 +1,11 @@
 -- The routine machine: it is fed the file, the calls with their arguments and the lent lengths, never a book.
 use Prim.Native.Nat.{ℕ, _+_, _<_, _^_}
-use mathlib.Core.Bool.{Bool, true, false}
 use mathlib.Core.List.{List, [], _∷_}
-use lib.ListN.{length, getD}
-use lib.Dec.{leb}
-use Rattle.fields.specs.Refusals.{image-full, journal-full, nothing-to-take-back}
+use Rattle.fields.specs.Refusals.{nothing-to-take-back}
 use Rattle.fields.specs.Bytes.{Bytes}
-use Rattle.fields.specs.Outcome.{Outcome, refused, accepted}
+use Rattle.fields.specs.Outcome.{Outcome, refused, accepted, _>>=_, _>>_, attempt}
 use Rattle.pod.specs.Values.{Routine}
-use Rattle.pod.specs.Written.{routine-bytes}
-use Rattle.machine.specs.Edits.{Edit, create, remove, append, edited, cost}
+use Rattle.machine.specs.Edits.{size, Edit, create, remove, append, edited, cost, Lengths, admit}
 
 -- the calls of demand 3's lists: the edits, and undo, which is document 01's take back
 pub data Call : Type 0 where
@@ -23,15 +19,15 @@ Sendable (edit (remove v)) = v < 2 ^ 64
 Sendable (edit (append v s)) = (v < 2 ^ 64) × Bytes s
 Sendable undo = Unit
 
--- what a call answers when it is accepted: the new written length, and the journal bytes used. It is also all that a book holds
-pub record Book : Type 0 where
+-- what an accepted call answers: the new written length, and the journal bytes used
+pub record Reply : Type 0 where
   pub written : ℕ
   pub used : ℕ
 
 abbrev pub Answer : Type 0
-Answer = Outcome Book
+Answer = Outcome Reply
 
--- earlier routines, the last one first, each with the cost of the edit that it was before
+-- the undo stack, document 01's pile: earlier routines, the last one first, each with the cost of the edit that it was before
 abbrev pub Stack : Type 0
 Stack = List (Routine × ℕ)
 
@@ -48,37 +44,32 @@ pub record Machine : Type 0 where
 abbrev pub start : Routine → Machine
 start r = record { now = r; stack = [] }
 
--- the size of a routine's written form
-abbrev pub size : Routine → ℕ
-size r = length (routine-bytes r)
+-- a machine, and what a call that leaves it answers
+abbrev pub machine-answers : Machine → Reply × Machine
+machine-answers m = (record { written = size (m .now); used = used-by (m .stack) }, m)
 
--- edits then check 11, 12: here by the two tests, that the new routine fits the image and the cost the journal
-unfoldable pub admitted : Bool → Bool → ℕ → Routine → Machine → Answer × Machine
-admitted false j k r m = (refused image-full, m)
-admitted true false k r m = (refused journal-full, m)
-admitted true true k r m =
-    (accepted (record { written = size r; used = used-by (m .stack) + k }), record { now = r; stack = (m .now, k) ∷ m .stack })
+-- an edit: its own refusals, then 11 and 12; the old routine goes onto the stack, with the edit's cost
+unfoldable pub machine-edit : Lengths → Edit → Machine → Outcome (Reply × Machine)
+machine-edit lent e m = do
+  r ← edited e (m .now)
+  admit lent (size r) (used-by (m .stack) + cost e (m .now))
+  accepted (machine-answers (record { now = r; stack = (m .now, cost e (m .now)) ∷ m .stack }))
 
--- image-length and journal-length are the lent lengths; k is the edit's cost
-unfoldable pub after-edit : ℕ → ℕ → ℕ → Machine → Outcome Routine → Answer × Machine
-after-edit image-length journal-length k m (refused e) = (refused e, m)
-after-edit image-length journal-length k m (accepted r) =
-    admitted (leb (size r) image-length) (leb (used-by (m .stack) + k) journal-length) k r m
+-- take back: 16 on an empty stack; else the top routine returns and leaves the stack
+unfoldable pub machine-undo : Stack → Outcome (Reply × Machine)
+machine-undo [] = refused nothing-to-take-back
+machine-undo (p ∷ ps) = accepted (machine-answers (record { now = p .0; stack = ps }))
 
--- take back: the top routine returns and leaves the stack
-unfoldable pub after-undo : Machine → Stack → Answer × Machine
-after-undo m [] = (refused nothing-to-take-back, m)
-after-undo m (p ∷ ps) = (accepted (record { written = size (p .0); used = used-by ps }), record { now = p .0; stack = ps })
+unfoldable pub machine-call : Lengths → Call → Machine → Outcome (Reply × Machine)
+machine-call lent (edit e) m = machine-edit lent e m
+machine-call lent undo m = machine-undo (m .stack)
 
-unfoldable pub machine-step : ℕ → ℕ → Call → Machine → Answer × Machine
-machine-step image-length journal-length (edit e) m = after-edit image-length journal-length (cost e (m .now)) m (edited e (m .now))
-machine-step image-length journal-length undo m = after-undo m (m .stack)
+-- one call, given the lent lengths: the answer, and the machine after it
+unfoldable pub machine-step : Lengths → Call → Machine → Answer × Machine
+machine-step lent c m = attempt m (machine-call lent c m)
 
 -- every call of a list in turn: the answers, and the machine after it
-unfoldable pub machine-run : ℕ → ℕ → List Call → Machine → List Answer × Machine
-machine-run image-length journal-length [] m = ([], m)
-machine-run image-length journal-length (c ∷ cs) m = (
-  machine-step image-length journal-length c m .0
-      ∷ machine-run image-length journal-length cs (machine-step image-length journal-length c m .1) .0,
-  machine-run image-length journal-length cs (machine-step image-length journal-length c m .1) .1,
-)
+unfoldable pub machine-run : Lengths → List Call → Machine → List Answer × Machine
+machine-run lent [] m = ([], m)
+machine-run lent (c ∷ cs) m =
+    (machine-step lent c m .0 ∷ machine-run lent cs (machine-step lent c m .1) .0, machine-run lent cs (machine-step lent c m .1) .1)

@@ -3,9 +3,9 @@ use Prim.Native.Nat.{_≤_}
 use mathlib.Core.Path.{_≡_}
 use lib.ListN.{length}
 use Rattle.pod.specs.Values.{Routine}
-use Rattle.pod.specs.Descs.{most-lent}
+use Rattle.fields.specs.Bytes.{most-lent}
 use Rattle.laws.specs.Holds.{Routine-holds}
-use Rattle.machine.specs.Machine.{size}
+use Rattle.machine.specs.Edits.{size}
 use Rattle.machine.specs.Book.{State, in-image}
 
 pub record Sound (s : State) (r : Routine) : Type 0 where

@@ -14,7 +14,7 @@ use Rattle.pod.specs.Written.{bit}
 use Rattle.laws.specs.Moved.{moved}
 use Rattle.laws.specs.Normal.{Role, keep, flag, normal, normalise, keeps, last-flag}
 use Rattle.laws.proofs.At.{Spans, fits}
-use Rattle.laws.proofs.Took.{Took, took-to}
+use Rattle.laws.proofs.Took.{Took, normal-kept, took-to}
 use Rattle.laws.proofs.Local.{Local}
 use Rattle.laws.proofs.Layouts.{Layout, read-to}
 use Rattle.laws.specs.At.{At}
@@ -57,13 +57,6 @@ _beside_ {s} {t} {u} {o} {m} {n} {a} {b} h k =
     }
 
 -- of several roles one may change its byte
-normal-kept : (j : ℕ) (f : List ℕ) → length f ≡ j → normalise (keeps j) f ≡ f
-unfolding normalise
-normal-kept zero [] e = refl
-normal-kept zero (x ∷ f) e = absurd (omega arith)
-normal-kept (suc j) [] e = absurd (omega arith)
-normal-kept (suc j) (x ∷ f) e = ap (λ r. x ∷ r) (normal-kept j f (omega arith))
-
 normal-one : (m : Role) (i j : ℕ) (f : List ℕ) → length f ≡ i + suc j → normalise (keeps i ++ (m ∷ keeps j)) f ≡ set f i (normal m (getD f i 0))
 unfolding normalise
 normal-one m zero j [] e = absurd (omega arith)
@@ -82,7 +75,7 @@ set-part {s} {o} {f} h i v l =
     ∙ ap₂ (λ (x y : List ℕ). x ++ y) (take-set-le o s (o + i) v (omega arith)) (drop-set-add o s i v ∙ e ∙ ap (λ (x : List ℕ). set f i v ++ x) (sym d))
 
 -- the one byte whose role is not `keep`
-pub changed : {s : List ℕ} {o n : ℕ} {l : List ℕ} (m : Role) (i j : ℕ) {t : List ℕ} → Took false s o (keeps i ++ (m ∷ keeps j)) l n
+pub changed : {s : List ℕ} {o n : ℕ} {l : List ℕ} (m : Role) (i j : ℕ) {t : List ℕ} → Took s o (keeps i ++ (m ∷ keeps j)) l n
     → t ≡ set s (o + i) (normal m (getD s (o + i) 0)) → Over s o l n t
 changed {s} {o} {n} {l} m i j {t} k e =
     let f : List ℕ = k .found in
@@ -107,14 +100,14 @@ byte-is-bit true = refl
 byte-is-bit false = refl
 
 -- a value whose last byte is a flag, the others kept
-pub flagged : {A : Type 0} {p : Bool → Reader A} {H : A → Type 0} {m : A → List Role} {w : A → List ℕ} (k : Layout p H m w)
+pub flagged : {A : Type 0} {p : Reader A} {H : A → Type 0} {m : A → List Role} {w : A → List ℕ} (k : Layout p H m w)
     → ((a : A) → m a ≡ last-flag (w a)) → ((a : A) → 0 < length (w a))
-    → {s : List ℕ} → Bytes s → {o r : ℕ} {a : A} {n : ℕ} {t : List ℕ} → p false s o ≡ ok a n → r ≡ n
+    → {s : List ℕ} → Bytes s → {o r : ℕ} {a : A} {n : ℕ} {t : List ℕ} → p s o ≡ ok a n → r ≡ n
     → (0 < r → r ≤ length s → t ≡ set s (r - 1) (normal flag (getD s (r - 1) 0))) → Over s o (w a) n t
 unfolding last-flag
 flagged {m} {w} k q z {s} b {o} {r} {a} {n} {t} e g f =
-    let u : Took false s o (keeps (length (w a) - 1) ++ (flag ∷ [])) (w a) n = rw (q a) at (k .made false b o .when a n e .1) in
-    let v : n ≡ o + length (w a) = read-to k false b e in
+    let u : Took s o (keeps (length (w a) - 1) ++ (flag ∷ [])) (w a) n = rw (q a) at (k .made b o .when a n e .1) in
+    let v : n ≡ o + length (w a) = read-to k b e in
     let i : n ≤ length s = omega (arith, u .stands .to, fits (u .stands .at)) in
     let x : r - 1 ≡ o + (length (w a) - 1) = omega (arith, z a) in
     changed flag (length (w a) - 1) 0 u (rw (← x) (f (omega (arith, z a)) (omega arith)))

@@ -3,8 +3,7 @@
 -- Assumes nothing.
 use mathlib.Core.Path.{_≡_, refl, ap, _∙_}
 use mathlib.Core.List.{List, _++_, append-assoc}
-use mathlib.Core.Bool.{false}
-use Prim.Native.Nat.{ℕ, _+_, _-_, _≤_, _<_}
+use Prim.Native.Nat.{ℕ, _-_, _≤_, _<_}
 use native.Mathlib.Omega.{arith}
 use lib.ListN.{length, getD, set}
 use mir.Syntax.{w64}
@@ -38,11 +37,11 @@ record Block-parts (s : List ℕ) (o : ℕ) (b : BasicBlock) (n : ℕ) : Type 0 
   pub e : ℕ
   pub p : ℕ
   pub head : Spans s o (block-head-bytes b) i
-  pub instructions : counted (instruction false) s i ≡ ok (b .instructions) e
+  pub instructions : counted instruction s i ≡ ok (b .instructions) e
   pub prev : counted u64 s e ≡ ok (b .prev-vip) p
   pub next : counted u64 s p ≡ ok (b .next-vip) n
 
-block-parts : {s : List ℕ} → Bytes s → (o : ℕ) → Post (block false s o) (Block-parts s o)
+block-parts : {s : List ℕ} → Bytes s → (o : ℕ) → Post (block s o) (Block-parts s o)
 unfolding block block-head-bytes
 block-parts b o =
     step _ (uint-took b o 8) λ vip n₁ u₁.
@@ -59,8 +58,8 @@ vips-stand : {s : List ℕ} → Bytes s → {o n : ℕ} {xs : List ℕ} → coun
 vips-stand b {o} {n} {xs} e = counted-spans u64 (bytes 8) (λ i. uint-took b i 8) b o .when xs n e .1
 
 pub block-normal : {s : List ℕ} → Bytes s → (o : ℕ) {i e p r : ℕ} {t : List ℕ} → i ≡ jump s o 24
-    → Normalised (counted (instruction false)) (counted-bytes instruction-bytes) s i e t → p ≡ vipsEnd t e → r ≡ vipsEnd t p
-    → Normalised (block false) block-bytes s o r t
+    → Normalised (counted instruction) (counted-bytes instruction-bytes) s i e t → p ≡ vipsEnd t e → r ≡ vipsEnd t p
+    → Normalised block block-bytes s o r t
 unfolding block-bytes
 block-normal {s} b o {i} {e} {p} {r} {t} hi hn hp hr = record { when = λ x n q. go x n (block-parts b o .when x n q) }
   where
@@ -92,14 +91,14 @@ record Routine-parts (s : List ℕ) (r : Routine) (n : ℕ) : Type 0 where
   pub a : ℕ
   pub d : ℕ
   pub e : ℕ
-  pub head : header false s 0 ≡ ok (r .arch-id) h
+  pub head : header s 0 ≡ ok (r .arch-id) h
   pub entry : Spans s h (bytes 8 (r .vip)) k
-  pub own : convention false s k ≡ ok (r .routine-convention) a
-  pub sub : convention false s a ≡ ok (r .subroutine-convention) d
-  pub special : counted (convention false) s d ≡ ok (r .spec-subroutine-conventions) e
-  pub listed : counted (block false) s e ≡ ok (r .explored-blocks) n
+  pub own : convention s k ≡ ok (r .routine-convention) a
+  pub sub : convention s a ≡ ok (r .subroutine-convention) d
+  pub special : counted convention s d ≡ ok (r .spec-subroutine-conventions) e
+  pub listed : counted block s e ≡ ok (r .explored-blocks) n
 
-routine-parts : {s : List ℕ} → Bytes s → Post (routine false s 0) (Routine-parts s)
+routine-parts : {s : List ℕ} → Bytes s → Post (routine s 0) (Routine-parts s)
 unfolding routine blocks
 routine-parts {s} b =
     step _ read λ machine n₁ u₁.
@@ -110,43 +109,43 @@ routine-parts {s} b =
     step _ (listed n₅) λ bs n₆ u₆.
     give (record { h = n₁; k = n₂; a = n₃; d = n₄; e = n₅; head = u₁; entry = u₂ .1; own = u₃; sub = u₄; special = u₅; listed = u₆ })
   where
-    listed : (o : ℕ) → Post (blocks false s o) (λ bs n. counted (block false) s o ≡ ok bs n)
+    listed : (o : ℕ) → Post (blocks s o) (λ bs n. counted block s o ≡ ok bs n)
     listed o = step _ read λ bs n u. test _ _ _ _ λ t. give u
 
 regroup : (a b c d e f : List ℕ) → ((((a ++ b) ++ c) ++ d) ++ e) ++ f ≡ (a ++ (b ++ (c ++ (d ++ e)))) ++ f
 regroup a b c d e f = simp append-assoc
 
 pub routine-normal : {s t₀ t₁ t₂ t₃ t₄ : List ℕ} {a d e n : ℕ} → Bytes s → t₀ ≡ set s 5 0
-    → Normalised (convention false) convention-bytes t₀ 16 a t₁ → Normalised (convention false) convention-bytes t₁ a d t₂
-    → Normalised (counted (convention false)) (counted-bytes convention-bytes) t₂ d e t₃
-    → Normalised (counted (block false)) (counted-bytes block-bytes) t₃ e n t₄ → Normalised (routine false) routine-bytes s 0 n t₄
+    → Normalised convention convention-bytes t₀ 16 a t₁ → Normalised convention convention-bytes t₁ a d t₂
+    → Normalised (counted convention) (counted-bytes convention-bytes) t₂ d e t₃
+    → Normalised (counted block) (counted-bytes block-bytes) t₃ e n t₄ → Normalised routine routine-bytes s 0 n t₄
 unfolding routine-bytes routine-head-bytes header-roles
 routine-normal {s} {t₀} {t₄} {n} b z f₁ f₂ f₃ f₄ = record { when = λ x m q. go x m (routine-parts b .when x m q) }
   where
     go : (x : Routine) (m : ℕ) → Routine-parts s x m → (n ≡ m) × Over s 0 (routine-bytes x) m t₄
     go x m k =
-        let x₀ : Over s 0 (header-bytes (x .arch-id)) (k .h) t₀ = changed pad 5 2 (header-took false b 0 .when (x .arch-id) (k .h) (k .head) .1) z in
+        let x₀ : Over s 0 (header-bytes (x .arch-id)) (k .h) t₀ = changed pad 5 2 (header-took b 0 .when (x .arch-id) (k .h) (k .head) .1) z in
         let x₁ = x₀ beside stays (still x₀ (omega arith) (k .entry)) in
         let c : 16 ≡ k .k = omega (arith, x₀ .to, k .entry .to, header-size (x .arch-id), length-bytes 8 (x .vip)) in
-        let x₂ = extend (local-convention false) x₁ c f₁ (k .own) in
-        let x₃ = extend (local-convention false) (x₂ .1) (x₂ .0) f₂ (k .sub) in
-        let x₄ = extend (local-counted (convention false) (local-convention false)) (x₃ .1) (x₃ .0) f₃ (k .special) in
-        let x₅ = extend (local-counted (block false) (local-block false)) (x₄ .1) (x₄ .0) f₄ (k .listed) in
+        let x₂ = extend local-convention x₁ c f₁ (k .own) in
+        let x₃ = extend local-convention (x₂ .1) (x₂ .0) f₂ (k .sub) in
+        let x₄ = extend (local-counted convention local-convention) (x₃ .1) (x₃ .0) f₃ (k .special) in
+        let x₅ = extend (local-counted block local-block) (x₄ .1) (x₄ .0) f₄ (k .listed) in
         (x₅ .0, rw (regroup _ _ _ _ _ _) at (x₅ .1))
 
 -- no routine is so short that it has no pad
-pub too-short : {s : List ℕ} → Bytes s → length s ≤ 5 → {r : ℕ} {t : List ℕ} → Normalised (routine false) routine-bytes s 0 r t
-too-short b h = record { when = λ x n q. absurd (omega (arith, read-to routine-layout false b q, read-within routine-layout false b q, routine-least x)) }
+pub too-short : {s : List ℕ} → Bytes s → length s ≤ 5 → {r : ℕ} {t : List ℕ} → Normalised routine routine-bytes s 0 r t
+too-short b h = record { when = λ x n q. absurd (omega (arith, read-to routine-layout b q, read-within routine-layout b q, routine-least x)) }
 
 -- the layouts that end in a flag
 pub instruction-normal : {s : List ℕ} → Bytes s → (o : ℕ) {r : ℕ} {t : List ℕ} → r ≡ instructionEnd s o
-    → (0 < r → r ≤ length s → t ≡ set s (r - 1) (normal flag (getD s (r - 1) 0))) → Normalised (instruction false) instruction-bytes s o r t
+    → (0 < r → r ≤ length s → t ≡ set s (r - 1) (normal flag (getD s (r - 1) 0))) → Normalised instruction instruction-bytes s o r t
 unfolding instruction-roles
 instruction-normal {s} b o z f =
-    record { when = λ x n q. let e = z ∙ instruction-ends s false o q in (e, flagged instruction-layout (λ i. refl) (λ i. omega (arith, instruction-size i)) b q e f) }
+    record { when = λ x n q. let e = z ∙ instruction-ends s o q in (e, flagged instruction-layout (λ i. refl) (λ i. omega (arith, instruction-size i)) b q e f) }
 
 pub convention-normal : {s : List ℕ} → Bytes s → (o : ℕ) {r : ℕ} {t : List ℕ} → r ≡ conventionEnd s o
-    → (0 < r → r ≤ length s → t ≡ set s (r - 1) (normal flag (getD s (r - 1) 0))) → Normalised (convention false) convention-bytes s o r t
+    → (0 < r → r ≤ length s → t ≡ set s (r - 1) (normal flag (getD s (r - 1) 0))) → Normalised convention convention-bytes s o r t
 unfolding convention-roles
 convention-normal {s} b o z f =
-    record { when = λ x n q. let e = z ∙ convention-ends s false o q in (e, flagged convention-layout (λ i. refl) (λ i. omega (arith, convention-size i)) b q e f) }
+    record { when = λ x n q. let e = z ∙ convention-ends s o q in (e, flagged convention-layout (λ i. refl) (λ i. omega (arith, convention-size i)) b q e f) }

@@ -1,19 +1,21 @@
--- A name of at most 6 bytes as one number: its bytes from the lowest up, and its length in the seventh.
+-- The table of the fast lookup. A name of at most 6 bytes is one number: its bytes from the lowest up, and its length in the seventh.
 use Prim.Native.Nat.{ℕ, _+_, _*_, _/_, _%_, _^_, _<_, _≤_}
 use mathlib.Core.Path.{_≡_}
 use mathlib.Core.List.{List, []}
 use lib.ListN.{length, getD}
 use Rattle.fields.specs.Parse.{le}
 use Rattle.op.specs.Ops.{names, counts, number}
+use Rattle.op.specs.declared.Slot.{Slot}
 
 unfoldable pub key : List ℕ → ℕ
 key w = le (length w) w 0 + 2 ^ 48 * length w
 
--- the number of a listed name, and in the eighth byte the operand count and four times the operation's number
-pub record Packed (r : ℕ) : Type 0 where
+-- the key and the code of a listed operation
+pub record Packed (r : Slot) : Type 0 where
   pub op : ℕ
   pub listed : op < 49
-  pub is : r ≡ key (getD names op []) + 2 ^ 56 * (getD counts op 0 + 4 * op)
+  pub key-is : r .key ≡ key (getD names op [])
+  pub code-is : r .code ≡ getD counts op 0 + 4 * op
 
 -- w, of n bytes, is the name of operation r / 4, which takes r % 4 operands
 pub record Known (w : List ℕ) (n r : ℕ) : Type 0 where

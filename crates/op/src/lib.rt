@@ -6,7 +6,7 @@ ghost use lib.ListN.{length, getD, take, drop};
 ghost use Rattle.fields.specs.Lists.{same};
 ghost use Rattle.op.specs.Packed.{Packed, Known};
 ghost use Rattle.op.specs.Ops.{names, counts, number};
-ghost use Rattle.op.specs.Text.{lead, step, is-text};
+ghost use Rattle.op.specs.Text.{lead, next-state, is-text};
 
 // Six bytes for each name, with zeros after it.
 const NAMES: [u8; 294] = *b"mov\0\0\0movsx\0str\0\0\0ldd\0\0\0neg\0\0\0add\0\0\0sub\0\0\0\
@@ -177,13 +177,19 @@ pub fn number_of(w: &[u8]) -> usize
     49
 }
 
-// An operation's name as a number, its bytes from the lowest up and its length in the seventh, and in the eighth its operand count and four times its number:
-// that of the operation whose name may have the seven bits `h`. A `match`, since an array would be built anew at each call; with five arms for bits that
-// no name has, since LLVM makes a table of a `match` only where at least 40 in 100 have an arm.
-fn packed_name(h: u64) -> u64
+// An operation of the table. The key is its name as one number, the bytes from the lowest up and the length in the seventh; the code is its operand
+// count and four times its number.
+struct Slot {
+    key: u64,
+    code: u64,
+}
+
+// The operation whose name may have the seven bits `h`. An entry is its key, and in the eighth byte its code. A `match`, since an array would be built
+// anew at each call; with five arms for bits that no name has, since LLVM makes a table of a `match` only where at least 40 in 100 have an arm.
+fn slot_of(h: u64) -> Slot
     ensures { λ r. ⌜ Packed r ⌝ }
 {
-    match h {
+    let e = match h {
         0 => 0x7703_0000_0065_6e74,
         1 => 0x6603_0000_006c_6f72,
         2 => 0x7f03_0000_0065_6c74,
@@ -239,6 +245,10 @@ fn packed_name(h: u64) -> u64
         5 => 0x605_0078_7376_6f6d,
         6 => 0x605_0078_7376_6f6d,
         _ => 0x203_0000_0076_6f6d,
+    };
+    Slot {
+        key: e % 0x100_0000_0000_0000,
+        code: e / 0x100_0000_0000_0000,
     }
 }
 
@@ -271,80 +281,78 @@ pub fn fast_lookup(s: &[u8], at: usize, n: usize) -> u64
     }
     let v = low(fields::eight(s, at), n) + 0x1_0000_0000_0000 * (n as u64);
     let f = v % 0x1_0000_0000 + v / 0x1_0000_0000;
-    let e = packed_name(f * 258492 / 0x10_0000 % 128);
-    if e % 0x100_0000_0000_0000 == v {
-        e / 0x100_0000_0000_0000
-    } else {
-        256
-    }
+    let hash = f * 258492 / 0x10_0000 % 128;
+    let found = slot_of(hash);
+    if found.key == v { found.code } else { 256 }
 }
 
-// What a first byte asks of those after it: how many they are, and the range of the next. With 4 it starts no sequence.
-pub struct Due {
+// A place in a text: how many bytes the sequence begun there still has, and the range of the next. With 4 there is no such sequence.
+pub struct Utf8State {
     pub more: u8,
     pub low: u8,
     pub high: u8,
 }
 
-fn lead_of(b: u8) -> Due
+// The state after the first byte of a sequence.
+fn lead_of(b: u8) -> Utf8State
     ensures { λ r. ⌜ r ≡ lead b ⌝ }
 {
     if b <= 0x7f {
-        Due {
+        Utf8State {
             more: 0,
             low: 0x80,
             high: 0xbf,
         }
     } else if b < 0xc2 {
-        Due {
+        Utf8State {
             more: 4,
             low: 0x80,
             high: 0xbf,
         }
     } else if b <= 0xdf {
-        Due {
+        Utf8State {
             more: 1,
             low: 0x80,
             high: 0xbf,
         }
     } else if b == 0xe0 {
-        Due {
+        Utf8State {
             more: 2,
             low: 0xa0,
             high: 0xbf,
         }
     } else if b == 0xed {
-        Due {
+        Utf8State {
             more: 2,
             low: 0x80,
             high: 0x9f,
         }
     } else if b <= 0xef {
-        Due {
+        Utf8State {
             more: 2,
             low: 0x80,
             high: 0xbf,
         }
     } else if b == 0xf0 {
-        Due {
+        Utf8State {
             more: 3,
             low: 0x90,
             high: 0xbf,
         }
     } else if b <= 0xf3 {
-        Due {
+        Utf8State {
             more: 3,
             low: 0x80,
             high: 0xbf,
         }
     } else if b == 0xf4 {
-        Due {
+        Utf8State {
             more: 3,
             low: 0x80,
             high: 0x8f,
         }
     } else {
-        Due {
+        Utf8State {
             more: 4,
             low: 0x80,
             high: 0xbf,
@@ -352,28 +360,29 @@ fn lead_of(b: u8) -> Due
     }
 }
 
-fn step_of(d: Due, b: u8) -> Due
-    ensures { λ r. ⌜ r ≡ step d b ⌝ }
+// The state after one byte more.
+fn next_state(d: Utf8State, b: u8) -> Utf8State
+    ensures { λ r. ⌜ r ≡ next-state d b ⌝ }
 {
     if d.more == 0 {
         return lead_of(b);
     }
     if d.low <= b {
         if b <= d.high {
-            Due {
+            Utf8State {
                 more: d.more - 1,
                 low: 0x80,
                 high: 0xbf,
             }
         } else {
-            Due {
+            Utf8State {
                 more: 4,
                 low: 0x80,
                 high: 0xbf,
             }
         }
     } else {
-        Due {
+        Utf8State {
             more: 4,
             low: 0x80,
             high: 0xbf,
@@ -385,14 +394,14 @@ fn step_of(d: Due, b: u8) -> Due
 pub fn is_text(s: &[u8]) -> bool
     ensures { λ r. ⌜ r ≡ is-text (now (s .entry)) ⌝ }
 {
-    let mut d = Due {
+    let mut d = Utf8State {
         more: 0,
         low: 0x80,
         high: 0xbf,
     };
     let mut i = 0;
     while i < s.len() {
-        d = step_of(d, s[i]);
+        d = next_state(d, s[i]);
         if 3 < d.more {
             return false;
         }

@@ -13,7 +13,7 @@ use Rattle.fields.specs.Parse.{ok, no, Reader, bind, _>>=_, done, le, uint, par
 use Rattle.fields.proofs.Le.{uint-ok, uint-is}
 use Rattle.fields.proofs.Invert.{inv}
 use Rattle.fields.specs.Lists.{choose}
-use Rattle.opening.proofs.Every.{Kept}
+use Rattle.laws.proofs.Every.{Kept}
 
 -- the first n bytes of s begin s′ too
 pub record Begin (s s′ : List ℕ) (n : ℕ) : Type 0 where
@@ -47,8 +47,8 @@ front-then p f h k =
 front-gives : {A : Type 0} (a : A) → Front (done a)
 front-gives a = record { onward = λ s o {a = c} {n} e. let z : o ≡ n = cc in (omega arith, λ l. omega arith); again = λ s s′ o l e b. e }
 
-front-refuses : {A : Type 0} (e : ℕ) → 0 < e → Front {A = A} (λ s o. no e)
-front-refuses e h = record { onward = λ s o q. let z : _≡_ {A = ℕ} 0 1 = cc in absurd (omega arith); again = λ s s′ o l q b. q }
+front-refuses : {A : Type 0} (e : ℕ) → Front {A = A} (λ s o. no e)
+front-refuses e = record { onward = λ s o q. let z : _≡_ {A = ℕ} 0 1 = cc in absurd (omega arith); again = λ s s′ o l q b. q }
 
 front-either : {A : Type 0} (t : Bool) (p q : Reader A) → Front p → Front q → Front (λ s o. choose t (p s o) (q s o))
 unfolding choose
@@ -98,5 +98,5 @@ front-bytes k =
           rw (le-leb (o + k) (length s′) f, g) (ap (ok a) (sym (i .1)));
     }
 
-pub front : Kept (λ A p. Front p)
-front = record { then = front-then; gives = front-gives; refuses = front-refuses; either = front-either; number = front-number; bytes = front-bytes }
+pub front : Kept (λ e. Unit) (λ A p. Front p)
+front = record { then = front-then; gives = front-gives; refuses = λ e h. front-refuses e; either = front-either; number = front-number; bytes = front-bytes }

@@ -1,4 +1,2 @@
-pub mod Every
 pub mod Front
-pub mod Told
 pub mod Openings

@@ -34,7 +34,15 @@ module _ (s : List ℕ) (o : ℕ) (b : Bytes s) (h : o + 28 ≤ length s) where
   fast-register e l =
       let i : o + 19 ≡ o + 4 + 8 + 7 = omega arith in
       let t : le 8 s (o + 4 + 8) / 2 ^ 56 ≤ 2 = rw (top s (o + 4 + 8) b, ← i) l in
-      rw (uint-ok 4 s o (omega arith), ← e, uint-ok 8 s (o + 4) (omega arith), uint-ok 8 s (o + 4 + 8) (omega arith), le-leb _ _ t, uint-ok 4 s (o + 4 + 8 + 8) (omega arith), uint-ok 4 s (o + 4 + 8 + 8 + 4) (omega arith))
+      rw (
+        uint-ok 4 s o (omega arith),
+        ← e,
+        uint-ok 8 s (o + 4) (omega arith),
+        uint-ok 8 s (o + 4 + 8) (omega arith),
+        le-leb _ _ t,
+        uint-ok 4 s (o + 4 + 8 + 8) (omega arith),
+        uint-ok 4 s (o + 4 + 8 + 8 + 4) (omega arith),
+      )
       (ap (λ n. ok tt n) (omega arith))
 
   pub fast : (k t : ℕ) → k ≡ le 4 s o → t ≡ getD s (o + 19) 0 → k ≤ 1 → k * t ≤ 2 → span (operand s o) ≡ ok tt (o + 16 + 12 * k)

@@ -4,9 +4,10 @@ use mathlib.Core.List.{List, [], _∷_, _++_, map}
 use mathlib.Core.Bool.{Bool, not, _&&_}
 use lib.IntN.{pos}
 use lib.ListN.{length, getD, take, drop}
-use lib.Dec.{eqb, ltb}
+use lib.Dec.{eqb, leb, ltb}
+use Rattle.fields.specs.Bytes.{most-lent}
 use Rattle.fields.specs.Refusals.{lending-too-large, unknown-operation, wrong-operand-count, foreign-register, unknown-operand-kind, image-full}
-use Rattle.fields.specs.Outcome.{Outcome, refused, accepted}
+use Rattle.fields.specs.Outcome.{Outcome, accepted, _>>=_, _>>_, refuse-if, refuse-unless, attempt}
 use Rattle.fields.specs.Lists.{choose, any}
 use Rattle.op.specs.Ops.{counts}
 use Rattle.pod.specs.Values.{Instruction}
@@ -77,22 +78,23 @@ desc-instruction d =
       sp-reset = not (eqb (d .«sp_reset») 0);
     }
 
--- image and journal are at most this long
-abbrev pub most-lent : ℕ
-most-lent = 16777216
-
 -- what is written of an instruction value into an image of n bytes: 10, 7, 8, 5, 6, then 11
 unfoldable pub writing : ℕ → InstructionDesc → Outcome (List ℕ)
-writing n d =
-    choose (ltb most-lent n) (refused lending-too-large)
-    (choose (ltb 48 (d .op)) (refused unknown-operation)
-    (choose (not (eqb (d .count) (getD counts (d .op) 0))) (refused wrong-operand-count)
-    (choose (any is-foreign (used-operands d)) (refused foreign-register)
-    (choose (any is-unknown (used-operands d)) (refused unknown-operand-kind)
-    (choose (ltb n (length (instruction-bytes (desc-instruction d)))) (refused image-full)
-    (accepted (instruction-bytes (desc-instruction d))))))))
+writing n d = do
+  refuse-unless (leb n most-lent) lending-too-large
+  refuse-if (ltb 48 (d .op)) unknown-operation
+  refuse-unless (eqb (d .count) (getD counts (d .op) 0)) wrong-operand-count
+  refuse-if (any is-foreign (used-operands d)) foreign-register
+  refuse-if (any is-unknown (used-operands d)) unknown-operand-kind
+  refuse-unless (leb (length (instruction-bytes (desc-instruction d))) n) image-full
+  accepted (instruction-bytes (desc-instruction d))
 
--- the image after it: the bytes at its start, and no byte after them touched
-unfoldable pub written-over : List ℕ → Outcome (List ℕ) → List ℕ
-written-over image (accepted b) = b ++ drop (length b) image
-written-over image (refused e) = image
+-- some bytes go to the image's start, and no byte after them is touched; the answer is their size
+unfoldable pub written-to : List ℕ → Outcome (List ℕ) → Outcome ℕ × List ℕ
+written-to image bytes = attempt image (do
+  b ← bytes
+  accepted (length b, b ++ drop (length b) image))
+
+-- the writer of an instruction value: its answer, and the image after it
+abbrev pub write-instruction : List ℕ → InstructionDesc → Outcome ℕ × List ℕ
+write-instruction image d = written-to image (writing (length image) d)

@@ -1,8 +1,7 @@
--- The layouts: every field in the order in which it is read, and the refusal that is given where it fails. `exact` is false where a file is
--- read as it comes, and true where only the written form of the pad and of the flags is taken.
+-- The layouts: every field in the order in which it is read, and the refusal that is given where it fails.
 use Prim.Native.Nat.{ℕ, _/_, _^_}
 use mathlib.Core.List.{List}
-use mathlib.Core.Bool.{Bool, true, false, not}
+use mathlib.Core.Bool.{not}
 use lib.Dec.{leb, ltb, eqb}
 use lib.ListN.{getD}
 use Rattle.fields.specs.Refusals.{name-not-text, wrong-mark, unknown-machine, foreign-register, unknown-operand-kind, unknown-operation, wrong-operand-count, repeated-block}
@@ -17,17 +16,17 @@ use Rattle.pod.specs.declared.ImmediateDesc.{ImmediateDesc}
 use Rattle.pod.specs.declared.Operand.{Operand}
 use Rattle.pod.specs.declared.Operand.the-variants.{Imm, Reg}
 
--- Header, 8 bytes: u32 0x4c495456 (3), u8 machine (4), u8 pad, u16 0xdead (3)
-unfoldable pub header : Bool → Reader ℕ
-header exact = do
+-- Header, 8 bytes: u32 0x4c495456 (3), u8 machine (4), u8 pad, u16 0xdead (3). The arch id is document 01's machine
+unfoldable pub header : Reader ℕ
+header = do
   first ← u32
   check wrong-mark (eqb first 0x4c495456)
-  machine ← u8
-  check unknown-machine (leb machine 2)
-  pad exact
+  arch-id ← u8
+  check unknown-machine (leb arch-id 2)
+  pad
   second ← u16
   check wrong-mark (eqb second 0xdead)
-  done machine
+  done arch-id
 
 -- Register, 24: u64 flags, u64 id (5 is decided before the next field), i32 width, i32 offset
 unfoldable pub register : Reader RegisterDesc
@@ -73,27 +72,27 @@ opcode = do
   named name
 
 -- what follows the operation
-unfoldable pub after-opcode : Bool → ℕ → Reader Instruction
-after-opcode exact op = do
+unfoldable pub after-opcode : ℕ → Reader Instruction
+after-opcode op = do
   operands ← many operand (getD counts op 0)
   vip ← u64
   sp-offset ← i64
   sp-index ← u32
-  sp-reset ← flag exact
+  sp-reset ← flag
   done (record { op = op; operands = operands; vip = vip; sp-offset = sp-offset; sp-index = sp-index; sp-reset = sp-reset })
 
-unfoldable pub instruction : Bool → Reader Instruction
-instruction exact = opcode >>= after-opcode exact
+unfoldable pub instruction : Reader Instruction
+instruction = opcode >>= after-opcode
 
 -- Convention, 45 + 24 × registers: three lists volatile, param, retval; frame register; u64 shadow space; u8 purge
-unfoldable pub convention : Bool → Reader RoutineConvention
-convention exact = do
+unfoldable pub convention : Reader RoutineConvention
+convention = do
   volatile ← counted register
   param ← counted register
   retval ← counted register
   frame ← register
   shadow ← u64
-  purge ← flag exact
+  purge ← flag
   done
       (record {
         volatile-registers = volatile;
@@ -105,13 +104,13 @@ convention exact = do
       })
 
 -- Block, at least 36: u64 vip, i64 sp offset, u32 sp index, u32 last temporary index; three lists: instructions, u64 prev vips, u64 next vips
-unfoldable pub block : Bool → Reader BasicBlock
-block exact = do
+unfoldable pub block : Reader BasicBlock
+block = do
   vip ← u64
   sp-offset ← i64
   sp-index ← u32
   last-temporary ← u32
-  instructions ← counted (instruction exact)
+  instructions ← counted instruction
   prev ← counted u64
   next ← counted u64
   done
@@ -126,25 +125,25 @@ block exact = do
       })
 
 -- the blocks, then 9
-unfoldable pub blocks : Bool → Reader (List BasicBlock)
-blocks exact = do
-  bs ← counted (block exact)
+unfoldable pub blocks : Reader (List BasicBlock)
+blocks = do
+  bs ← counted block
   check repeated-block (not (repeats (vips bs)))
   done bs
 
 -- Routine, at least 114: header, u64 entry vip, routine convention, subroutine convention, special conventions, blocks. Then 9. Bytes after it
 -- are ignored
-unfoldable pub routine : Bool → Reader Routine
-routine exact = do
-  machine ← header exact
+unfoldable pub routine : Reader Routine
+routine = do
+  arch-id ← header
   entry ← u64
-  own ← convention exact
-  sub ← convention exact
-  special ← counted (convention exact)
-  bs ← blocks exact
+  own ← convention
+  sub ← convention
+  special ← counted convention
+  bs ← blocks
   done
       (record {
-        arch-id = machine;
+        arch-id = arch-id;
         vip = entry;
         routine-convention = own;
         subroutine-convention = sub;
@@ -152,13 +151,6 @@ routine exact = do
         explored-blocks = bs;
       })
 
--- a file is read as it comes
-abbrev pub as-it-comes : Bool
-as-it-comes = false
-
-abbrev pub as-written : Bool
-as-written = true
-
 -- what a file's bytes say
 abbrev pub read-file : List ℕ → Res Routine
-read-file file = routine as-it-comes file 0
+read-file file = routine file 0

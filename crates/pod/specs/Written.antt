@@ -1,10 +1,12 @@
 -- The written form: a value's fields in the layouts and their order, pad 0, and nothing else.
-use Prim.Native.Nat.{ℕ, zero, suc, _/_, _%_}
+use Prim.Native.Nat.{ℕ, zero, suc, _-_, _/_, _%_}
 use mathlib.Core.List.{List, [], _∷_, _++_}
-use mathlib.Core.Bool.{Bool, true, false}
-use lib.ListN.{length, getD}
+use mathlib.Core.Bool.{Bool, true, false, _&&_}
+use lib.ListN.{length, getD, take, drop}
 use mir.Syntax.{w32, w64}
 use mir.Val.{ofZ}
+use Rattle.fields.specs.Parse.{Res, ok, Reader, bind}
+use Rattle.fields.specs.Lists.{same}
 use Rattle.op.specs.Ops.{names}
 use Rattle.pod.specs.Values.{Instruction, RoutineConvention, BasicBlock, Routine}
 use Rattle.pod.specs.declared.RegisterDesc.{RegisterDesc}
@@ -77,3 +79,15 @@ routine-head-bytes r =
 
 unfoldable pub routine-bytes : Routine → List ℕ
 routine-bytes r = routine-head-bytes r ++ counted-bytes block-bytes (r .explored-blocks)
+
+-- what a walk over a part sees: the offset past it, and whether the bytes passed are its written form
+unfoldable pub walked : {A : Type 0} → Reader A → (A → List ℕ) → Reader Bool
+walked p w s o = bind (p s o) (λ a n. ok (same (take (n - o) (drop o s)) (w a)) n)
+
+-- what it sees of two parts, one after the other: the offset past both, and whether both are in written form
+unfoldable pub both : Res Bool → (ℕ → Res Bool) → Res Bool
+both r f = bind r (λ t n. bind (f n) (λ u m. ok (t && u) m))
+
+-- and of a part after it that is written just as it is read
+unfoldable pub passing : Res Bool → (ℕ → Res Unit) → Res Bool
+passing r f = bind r (λ t n. bind (f n) (λ _ m. ok t m))

@@ -30,6 +30,19 @@ pub struct ImmediateDesc {
     pub bit_count: u32,
 }
 
+// The fields of a register and of an immediate that are not there.
+pub const NO_REGISTER: RegisterDesc = RegisterDesc {
+    flags: 0,
+    combined_id: 0,
+    bit_count: 0,
+    bit_offset: 0,
+};
+
+pub const NO_IMMEDIATE: ImmediateDesc = ImmediateDesc {
+    value: 0,
+    bit_count: 0,
+};
+
 pub enum Operand {
     Imm(ImmediateDesc),
     Reg(RegisterDesc),
@@ -128,7 +141,8 @@ fn immediate_at(s: &[u8], at: usize) -> ImmediateRead
 
 // A register's width and offset, after its flags and id.
 fn bits_at(s: &[u8], at: usize, flags: u64, id: u64) -> RegisterRead
-    ensures { λ r. ⌜ of-register r ≡ bind (i32 (now (s .entry)) at) (λ w a. bind (i32 (now (s .entry)) a) (λ o b. ok (record { flags = flags; «combined_id» = id; «bit_count» = w; «bit_offset» = o }) b)) ⌝ }
+    ensures { λ r. ⌜ of-register r ≡ bind (i32 (now (s .entry)) at) (λ w a.
+        bind (i32 (now (s .entry)) a) (λ o b. ok (record { flags = flags; «combined_id» = id; «bit_count» = w; «bit_offset» = o }) b)) ⌝ }
 {
     let width = fields::i32_at(s, at);
     if let I32Read::Value(w, a) = width {
@@ -204,8 +218,8 @@ fn wide(x: u8) -> u64
     x as u64
 }
 
-// The offset past the operand at `at`, or 0 where this does not tell. It is pub for the fast way over an instruction, which has tested the length. It has no branch on the kind: an immediate's size and 12 more for a
-// register, and the highest byte of the id of a register.
+// The offset past the operand at `at`, or 0 where this does not tell. It is pub for the fast way over an instruction, which has tested the length.
+// It has no branch on the kind: an immediate's size and 12 more for a register, and the highest byte of the id of a register.
 pub fn fast_operand(s: &[u8], at: usize) -> usize
     requires { ⌜ at + 28 ≤ length (now s) ⌝ }
     ensures { λ r. ⌜ (0 < r → (span (operand (now (s .entry)) at) ≡ ok tt r) × (r ≤ at + 28)) ⌝ }

@@ -3,12 +3,13 @@
 // the record apart and leaves the work to a covered function on slice and number.
 ghost use mathlib.Core.Path.{_≡_};
 ghost use lib.ListN.{length};
-ghost use Rattle.fields.specs.Parse.{u32, span};
-ghost use Rattle.fields.specs.Answers.{of-u32, of-skip};
-ghost use Rattle.pod.specs.Layout.{routine, as-it-comes, read-file};
+ghost use Rattle.fields.specs.Parse.{u32};
+ghost use Rattle.fields.specs.Answers.{of-u32, of-walked};
+ghost use Rattle.pod.specs.Layout.{routine};
+ghost use Rattle.pod.specs.Written.{routine-bytes, walked};
 ghost use Rattle.reader.specs.Past.{past};
-use fields::Skip;
 use fields::U32Read;
+use fields::Walked;
 
 pub struct Reader<'a> {
     pub src: &'a [u8],
@@ -68,16 +69,16 @@ pub fn gread_u32<'s, 'a>(r: &'s mut Reader<'a>) -> U32Read
     v
 }
 
-// The routine at the offset reached is passed over.
-pub fn pass_routine<'a>(r: Reader<'a>) -> Skip
-    ensures { λ v. ⌜ of-skip v ≡ span (routine as-it-comes (now (r .entry .src)) (r .entry .at)) ⌝ }
+// The routine at the offset reached is walked over.
+pub fn pass_routine<'a>(r: Reader<'a>) -> Walked
+    ensures { λ v. ⌜ of-walked v ≡ walked routine routine-bytes (now (r .entry .src)) (r .entry .at) ⌝ }
 {
-    routine::routine_skip(r.src, r.at, false)
+    routine::routine_skip(r.src, r.at)
 }
 
-// The routine that a file starts with is passed over. The parameter is a plain slice, so a caller's proof needs no steps by hand.
-pub fn pass_file(s: &[u8]) -> Skip
-    ensures { λ v. ⌜ of-skip v ≡ span (read-file (now (s .entry))) ⌝ }
+// The routine that a file starts with is walked over. The parameter is a plain slice, so a caller's proof needs no steps by hand.
+pub fn pass_file(s: &[u8]) -> Walked
+    ensures { λ v. ⌜ of-walked v ≡ walked routine routine-bytes (now (s .entry)) 0 ⌝ }
 {
     pass_routine(new(s))
 }

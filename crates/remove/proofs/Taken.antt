@@ -11,17 +11,16 @@ use Rattle.pod.specs.Values.{BasicBlock, Routine}
 use Rattle.pod.specs.Written.{bytes, many-bytes, block-bytes, routine-head-bytes}
 use Rattle.laws.proofs.Sizes.{block-least}
 use Rattle.exchange.specs.Parts.{exchanged}
-use Rattle.machine.specs.Edits.{block-at, remove-at, with-blocks}
-use Rattle.machine.specs.Machine.{size}
+use Rattle.machine.specs.Edits.{block-at, remove-at, with-blocks, size}
 use Rattle.machine.specs.Book.{in-image}
 use Rattle.machine.proofs.Keeps.{weight}
 use Rattle.machine.proofs.Lists.{total-least, many-total}
 use Rattle.book.specs.Holding.{blocks-start, block-start, Holding}
 use Rattle.remove.specs.Removable.{Removable}
-use Rattle.edits.proofs.Places.{remove-end, remove-mid, Between, between, but-end}
-use Rattle.edits.proofs.Laid.{written, written-size, length-written, length-cons}
+use Rattle.image.proofs.Swaps.{remove-end, remove-mid, Between, between, but-end}
+use Rattle.image.proofs.Laid.{written, written-size, length-written, length-cons}
 use Rattle.remove.proofs.Outs.{last-out, mid-out}
-use Rattle.edits.proofs.Stands.{split, tail-size}
+use Rattle.image.proofs.Here.{split, tail-size}
 
 module _ (r : Routine) (i : ℕ) (image : List ℕ) (at end w : ℕ) (l : Removable r i image at end w) where
   abbrev blocks : List BasicBlock

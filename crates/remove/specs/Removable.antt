@@ -5,10 +5,9 @@ use mathlib.Core.List.{List}
 use lib.ListN.{length}
 use Rattle.pod.specs.Values.{Routine}
 use Rattle.pod.specs.Written.{block-bytes}
-use Rattle.pod.specs.Descs.{most-lent}
+use Rattle.fields.specs.Bytes.{most-lent}
 use Rattle.laws.specs.Holds.{Routine-holds}
-use Rattle.machine.specs.Edits.{block-at}
-use Rattle.machine.specs.Machine.{size}
+use Rattle.machine.specs.Edits.{block-at, size}
 use Rattle.machine.specs.Book.{in-image}
 use Rattle.book.specs.Holding.{block-start}
 

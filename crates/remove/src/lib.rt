@@ -2,9 +2,13 @@
 //
 // `remove_block` requires that the state is sound: it is for the crate above, whose call inspects the lent image and the book first.
 ghost use mathlib.Core.Path.{_≡_};
-ghost use Prim.Native.Nat.{ℕ};
+ghost use mathlib.Core.List.{_++_};
+ghost use Prim.Native.Nat.{ℕ, _+_, _≤_};
 ghost use lib.ListN.{length};
+ghost use Rattle.fields.specs.Bytes.{put};
 ghost use Rattle.pod.specs.Values.{Routine};
+ghost use Rattle.fields.specs.Bytes.{most-lent};
+ghost use Rattle.machine.specs.Trailer.{trailer-with, trailer-bytes};
 ghost use Rattle.machine.specs.Edits.{remove, remove-at, with-blocks};
 ghost use Rattle.machine.specs.Machine.{edit};
 ghost use Rattle.machine.specs.Book.{in-image, step};
@@ -20,24 +24,37 @@ use pod::Vip;
 // moves. The count of blocks stands in the 4 bytes before them.
 fn swap_remove(image: &mut [u8], at: usize, end: usize, written: usize)
     requires { ⌜ Has-removable (now image) at end written ⌝ }
-    ensures { λ _. ⌜ ((r : Routine) (i : ℕ) → Removable r i (now (image .entry)) at end written → now (image .exit) ≡ in-image (length (now (image .entry))) (with-blocks (remove-at i (r .explored-blocks)) r)) ⌝ }
+    ensures { λ _. ⌜ ((r : Routine) (i : ℕ) → Removable r i (now (image .entry)) at end written
+        → now (image .exit) ≡ in-image (length (now (image .entry))) (with-blocks (remove-at i (r .explored-blocks)) r)) ⌝ }
 {
     let blocks = image::blocks_of(image);
-    let start = blocks.start;
-    let count = blocks.count;
+    let count_at = blocks.start - 4;
+    let fewer = blocks.count - 1;
     if end == written {
         buffer::clear(image, at, end);
-        buffer::put_u32(image, start - 4, count - 1);
+        buffer::put_u32(image, count_at, fewer);
         return;
     }
-    let last = image::block_offset(image, count as usize - 1);
-    let left = written - (end - at);
+    let last = image::block_offset(image, fewer as usize);
+    let size = end - at;
+    let left = written - size;
     exchange::exchange(image, at, end, last, written);
     buffer::clear(image, left, written);
-    buffer::put_u32(image, start - 4, count - 1);
+    buffer::put_u32(image, count_at, fewer);
 }
 
-// The block with the vip goes, into the journal: its bytes, and then the trailer. A removal never grows the routine, so it is never refused with 11.
+// The entry of a removal goes after the used part of the journal: the bytes of the block, and then the trailer.
+fn put_entry(journal: &mut [u8], used: usize, block: &[u8], vip: Vip, place: u32)
+    requires { ⌜ (used + length (now block) + 20 ≤ length (now journal)) × (length (now journal) ≤ most-lent) ⌝ }
+    ensures { λ _. ⌜ now (journal .exit) ≡ put used (now (block .entry) ++ trailer-bytes (trailer-with (vip .0) place (length (now (block .entry))) 2)) (now (journal .entry)) ⌝ }
+{
+    let size = block.len();
+    let end = used + size;
+    buffer::copy_at(journal, used, block);
+    journal::put_trailer(journal, end, vip, place, size as u32, journal::REMOVE);
+}
+
+// The block with the vip goes, into the journal.
 pub fn remove_block(book: Book, image: &mut [u8], journal: &mut [u8], vip: Vip) -> Answer
     requires { ⌜ Is-sound (state (now image) (now journal) book) ⌝ }
     ensures { λ r. ⌜ outcome r (now (image .exit)) (now (journal .exit)) ≡ step (edit (remove (vip .0))) (state (now (image .entry)) (now (journal .entry)) book) ⌝ }
@@ -48,34 +65,17 @@ pub fn remove_block(book: Book, image: &mut [u8], journal: &mut [u8], vip: Vip) 
     let place = found.place;
     let at = found.at;
     if found.count as usize <= place {
-        return Answer {
-            refusal: book::NO_SUCH_BLOCK,
-            book,
-        };
+        return book::refuse(book, book::NO_SUCH_BLOCK);
     }
     let end = ends::block_end(image, at);
     let size = end - at;
-    if journal.len() - used < size + journal::TRAILER_SIZE {
-        return Answer {
-            refusal: book::JOURNAL_FULL,
-            book,
-        };
+    let left = written - size;
+    let spent = used + size + journal::TRAILER_SIZE;
+    let refusal = book::admit(image.len(), journal.len(), left, spent);
+    if refusal != 0 {
+        return book::refuse(book, refusal);
     }
-    buffer::copy_at(journal, used, &image[at..end]);
-    journal::put_trailer(
-        journal,
-        used + size,
-        vip,
-        place as u32,
-        size as u32,
-        journal::REMOVE,
-    );
+    put_entry(journal, used, &image[at..end], vip, place as u32);
     swap_remove(image, at, end, written);
-    Answer {
-        refusal: 0,
-        book: Book {
-            written: (written - size) as u64,
-            used: (used + size + journal::TRAILER_SIZE) as u64,
-        },
-    }
+    book::accept(left, spent)
 }

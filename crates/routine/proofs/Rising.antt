@@ -2,7 +2,7 @@
 -- rise from 0.
 -- Assumes nothing.
 use mathlib.Core.Path.{_≡_, refl, sym, ap, _∙_}
-use mathlib.Core.Bool.{Bool, false}
+use mathlib.Core.Bool.{false}
 use mathlib.Core.List.{List, [], _∷_}
 use Prim.Native.Nat.{ℕ, suc, _+_, _-_, _≤_, _<_}
 use native.Mathlib.Omega.{arith}
@@ -34,22 +34,22 @@ unfolding repeats choose Rises
 different floor [] r = refl
 different floor (v ∷ vs) r = rw (absent v (v + 1) vs (omega arith) (r .1)) (different (v + 1) vs (r .1))
 
-module _ (exact : Bool) (s : List ℕ) where
+module _ (s : List ℕ) where
   -- the vips of n blocks from o on rise, if these are read
   pub RisesFrom : ℕ → ℕ → ℕ → Type 0
-  RisesFrom n o floor = (bs : List BasicBlock) (end : ℕ) → many (block exact) n s o ≡ ok bs end → Rises floor (vips bs)
+  RisesFrom n o floor = (bs : List BasicBlock) (end : ℕ) → many block n s o ≡ ok bs end → Rises floor (vips bs)
 
   -- one block more, whose vip is not below the floor
-  pub rises-more : (n o floor m x : ℕ) → 0 < n → ok tt m ≡ span (block exact s o) → x ≡ word 8 s o → floor ≤ x
+  pub rises-more : (n o floor m x : ℕ) → 0 < n → ok tt m ≡ span (block s o) → x ≡ word 8 s o → floor ≤ x
       → RisesFrom (n - 1) m (x + 1) → RisesFrom n o floor
   unfolding RisesFrom Rises many span
   rises-more n o floor m x h e w l r bs end q =
       let z : n ≡ suc (n - 1) = omega arith in
-      let q′ : many (block exact) (suc (n - 1)) s o ≡ ok bs end = ap (λ k. many (block exact) k s o) (sym z) ∙ q in
-      let a = inv (block exact s o) _ q′ in
-      let t = inv (many (block exact) (n - 1) s (a .1)) _ (a .3) in
+      let q′ : many block (suc (n - 1)) s o ≡ ok bs end = ap (λ k. many block k s o) (sym z) ∙ q in
+      let a = inv (block s o) _ q′ in
+      let t = inv (many block (n - 1) s (a .1)) _ (a .3) in
       let at : m ≡ a .1 = inv-ok (e ∙ ap span (a .2)) .1 in
-      let vip : x ≡ a .0 .vip = w ∙ block-vip s exact o (a .2) in
+      let vip : x ≡ a .0 .vip = w ∙ block-vip s o (a .2) in
       let all : a .0 ∷ t .0 ≡ bs = inv-ok (t .3) .0 in
       rw (← all, ← vip) (l, r (t .0) (t .1) (rw at (t .2)))
 
@@ -58,9 +58,9 @@ module _ (exact : Bool) (s : List ℕ) where
   unfolding RisesFrom Rises many span
   rises-end n o floor h bs end q =
       let z : n ≡ 0 = omega arith in
-      let q′ : many (block exact) 0 s o ≡ ok bs end = ap (λ k. many (block exact) k s o) (sym z) ∙ q in
+      let q′ : many block 0 s o ≡ ok bs end = ap (λ k. many block k s o) (sym z) ∙ q in
       rw (← inv-ok q′ .0) tt
 
-  pub all-different : (n o : ℕ) → RisesFrom n o 0 → (bs : List BasicBlock) (end : ℕ) → many (block exact) n s o ≡ ok bs end → repeats (vips bs) ≡ false
+  pub all-different : (n o : ℕ) → RisesFrom n o 0 → (bs : List BasicBlock) (end : ℕ) → many block n s o ≡ ok bs end → repeats (vips bs) ≡ false
   unfolding RisesFrom
   all-different n o r bs end q = different 0 (vips bs) (r bs end q)

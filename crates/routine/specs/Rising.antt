@@ -9,12 +9,12 @@ use Rattle.pod.specs.Blocks.{vips, repeats}
 use Rattle.routine.specs.declared.BlocksSkip.{BlocksSkip}
 use Rattle.routine.specs.declared.BlocksSkip.the-variants.{Past, Refused}
 
-abbrev pub of-blocks : BlocksSkip → Res Unit
-of-blocks (Past n rising) = ok tt n
+abbrev pub of-blocks : BlocksSkip → Res Bool
+of-blocks (Past n rising written) = ok written n
 of-blocks (Refused e) = no e
 
 abbrev pub rising : BlocksSkip → Bool
-rising (Past n r) = r
+rising (Past n r written) = r
 rising (Refused e) = false
 
 abbrev pub Apart : Res (List BasicBlock) → Type 0

@@ -1,22 +1,27 @@
 // The whole routine.
 ghost use mathlib.Core.Path.{_≡_};
-ghost use Rattle.fields.specs.Parse.{many, counted, bind, span, refusal-in};
-ghost use Rattle.fields.specs.Answers.{of-skip};
+ghost use Rattle.fields.specs.Parse.{ok, many, counted, bind, span, u64, refusal-in};
+ghost use Rattle.fields.specs.Answers.{of-skip, of-walked};
 ghost use Rattle.routine.specs.Header.{marked, arch-id-byte};
-ghost use mathlib.Core.Bool.{true};
+ghost use mathlib.Core.Bool.{true, _&&_};
 ghost use Prim.Native.Nat.{_+_, _≤_, _<_};
 ghost use Rattle.sorting.specs.Buffer.{TOP};
 ghost use Rattle.routine.specs.Rising.{of-blocks, rising, Apart};
 ghost use Rattle.pod.specs.Layout.{header, convention, block, blocks, routine};
+ghost use Rattle.pod.specs.Written.{many-bytes, counted-bytes, header-bytes, convention-bytes, block-bytes, routine-bytes, walked, both, passing};
 use fields::Skip;
 use fields::U8Read;
 use fields::U32Read;
 use fields::U64Read;
+use fields::Walked;
 use pod::Vip;
 
 const VTIL_MAGIC_1: u64 = 0x4c49_5456;
 
 const VTIL_MAGIC_2: u64 = 0xdead;
+
+// In the header, where the pad stands.
+const PAD: usize = 5;
 
 // A number of `k` bytes, 4 or 2, that must be `mark`, after what was passed over so far.
 fn then_mark(s: &[u8], far: Skip, k: usize, mark: u64) -> Skip
@@ -60,36 +65,50 @@ fn then_arch_id(s: &[u8], far: Skip) -> Skip
 }
 
 // The header is passed over.
-fn header_skip(s: &[u8], at: usize, exact: bool) -> Skip
-    ensures { λ r. ⌜ of-skip r ≡ span (header exact (now (s .entry)) at) ⌝ }
+fn header_past(s: &[u8], at: usize) -> Skip
+    ensures { λ r. ⌜ of-skip r ≡ span (header (now (s .entry)) at) ⌝ }
 {
     let a = then_mark(s, Skip::Past(at), 4, VTIL_MAGIC_1);
     let b = then_arch_id(s, a);
-    let c = fields::then_pad(s, b, exact);
+    let c = fields::then_uint(s, b, 1);
     then_mark(s, c, 2, VTIL_MAGIC_2)
 }
 
+// The header is walked over: in written form its pad is 0.
+fn header_skip(s: &[u8], at: usize) -> Walked
+    ensures { λ r. ⌜ of-walked r ≡ walked header header-bytes (now (s .entry)) at ⌝ }
+{
+    let far = header_past(s, at);
+    if let Skip::Past(n) = far {
+        Walked::Past(n, s[at + PAD] == 0)
+    } else {
+        Walked::Refused(fields::skip_refusal(far))
+    }
+}
+
 // `count` conventions.
-fn conventions_run(s: &[u8], at: usize, count: u32, exact: bool) -> Skip
-    ensures { λ r. ⌜ of-skip r ≡ span (many (convention exact) count (now (s .entry)) at) ⌝ }
+fn conventions_run(s: &[u8], at: usize, count: u32) -> Walked
+    ensures { λ r. ⌜ of-walked r ≡ walked (many convention count) (many-bytes convention-bytes) (now (s .entry)) at ⌝ }
 {
     let mut left = count;
     let mut o = at;
+    let mut written = true;
     while 0 < left {
-        let far = convention::convention_skip(s, o, exact);
-        if let Skip::Past(n) = far {
+        let far = convention::convention_skip(s, o);
+        if let Walked::Past(n, w) = far {
             o = n;
+            written = written & w;
         } else {
             return far;
         }
         left -= 1;
     }
-    Skip::Past(o)
+    Walked::Past(o, written)
 }
 
-// Blocks that were passed over: the offset past them, and whether their vips were seen to rise; or the refusal.
+// Blocks that were walked over: the offset past them, whether their vips were seen to rise, and whether all are in written form; or the refusal.
 enum BlocksSkip {
-    Past(usize, bool),
+    Past(usize, bool, bool),
     Refused(u8),
 }
 
@@ -119,91 +138,127 @@ fn floor_after(floor: u64, vip: Vip) -> u64
 }
 
 // `count` blocks. Their vips are looked at on the way: where they rise, as compilers write them, no search for repeated ones is needed.
-fn blocks_run(s: &[u8], at: usize, count: u32, exact: bool) -> BlocksSkip
-    ensures { λ r. ⌜ (of-blocks r ≡ span (many (block exact) count (now (s .entry)) at)) × (rising r ≡ true → Apart (many (block exact) count (now (s .entry)) at)) ⌝ }
+fn blocks_run(s: &[u8], at: usize, count: u32) -> BlocksSkip
+    ensures { λ r. ⌜ (of-blocks r ≡ walked (many block count) (many-bytes block-bytes) (now (s .entry)) at) × (rising r ≡ true → Apart (many block count (now (s .entry)) at)) ⌝ }
 {
     let mut left = count;
     let mut o = at;
     let mut floor: u64 = 0;
+    let mut written = true;
     while 0 < left {
-        let far = block::block_skip(s, o, exact);
-        if let Skip::Past(n) = far {
+        let far = block::block_skip(s, o);
+        if let Walked::Past(n, w) = far {
             floor = floor_after(floor, Vip(ends::word64(s, o)));
             o = n;
+            written = written & w;
         } else {
-            return BlocksSkip::Refused(fields::skip_refusal(far));
+            return BlocksSkip::Refused(fields::walked_refusal(far));
         }
         left -= 1;
     }
-    BlocksSkip::Past(o, floor < sorting::TOP)
+    BlocksSkip::Past(o, floor < sorting::TOP, written)
 }
 
-fn then_convention(s: &[u8], far: Skip, exact: bool) -> Skip
-    ensures { λ r. ⌜ of-skip r ≡ bind (of-skip far) (λ _ n. span (convention exact (now (s .entry)) n)) ⌝ }
+// The list of conventions at `at`.
+fn conventions_skip(s: &[u8], at: usize) -> Walked
+    ensures { λ r. ⌜ of-walked r ≡ walked (counted convention) (counted-bytes convention-bytes) (now (s .entry)) at ⌝ }
 {
-    if let Skip::Past(at) = far {
-        convention::convention_skip(s, at, exact)
+    let count = fields::u32_at(s, at);
+    if let U32Read::Value(n, a) = count {
+        conventions_run(s, a, n)
     } else {
-        far
-    }
-}
-
-fn then_conventions(s: &[u8], far: Skip, exact: bool) -> Skip
-    ensures { λ r. ⌜ of-skip r ≡ bind (of-skip far) (λ _ n. span (counted (convention exact) (now (s .entry)) n)) ⌝ }
-{
-    if let Skip::Past(at) = far {
-        let count = fields::u32_at(s, at);
-        if let U32Read::Value(n, a) = count {
-            conventions_run(s, a, n, exact)
-        } else {
-            Skip::Refused(fields::u32_refusal(count))
-        }
-    } else {
-        far
+        Walked::Refused(fields::u32_refusal(count))
     }
 }
 
 // The blocks, of which no two share a vip.
-fn blocks_skip(s: &[u8], at: usize, exact: bool) -> Skip
-    ensures { λ r. ⌜ of-skip r ≡ span (blocks exact (now (s .entry)) at) ⌝ }
+fn blocks_skip(s: &[u8], at: usize) -> Walked
+    ensures { λ r. ⌜ of-walked r ≡ walked blocks (counted-bytes block-bytes) (now (s .entry)) at ⌝ }
 {
     let count = fields::u32_at(s, at);
     if let U32Read::Value(c, a) = count {
-        let run = blocks_run(s, a, c, exact);
-        if let BlocksSkip::Past(n, rising) = run {
+        let run = blocks_run(s, a, c);
+        if let BlocksSkip::Past(n, rising, written) = run {
             if rising {
-                Skip::Past(n)
+                Walked::Past(n, written)
             } else if distinct::has_repeat(s, a, c) {
-                Skip::Refused(fields::REPEATED_BLOCK)
+                Walked::Refused(fields::REPEATED_BLOCK)
             } else {
-                Skip::Past(n)
+                Walked::Past(n, written)
             }
         } else {
-            Skip::Refused(blocks_refusal(run))
+            Walked::Refused(blocks_refusal(run))
         }
     } else {
-        Skip::Refused(fields::u32_refusal(count))
+        Walked::Refused(fields::u32_refusal(count))
     }
 }
 
-fn then_blocks(s: &[u8], far: Skip, exact: bool) -> Skip
-    ensures { λ r. ⌜ of-skip r ≡ bind (of-skip far) (λ _ n. span (blocks exact (now (s .entry)) n)) ⌝ }
+// The entry vip, after what was walked over so far. It is written as it is read, so what was seen stays.
+fn then_entry(s: &[u8], far: Walked) -> Walked
+    ensures { λ r. ⌜ of-walked r ≡ passing (of-walked far) (λ n. span (u64 (now (s .entry)) n)) ⌝ }
 {
-    if let Skip::Past(at) = far {
-        blocks_skip(s, at, exact)
+    if let Walked::Past(at, written) = far {
+        let entry = fields::u64_at(s, at);
+        if let U64Read::Value(_, n) = entry {
+            Walked::Past(n, written)
+        } else {
+            Walked::Refused(fields::u64_refusal(entry))
+        }
     } else {
         far
     }
 }
 
-// The routine at `at` is passed over.
-pub fn routine_skip(s: &[u8], at: usize, exact: bool) -> Skip
-    ensures { λ r. ⌜ of-skip r ≡ span (routine exact (now (s .entry)) at) ⌝ }
+// What was seen of a part that ended where `next` began, and of that.
+fn seen_both(written: bool, next: Walked) -> Walked
+    ensures { λ r. ⌜ of-walked r ≡ bind (of-walked next) (λ u m. ok (written && u) m) ⌝ }
 {
-    let a = header_skip(s, at, exact);
-    let b = fields::then_uint(s, a, 8);
-    let c = then_convention(s, b, exact);
-    let d = then_convention(s, c, exact);
-    let e = then_conventions(s, d, exact);
-    then_blocks(s, e, exact)
+    if let Walked::Past(n, w) = next {
+        Walked::Past(n, written & w)
+    } else {
+        next
+    }
+}
+
+fn then_convention(s: &[u8], far: Walked) -> Walked
+    ensures { λ r. ⌜ of-walked r ≡ both (of-walked far) (walked convention convention-bytes (now (s .entry))) ⌝ }
+{
+    if let Walked::Past(at, written) = far {
+        seen_both(written, convention::convention_skip(s, at))
+    } else {
+        far
+    }
+}
+
+fn then_conventions(s: &[u8], far: Walked) -> Walked
+    ensures { λ r. ⌜ of-walked r ≡ both (of-walked far) (walked (counted convention) (counted-bytes convention-bytes) (now (s .entry))) ⌝ }
+{
+    if let Walked::Past(at, written) = far {
+        seen_both(written, conventions_skip(s, at))
+    } else {
+        far
+    }
+}
+
+fn then_blocks(s: &[u8], far: Walked) -> Walked
+    ensures { λ r. ⌜ of-walked r ≡ both (of-walked far) (walked blocks (counted-bytes block-bytes) (now (s .entry))) ⌝ }
+{
+    if let Walked::Past(at, written) = far {
+        seen_both(written, blocks_skip(s, at))
+    } else {
+        far
+    }
+}
+
+// The routine at `at` is walked over.
+pub fn routine_skip(s: &[u8], at: usize) -> Walked
+    ensures { λ r. ⌜ of-walked r ≡ walked routine routine-bytes (now (s .entry)) at ⌝ }
+{
+    let a = header_skip(s, at);
+    let b = then_entry(s, a);
+    let c = then_convention(s, b);
+    let d = then_convention(s, c);
+    let e = then_conventions(s, d);
+    then_blocks(s, e)
 }

@@ -1,69 +1,72 @@
 -- What taking back is, by the tests that the code makes: nothing is used, less than a trailer is used, or the trailer that ends the used part says
--- the kind. The trailer is read the same from the used part and from the whole journal.
+-- the kind. By machine's laws of a step on a book that holds a routine; the trailer is read the same from the used part and from the whole journal.
 -- Assumes nothing.
-use mathlib.Core.Path.{_≡_, ap, _∙_}
+use mathlib.Core.Path.{_≡_, sym, ap, _∙_}
 use mathlib.Core.List.{List}
 use Prim.Native.Nat.{ℕ, _+_, _-_, _≤_, _<_}
 use native.Mathlib.Omega.{arith}
 use lib.ListN.{length, take}
 use lib.Seq.{length-take-le}
+use lib.Dec.{leb}
 use borrow.Author.Tests.{eq-eqb, ne-eqb, lt-leb}
 use Rattle.fields.specs.Parse.{ok}
+use Rattle.fields.specs.Outcome.{refused}
 use Rattle.fields.specs.Lists.{choose}
+use Rattle.fields.proofs.Outcomes.{unless-off}
 use Rattle.pod.specs.Values.{Routine}
 use Rattle.machine.specs.Machine.{undo}
-use Rattle.machine.specs.Journal.{Trailer, trailer, undo-create, undo-remove, undo-append, undo-entry, undone}
-use Rattle.machine.specs.Book.{State, restored, undo-step, acted, step}
-use Rattle.book.specs.Says.{state, outcome}
+use Rattle.machine.specs.Journal.{undo-create, undo-remove, undo-append, undo-entry, undone}
+use Rattle.machine.specs.Book.{State, step}
+use Rattle.machine.specs.Trailer.{Trailer, trailer}
+use Rattle.machine.proofs.Calls.{undo-empty, undo-is, undo-spoiled}
+use Rattle.machine.proofs.Held.{sound-held}
+use Rattle.book.specs.Says.{taking-back}
 use Rattle.book.specs.Holding.{Sound}
-use Rattle.book.specs.declared.Book.{Book}
-use Rattle.image.proofs.Inspects.{sound-held}
+use Rattle.book.proofs.Restored.{spoiled}
 use Rattle.journal.proofs.Trailers.{undone-by}
 
-module _ (image journal : List ℕ) (book : Book) (r : Routine) (g : Sound (state image journal book) r) where
-  abbrev s : State
-  s = state image journal book
+module _ (s : State) (r : Routine) (g : Sound s r) where
+  abbrev used : ℕ
+  used = s .book .used
 
-  stepped : step undo s ≡ undo-step r s
-  unfolding step acted
-  stepped = rw (sound-held g)
+  pub nothing : used ≡ 0 → (refused 16, s) ≡ step undo s
+  nothing h = sym (undo-empty s r (sound-held g) h)
 
-  pub nothing : book .used ≡ 0 → outcome (record { refusal = 16; book = book }) image journal ≡ step undo s
-  unfolding undo-step choose
-  nothing h = rw (stepped, eq-eqb (book .used) 0 h)
+  pub too-little : 0 < used → used < 20 → (refused 13, s) ≡ step undo s
+  unfolding undone
+  too-little z h =
+      let n : length (take used (s .journal)) ≡ used = length-take-le used (s .journal) (g .used) in
+      sym (undo-spoiled s r (sound-held g) z (unless-off 13 _ (ap (λ k. leb 20 k) n ∙ lt-leb 20 used h)))
 
-  module _ (z : book .used ≡ 0 → ⊥) where
-    goes : step undo s ≡ restored s (undone (length image) r (take (book .used) journal))
-    unfolding undo-step choose
-    goes = rw (stepped, ne-eqb (book .used) 0 z)
+-- the trailer t is read at the end of the used part
+pub record Last (s : State) (r : Routine) (t : Trailer) : Type 0 where
+  pub sound : Sound s r
+  pub enough : 20 ≤ s .book .used
+  pub is : trailer (s .journal) (s .book .used - 20) ≡ ok t (s .book .used - 20 + 20)
 
-    pub too-little : book .used < 20 → outcome (record { refusal = 13; book = book }) image journal ≡ step undo s
-    unfolding undone restored choose
-    too-little h =
-        let n : length (take (book .used) journal) ≡ book .used = length-take-le (book .used) journal (g .used) in
-        rw (goes, n, lt-leb 20 (book .used) h)
+module _ {s : State} {r : Routine} {t : Trailer} (l : Last s r t) where
+  abbrev before : List ℕ
+  before = take (s .book .used - 20) (s .journal)
 
-    module _ (h : 20 ≤ book .used) (t : Trailer) (e : trailer journal (book .used - 20) ≡ ok t (book .used - 20 + 20)) where
-      abbrev before : List ℕ
-      before = take (book .used - 20) journal
+  by-kind : step undo s ≡ taking-back s (undo-entry (length (s .image)) r before t)
+  by-kind =
+      let u = s .book .used in
+      let g = l .sound in
+      let n : u - 20 + 20 ≡ u = omega arith in
+      undo-is s r (sound-held g) (omega arith) ∙ ap (taking-back s) (undone-by (s .journal) u (g .used) (l .enough) (length (s .image)) r t (l .is ∙ ap (ok t) n))
 
-      by-kind : step undo s ≡ restored s (undo-entry (length image) r before (ok t 20))
-      by-kind =
-          let n : book .used - 20 + 20 ≡ book .used = omega arith in
-          goes ∙ ap (restored s) (undone-by journal (book .used) (g .used) h (length image) r t (e ∙ ap (ok t) n))
+  pub was-created : t .kind ≡ 1 → taking-back s (undo-create r t) ≡ step undo s
+  unfolding undo-entry choose
+  was-created k = rw (by-kind, eq-eqb (t .kind) 1 k)
 
-      pub was-created : t .kind ≡ 1 → restored s (undo-create r t) ≡ step undo s
-      unfolding undo-entry choose
-      was-created k = rw (by-kind, eq-eqb (t .kind) 1 k)
+  pub was-removed : t .kind ≡ 2 → taking-back s (undo-remove (length (s .image)) r before t) ≡ step undo s
+  unfolding undo-entry choose
+  was-removed k = rw (by-kind, ne-eqb (t .kind) 1 (λ q. omega arith), eq-eqb (t .kind) 2 k)
 
-      pub was-removed : t .kind ≡ 2 → restored s (undo-remove (length image) r before t) ≡ step undo s
-      unfolding undo-entry choose
-      was-removed k = rw (by-kind, ne-eqb (t .kind) 1 (λ q. omega arith), eq-eqb (t .kind) 2 k)
+  pub was-appended : t .kind ≡ 3 → taking-back s (undo-append r t) ≡ step undo s
+  unfolding undo-entry choose
+  was-appended k = rw (by-kind, ne-eqb (t .kind) 1 (λ q. omega arith), ne-eqb (t .kind) 2 (λ q. omega arith), eq-eqb (t .kind) 3 k)
 
-      pub was-appended : t .kind ≡ 3 → restored s (undo-append r t) ≡ step undo s
-      unfolding undo-entry choose
-      was-appended k = rw (by-kind, ne-eqb (t .kind) 1 (λ q. omega arith), ne-eqb (t .kind) 2 (λ q. omega arith), eq-eqb (t .kind) 3 k)
-
-      pub other-kind : (t .kind ≡ 1 → ⊥) → (t .kind ≡ 2 → ⊥) → (t .kind ≡ 3 → ⊥) → outcome (record { refusal = 13; book = book }) image journal ≡ step undo s
-      unfolding undo-entry restored choose
-      other-kind a b c = rw (by-kind, ne-eqb (t .kind) 1 a, ne-eqb (t .kind) 2 b, ne-eqb (t .kind) 3 c)
+  pub other-kind : (t .kind ≡ 1 → ⊥) → (t .kind ≡ 2 → ⊥) → (t .kind ≡ 3 → ⊥) → (refused 13, s) ≡ step undo s
+  unfolding undo-entry choose
+  other-kind a b c = spoiled s (rw (ne-eqb (t .kind) 1 a, ne-eqb (t .kind) 2 b, ne-eqb (t .kind) 3 c)) ∙ sym by-kind

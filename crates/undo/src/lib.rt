@@ -16,16 +16,10 @@ pub fn undo(book: Book, image: &mut [u8], journal: &mut [u8]) -> Answer
 {
     let used = book.used as usize;
     if used == 0 {
-        return Answer {
-            refusal: book::NOTHING_TO_TAKE_BACK,
-            book,
-        };
+        return book::refuse(book, book::NOTHING_TO_TAKE_BACK);
     }
     if used < journal::TRAILER_SIZE {
-        return Answer {
-            refusal: book::SPOILED_BOOK,
-            book,
-        };
+        return book::refuse(book, book::SPOILED_BOOK);
     }
     let last = journal::read_trailer(journal, used - journal::TRAILER_SIZE);
     let kind = last.kind;
@@ -38,8 +32,5 @@ pub fn undo(book: Book, image: &mut [u8], journal: &mut [u8]) -> Answer
     if kind == journal::APPEND {
         return undo_append::undo_append(book, image, journal, last);
     }
-    Answer {
-        refusal: book::SPOILED_BOOK,
-        book,
-    }
+    book::refuse(book, book::SPOILED_BOOK)
 }

@@ -3,65 +3,69 @@
 // undo_append has a `requires` that the state is sound and has an entry: it is for the crate above, whose call inspects the lent image and the book
 // first, and reads the trailer.
 ghost use mathlib.Core.Path.{_≡_};
-ghost use Prim.Native.Nat.{_≤_};
+ghost use Prim.Native.Nat.{ℕ, _≤_};
+ghost use lib.ListN.{length};
 ghost use Rattle.fields.specs.Outcome.{accepted};
 ghost use Rattle.pod.specs.Values.{Routine};
-ghost use Rattle.machine.specs.Journal.{undo-append};
-ghost use Rattle.machine.specs.Book.{held, restored};
-ghost use Rattle.book.specs.Says.{state, outcome};
+ghost use Rattle.machine.specs.Edits.{block-at};
+ghost use Rattle.machine.specs.Journal.{last-size-is, undo-append};
+ghost use Rattle.machine.specs.Book.{held, in-image};
+ghost use Rattle.book.specs.Says.{state, outcome, taking-back};
 ghost use Rattle.book.specs.Holding.{Is-sound};
 ghost use Rattle.journal.specs.Says.{trailer-of};
+ghost use Rattle.undo_append.specs.Last.{Block-in, Has-block, Last-in, Has-last, shortened};
 use book::Answer;
 use book::Book;
 use journal::Trailer;
 
+// Whether the last instruction of the block at offset `at` has so many bytes.
+fn last_size_is(image: &[u8], at: usize, size: usize) -> bool
+    requires { ⌜ Has-block (now image) at ⌝ }
+    ensures { λ y. ⌜ ((r : Routine) (i : ℕ) → Block-in (now (image .entry)) r i at → y ≡ last-size-is size (block-at i (r .explored-blocks) .instructions)) ⌝ }
+{
+    let count = ends::word32(image, at + ends::BLOCK_HEAD_SIZE);
+    if count == 0 {
+        return false;
+    }
+    let from = image::instruction_offset(image, at, count - 1);
+    let end = ends::instruction_end(image, from);
+    end - from == size
+}
+
+// The last instruction of the block at offset `at`, which has so many bytes, goes, and what stands after it moves down.
+fn drop_instruction(image: &mut [u8], at: usize, size: usize, written: usize)
+    requires { ⌜ Has-last (now image) at size written ⌝ }
+    ensures { λ _. ⌜ ((r : Routine) (i : ℕ) → Last-in (now (image .entry)) r i at size written → now (image .exit) ≡ in-image (length (now (image .entry))) (shortened r i)) ⌝ }
+{
+    let count = ends::word32(image, at + ends::BLOCK_HEAD_SIZE);
+    let end = image::instructions_end(image, at);
+    buffer::move_within(image, end, end - size, written - end);
+    buffer::clear(image, written - size, written);
+    buffer::put_u32(image, at + ends::BLOCK_HEAD_SIZE, count - 1);
+}
+
 // Taking back an append: the last instruction of the block, which must have the size that was appended, goes, and what stands after it moves down.
 pub fn undo_append(book: Book, image: &mut [u8], journal: &mut [u8], last: Trailer) -> Answer
     requires { ⌜ Is-sound (state (now image) (now journal) book) × (20 ≤ book .used) ⌝ }
-    ensures { λ x. ⌜ ((r : Routine) → held (state (now (image .entry)) (now (journal .entry)) book) ≡ accepted r → outcome x (now (image .exit)) (now (journal .exit)) ≡ restored (state (now (image .entry)) (now (journal .entry)) book) (undo-append r (trailer-of last))) ⌝ }
+    ensures { λ x. ⌜ ((r : Routine) → held (state (now (image .entry)) (now (journal .entry)) book) ≡ accepted r
+        → outcome x (now (image .exit)) (now (journal .exit)) ≡ taking-back (state (now (image .entry)) (now (journal .entry)) book) (undo-append r (trailer-of last))) ⌝ }
 {
-    let written = book.written as usize;
-    let used = book.used as usize;
     let place = last.place;
-    let size = last.length as usize;
     let blocks = image::blocks_of(image);
     if blocks.count <= place {
-        return Answer {
-            refusal: book::SPOILED_BOOK,
-            book,
-        };
+        return book::refuse(book, book::SPOILED_BOOK);
     }
     let at = image::block_offset(image, place as usize);
     if ends::word64(image, at) != last.vip.0 {
-        return Answer {
-            refusal: book::SPOILED_BOOK,
-            book,
-        };
+        return book::refuse(book, book::SPOILED_BOOK);
     }
-    let count = ends::word32(image, at + image::COUNT_AT);
-    if count == 0 {
-        return Answer {
-            refusal: book::SPOILED_BOOK,
-            book,
-        };
+    let size = last.len as usize;
+    if !last_size_is(image, at, size) {
+        return book::refuse(book, book::SPOILED_BOOK);
     }
-    let from = image::instruction_offset(image, at, count - 1);
-    let end = image::instructions_end(image, at);
-    if end - from != size {
-        return Answer {
-            refusal: book::SPOILED_BOOK,
-            book,
-        };
-    }
-    buffer::move_within(image, end, from, written - end);
-    buffer::clear(image, written - size, written);
-    buffer::put_u32(image, at + image::COUNT_AT, count - 1);
-    let before = journal::clear_trailer(journal, used);
-    Answer {
-        refusal: 0,
-        book: Book {
-            written: (written - size) as u64,
-            used: before as u64,
-        },
-    }
+    let written = book.written as usize;
+    let left = written - size;
+    drop_instruction(image, at, size, written);
+    let before = journal::clear_trailer(journal, book.used as usize);
+    book::accept(left, before)
 }

@@ -1,42 +1,37 @@
--- Taking back a create, by the tests that the code makes, and the image that it leaves: the last block becomes zeros, and the count one less.
+-- Taking back a create: the tests that its definition makes, one after the other, and the image that it leaves, where the last block becomes zeros and
+-- the count one less. By splitting the blocks before the last.
 -- Assumes nothing.
-use mathlib.Core.Path.{_≡_, sym, ap, _∙_}
-use mathlib.Core.Bool.{Bool, true, false}
+use mathlib.Core.Path.{_≡_, refl, sym, ap, _∙_}
 use mathlib.Core.List.{List, _++_, append-assoc, append-nil}
 use Prim.Native.Nat.{ℕ, suc, _+_, _-_, _≤_, _<_}
 use native.Mathlib.Omega.{arith}
+use lib.Dec.{eqb}
 use lib.ListN.{length, take, length-append, length-replicate, drop-of-length-le}
 use lib.Seq.{length-take-le}
-use borrow.Author.Tests.{eq-eqb, ne-eqb}
 use Rattle.fields.specs.Bytes.{zeros, put}
-use Rattle.fields.specs.Outcome.{refused, accepted}
-use Rattle.fields.specs.Lists.{choose}
+use Rattle.fields.specs.Refusals.{spoiled-book}
+use Rattle.fields.specs.Outcome.{Outcome, accepted, _>>_, refuse-unless}
 use Rattle.pod.specs.Values.{BasicBlock, Routine}
 use Rattle.pod.specs.Written.{bytes, many-bytes, block-bytes, routine-head-bytes, routine-bytes}
 use Rattle.buffer.proofs.Put.{put-parts, zeros-split}
 use Rattle.laws.proofs.Back.{length-bytes}
 use Rattle.laws.proofs.Place.{many-split}
-use Rattle.machine.specs.Edits.{empty-block, block-at, with-blocks}
-use Rattle.machine.specs.Machine.{Answer, size}
-use Rattle.machine.specs.Journal.{Trailer, is-fresh, undo-create}
-use Rattle.machine.specs.Book.{State, in-image, restored}
-use Rattle.book.specs.Holding.{blocks-start, block-start, Sound}
+use Rattle.machine.specs.Edits.{empty-block, block-at, size}
+use Rattle.machine.specs.Journal.{is-fresh, undo-create}
+use Rattle.machine.specs.Book.{in-image}
+use Rattle.machine.specs.Trailer.{Trailer, trailer-size}
 use Rattle.machine.proofs.Parts.{routine-parts}
-use Rattle.edits.proofs.Restored.{spoiled, restored-to}
+use Rattle.book.specs.Holding.{block-start}
+use Rattle.undo_create.specs.Last.{Ends-with, up-to}
 
-module _ (r : Routine) (p : ℕ) where
-  -- without the blocks from p on
-  abbrev pub up-to : Routine
-  up-to = with-blocks (take p (r .explored-blocks)) r
+pub up-to-size : (r : Routine) (p : ℕ) → p ≤ length (r .explored-blocks) → size (up-to r p) ≡ block-start r p
+up-to-size r p h = ap length (routine-parts r (take p (r .explored-blocks))) ∙ simp (length-append, length-bytes) (omega arith)
 
-  pub up-to-size : p ≤ length (r .explored-blocks) → size up-to ≡ block-start r p
-  up-to-size h = ap length (routine-parts r (take p (r .explored-blocks))) ∙ simp (length-append, length-bytes) (omega arith)
-
-module _ (N : ℕ) (image : List ℕ) (w at start : ℕ) (r : Routine) (p : ℕ) (is : image ≡ in-image N r) (ew : w ≡ size r) (room : w ≤ N) (l : p + 1 ≡ length (r .explored-blocks))
-    (ea : at ≡ block-start r p) (es : start ≡ blocks-start r) where
-  pub uncreated-image : put (start - 4) (bytes 4 p) (put at (zeros (w - at)) image) ≡ in-image N (up-to r p)
+module _ (image : List ℕ) (r : Routine) (start at w p : ℕ) (o : Ends-with image r start at w p) (room : w ≤ length image) where
+  pub uncreated-image : put (start - 4) (bytes 4 p) (put at (zeros (w - at)) image) ≡ in-image (length image) (up-to r p)
   unfolding in-image many-bytes
   uncreated-image =
+      let N = length image in
       let bs = r .explored-blocks in
       let n = length bs in
       let H = routine-head-bytes r in
@@ -53,7 +48,7 @@ module _ (N : ℕ) (image : List ℕ) (w at start : ℕ) (r : Routine) (p : ℕ)
       let la : length A ≡ at = omega (arith, length-append H (bytes 4 n ++ M), length-append (bytes 4 n) M, length-bytes 4 n) in
       let f : routine-bytes r ≡ A ++ b = routine-parts r bs ∙ rw e (simp append-assoc) in
       let lb : w - at ≡ length b = omega (arith, ap length f, length-append A b) in
-      let c : image ≡ A ++ (b ++ Z) = is ∙ ap (λ x. x ++ Z) f ∙ append-assoc A b Z in
+      let c : image ≡ A ++ (b ++ Z) = o .is ∙ ap (λ x. x ++ Z) f ∙ append-assoc A b Z in
       let d : put at (zeros (w - at)) image ≡ A ++ (zeros (w - at) ++ Z)
       = ap (put at (zeros (w - at))) c ∙ put-parts A (zeros (w - at)) b Z at la (length-replicate (w - at) 0 ∙ lb) in
       let k : N - size (up-to r p) ≡ w - at + (N - size r) = omega (arith, up-to-size r p (omega arith), ap length f, length-append A b) in
@@ -66,45 +61,23 @@ module _ (N : ℕ) (image : List ℕ) (w at start : ℕ) (r : Routine) (p : ℕ)
       let v : H ++ (bytes 4 p ++ (M ++ Y)) ≡ routine-bytes (up-to r p) ++ Y = rw (routine-parts r P, lp) (simp append-assoc) in
       ap (put (start - 4) (bytes 4 p)) (d ∙ ap (λ x. A ++ x) z ∙ g) ∙ u ∙ v
 
--- What taking back a create is
-module _ (s : State) (r : Routine) (o : Sound s r) (t : Trailer) where
-  abbrev there : BasicBlock
+-- What taking back a create is: its tests in their order, and what is left of them after each
+module _ (r : Routine) (t : Trailer) where
+  abbrev pub there : BasicBlock
   there = block-at (t .place) (r .explored-blocks)
 
-  pub create-length : (t .length ≡ 0 → ⊥) → (refused 13, s) ≡ restored s (undo-create r t)
-  unfolding undo-create choose
-  create-length n = spoiled s (rw (ne-eqb (t .length) 0 n))
+  abbrev pub done : Outcome (Routine × ℕ)
+  done = accepted (up-to r (t .place), trailer-size)
 
-  module _ (e₁ : t .length ≡ 0) where
-    pub create-place : (t .place + 1 ≡ length (r .explored-blocks) → ⊥) → (refused 13, s) ≡ restored s (undo-create r t)
-    unfolding undo-create choose
-    create-place n = spoiled s (rw (eq-eqb (t .length) 0 e₁, ne-eqb (t .place + 1) (length (r .explored-blocks)) n))
+  abbrev pub if-fresh : Outcome (Routine × ℕ)
+  if-fresh = refuse-unless (is-fresh there) spoiled-book >> done
 
-    module _ (e₂ : t .place + 1 ≡ length (r .explored-blocks)) where
-      pub create-vip : (there .vip ≡ t .vip → ⊥) → (refused 13, s) ≡ restored s (undo-create r t)
-      unfolding undo-create choose
-      create-vip n = spoiled s (rw (eq-eqb (t .length) 0 e₁, eq-eqb (t .place + 1) (length (r .explored-blocks)) e₂, ne-eqb (there .vip) (t .vip) n))
+  abbrev pub if-there : Outcome (Routine × ℕ)
+  if-there = refuse-unless (eqb (there .vip) (t .vip)) spoiled-book >> if-fresh
 
-      module _ (e₃ : there .vip ≡ t .vip) where
-        by-fresh : (f : Bool) → is-fresh there ≡ f → undo-create r t ≡ choose f (accepted (up-to r (t .place), 20)) (refused 13)
-        unfolding undo-create
-        by-fresh f e =
-            rw (eq-eqb (t .length) 0 e₁, eq-eqb (t .place + 1) (length (r .explored-blocks)) e₂, eq-eqb (there .vip) (t .vip) e₃, e)
+  abbrev pub if-last : Outcome (Routine × ℕ)
+  if-last = refuse-unless (eqb (t .place + 1) (length (r .explored-blocks))) spoiled-book >> if-there
 
-        pub create-changed : is-fresh there ≡ false → (refused 13, s) ≡ restored s (undo-create r t)
-        unfolding choose
-        create-changed e = spoiled s (by-fresh false e)
-
-        pub create-final : is-fresh there ≡ true
-            → (at start u : ℕ) (i₁ i₂ j : List ℕ) → at ≡ block-start r (t .place) → start ≡ blocks-start r → u ≡ s .book .used - 20
-            → i₁ ≡ put at (zeros (s .book .written - at)) (s .image) → i₂ ≡ put (start - 4) (bytes 4 (t .place)) i₁
-            → j ≡ put (s .book .used - 20) (zeros 20) (s .journal)
-            → _≡_ {A = Answer × State}
-            (accepted (record { written = at; used = u }), record { image = i₂; journal = j; book = record { written = at; used = u } })
-            (restored s (undo-create r t))
-        unfolding choose
-        create-final f at start u i₁ i₂ j ea es eu e₄ e₅ e₆ =
-            restored-to s (up-to r (t .place)) (by-fresh true f) at u i₂ j (ea ∙ sym (up-to-size r (t .place) (omega arith))) eu
-            (e₅ ∙ ap (put (start - 4) (bytes 4 (t .place))) e₄
-            ∙ uncreated-image (length (s .image)) (s .image) (s .book .written) at start r (t .place) (o .image) (o .written) (omega (arith, o .written, o .room)) e₂ ea es)
-            e₆
+  pub tests : undo-create r t ≡ (refuse-unless (eqb (t .len) 0) spoiled-book >> if-last)
+  unfolding undo-create
+  tests = refl

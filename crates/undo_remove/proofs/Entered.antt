@@ -11,14 +11,13 @@ use Rattle.fields.specs.Bytes.{zeros, put}
 use Rattle.pod.specs.Values.{BasicBlock, Routine}
 use Rattle.pod.specs.Written.{bytes, block-bytes, routine-head-bytes}
 use Rattle.exchange.specs.Parts.{exchanged}
-use Rattle.machine.specs.Edits.{block-at, insert-at, with-blocks}
-use Rattle.machine.specs.Machine.{size}
+use Rattle.machine.specs.Edits.{block-at, insert-at, with-blocks, size}
 use Rattle.machine.specs.Book.{in-image}
 use Rattle.machine.proofs.Keeps.{weight, blocks-few}
 use Rattle.book.specs.Holding.{blocks-start, block-start, Holding}
-use Rattle.edits.proofs.Places.{insert-end, insert-mid}
-use Rattle.edits.proofs.Laid.{written-size}
-use Rattle.edits.proofs.Stands.{split}
+use Rattle.image.proofs.Swaps.{insert-end, insert-mid}
+use Rattle.image.proofs.Laid.{written-size}
+use Rattle.image.proofs.Here.{split}
 use Rattle.undo_remove.specs.Insertable.{Insertable}
 use Rattle.undo_remove.proofs.Inserted.{last-in, mid-in}
 

@@ -1,46 +1,122 @@
--- What taking back a removal is, by the tests that the code makes: the entry is longer than the used part, its block may not enter the image, or it
--- goes back. Bytes that are read exactly to their end as a block are that block's written form.
+-- What taking back a removal is, by the tests that the code makes: the entry is longer than the used part, its bytes are no block with the vip, a block
+-- has it, the place is past the next, the image is full, or the block goes back.
 -- Assumes nothing.
 use mathlib.Core.Path.{_≡_, refl, sym, ap, _∙_}
-use mathlib.Core.Bool.{Bool, true, false, not, _&&_}
+use mathlib.Core.Bool.{true, false}
 use mathlib.Core.List.{List, [], _∷_}
 use Prim.Native.Nat.{ℕ, zero, suc, _+_, _-_, _≤_, _<_}
 use native.Mathlib.Omega.{arith}
 use lib.ListN.{length, take, drop, length-drop}
-use lib.Seq.{take-nil, length-take-le}
+use lib.Seq.{take-nil, take-length, length-take-le}
 use lib.Dec.{leb, eqb}
-use borrow.Author.Tests.{le-leb, lt-leb, leb-true, eqb-true, eq-eqb}
-use Rattle.fields.specs.Bytes.{zeros, put, Bytes}
-use Rattle.fields.specs.Parse.{Res, ok, no}
-use Rattle.fields.specs.Outcome.{Outcome, refused, accepted}
-use Rattle.fields.proofs.Le.{bytes-take, bytes-drop}
+use borrow.Author.Tests.{le-leb, lt-leb, leb-true}
+use Rattle.fields.specs.Bytes.{zeros, put}
+use Rattle.fields.specs.Outcome.{Outcome, refused, accepted, after, _>>=_, _>>_, refuse-if, refuse-unless}
 use Rattle.fields.specs.Lists.{choose}
+use Rattle.fields.proofs.Only.{Only}
+use Rattle.fields.proofs.Outcomes.{unless-on, unless-off, unless-passed, if-passed, came}
 use Rattle.pod.specs.Values.{BasicBlock, Routine}
-use Rattle.pod.specs.Layout.{block, as-written}
 use Rattle.pod.specs.Written.{block-bytes}
-use Rattle.laws.proofs.Layouts.{block-layout, exact-whole}
-use Rattle.machine.specs.Edits.{present, insert-at, with-blocks}
-use Rattle.machine.specs.Machine.{size}
-use Rattle.machine.specs.Journal.{Trailer, undo-remove-block, undo-remove}
-use Rattle.machine.specs.Book.{in-image, restored}
+use Rattle.machine.specs.Edits.{present, place, insert-at, with-blocks, size}
+use Rattle.machine.specs.Journal.{last-bytes, undo-remove}
+use Rattle.machine.specs.Book.{State, in-image}
+use Rattle.machine.specs.Trailer.{Trailer}
+use Rattle.machine.proofs.Held.{whole-is, whole-only}
 use Rattle.machine.proofs.Keeps.{weight, size-blocks}
-use Rattle.book.specs.Says.{state, outcome}
+use Rattle.machine.proofs.Lists.{present-before, absent-after}
+use Rattle.machine.proofs.Undo.{remove-only}
+use Rattle.book.specs.Says.{leaving, taking-back, refusal-of}
 use Rattle.book.specs.Holding.{Sound}
-use Rattle.book.specs.declared.Book.{Book}
-use Rattle.book.specs.declared.Answer.{Answer}
-use Rattle.edits.proofs.Places.{total-insert}
-use Rattle.undo_remove.specs.Blocks.{fits-block, is-block, entry-fits}
+use Rattle.book.proofs.Answers.{accepted-by}
+use Rattle.book.proofs.Restored.{restored-to}
+use Rattle.image.proofs.Swaps.{total-insert}
+use Rattle.undo_remove.specs.Blocks.{whole-block, has-vip, is-block}
 
--- the first of two tests, and the second
-and-left : (a b : Bool) → (a && b) ≡ true → a ≡ true
-and-left true b h = refl
-and-left false b h = h
+-- bytes that are no block with the vip, and bytes that are
+no-vip : {A : Type 0} (v : ℕ) (f : BasicBlock → Outcome A) (o : Outcome BasicBlock) → Only (λ e. 13 ≡ e) o → has-vip v o ≡ false
+    → 13 ≡ refusal-of (o >>= λ b. (refuse-unless (eqb (b .vip) v) 13 >> f b))
+unfolding after refusal-of
+no-vip v f (refused e) p h = p .refusal e refl
+no-vip v f (accepted b) p h = sym (ap refusal-of (unless-off 13 (f b) h))
 
-and-right : (a b : Bool) → (a && b) ≡ true → b ≡ true
-and-right true b h = h
-and-right false b h = let z : _≡_ {A = ℕ} 0 1 = cc in absurd (omega arith)
+is-one : (v : ℕ) (s : List ℕ) → is-block v s ≡ true → (b : BasicBlock) × (whole-block s ≡ accepted b) × (eqb (b .vip) v ≡ true)
+unfolding is-block
+is-one v s h = go (whole-block s) refl h
+  where
+    go : (o : Outcome BasicBlock) → whole-block s ≡ o → has-vip v o ≡ true → (b : BasicBlock) × (whole-block s ≡ accepted b) × (eqb (b .vip) v ≡ true)
+    go (accepted b) p h = (b, p, h)
+    go (refused e) p h = let z : _≡_ {A = ℕ} 0 1 = cc in absurd (omega arith)
 
-pub length-inserted : (i : ℕ) (b : BasicBlock) (r : Routine) → size (with-blocks (insert-at i b (r .explored-blocks)) r) ≡ size r + weight b
+-- the bytes of the block, as the code cuts them off the entries
+pub cut-end : (d : ℕ) (s : List ℕ) → take (length s - d) (drop d s) ≡ drop d s
+cut-end d s = ap (λ n. take n (drop d s)) (sym (length-drop d s)) ∙ take-length (drop d s)
+
+-- what the tests of an entry that fits were
+pub record Fitting (N : ℕ) (r : Routine) (before : List ℕ) (t : Trailer) : Type 0 where
+  pub long : t .len ≤ length before
+  pub b : BasicBlock
+  pub form : last-bytes (t .len) before ≡ block-bytes b
+  pub placed : t .place ≤ length (r .explored-blocks)
+  pub room : size r + t .len ≤ N
+  pub is : undo-remove N r before t ≡ accepted (with-blocks (insert-at (t .place) b (r .explored-blocks)) r, 20 + t .len)
+
+module _ (N : ℕ) (r : Routine) (before : List ℕ) (t : Trailer) where
+  abbrev blocks : List BasicBlock
+  blocks = r .explored-blocks
+
+  abbrev refusal : ℕ
+  refusal = refusal-of (undo-remove N r before t)
+
+  pub too-long : length before < t .len → 13 ≡ refusal
+  unfolding undo-remove refusal-of
+  too-long h = sym (ap refusal-of (unless-off 13 _ (lt-leb _ _ h)))
+
+  module _ (k : t .len ≤ length before) where
+    pub no-block : is-block (t .vip) (last-bytes (t .len) before) ≡ false → 13 ≡ refusal
+    unfolding undo-remove is-block
+    no-block h = no-vip (t .vip) _ (whole-block (last-bytes (t .len) before)) (whole-only refl _ _ _) h ∙ sym (ap refusal-of (unless-on 13 _ (le-leb _ _ k)))
+
+    module _ (h : is-block (t .vip) (last-bytes (t .len) before) ≡ true) where
+      pub vip-there : place (t .vip) blocks < length blocks → 13 ≡ refusal
+      unfolding undo-remove refuse-unless refuse-if choose after refusal-of
+      vip-there p = let o = is-one _ _ h in rw (le-leb _ _ k, o .1) (rw (o .2, present-before (t .vip) blocks p))
+
+      module _ (a : length blocks ≤ place (t .vip) blocks) where
+        pub no-place : length blocks < t .place → 13 ≡ refusal
+        unfolding undo-remove refuse-unless refuse-if choose after refusal-of
+        no-place p = let o = is-one _ _ h in rw (le-leb _ _ k, o .1) (rw (o .2, absent-after (t .vip) blocks a, lt-leb _ _ p))
+
+        module _ (p : t .place ≤ length blocks) where
+          pub no-room : N < size r + t .len → 13 ≡ refusal
+          unfolding undo-remove refuse-unless refuse-if choose after refusal-of
+          no-room m = let o = is-one _ _ h in rw (le-leb _ _ k, o .1) (rw (o .2, absent-after (t .vip) blocks a, le-leb _ _ p, lt-leb _ _ m))
+
+          pub fits : size r + t .len ≤ N → 0 ≡ refusal
+          unfolding undo-remove refuse-unless refuse-if choose after refusal-of
+          fits m = let o = is-one _ _ h in rw (le-leb _ _ k, o .1) (rw (o .2, absent-after (t .vip) blocks a, le-leb _ _ p, le-leb _ _ m))
+
+  passed : {y : Routine × ℕ} → undo-remove N r before t ≡ accepted y → Fitting N r before t
+  unfolding undo-remove
+  passed e =
+      let l = unless-passed 13 _ (leb (t .len) (length before)) e in
+      let c = came _ _ (l .1) in
+      let v = unless-passed 13 _ (eqb (c .0 .vip) (t .vip)) (c .2) in
+      let a = if-passed 13 _ (present (t .vip) blocks) (v .1) in
+      let p = unless-passed 13 _ (leb (t .place) (length blocks)) (a .1) in
+      let m = unless-passed 13 _ (leb (size r + t .len) N) (p .1) in
+      record {
+        long = leb-true _ _ (l .0);
+        b = c .0;
+        form = whole-is block-bytes (last-bytes (t .len) before) _ (c .1) .2;
+        placed = leb-true _ _ (p .0);
+        room = leb-true _ _ (m .0);
+        is = e ∙ sym (m .1);
+      }
+
+  pub fitting : {k : ℕ} → k ≡ refusal → k ≡ 0 → Fitting N r before t
+  fitting e z = passed (accepted-by _ (remove-only (omega arith) N r before t) e z .1)
+
+length-inserted : (i : ℕ) (b : BasicBlock) (r : Routine) → size (with-blocks (insert-at i b (r .explored-blocks)) r) ≡ size r + weight b
 length-inserted i b r =
     omega (arith, size-blocks r (insert-at i b (r .explored-blocks)), size-blocks r (r .explored-blocks), total-insert weight i b (r .explored-blocks))
 
@@ -51,129 +127,42 @@ part-of (suc d) zero l h = absurd (omega arith)
 part-of (suc d) (suc t) [] h = sym (take-nil (suc t - suc d))
 part-of (suc d) (suc t) (x ∷ l) h = let e : t - d ≡ suc t - suc d = omega arith in part-of d t l (omega arith) ∙ ap (λ (n : ℕ). take n (drop d l)) e
 
--- a whole written block
-pub record One (v : ℕ) (s : List ℕ) : Type 0 where
-  pub b : BasicBlock
-  pub read : block as-written s 0 ≡ ok b (length s)
-  pub vip : b .vip ≡ v
+-- what is taken back from a sound state
+module _ (s : State) (r : Routine) (g : Sound s r) (t : Trailer) (h : 20 ≤ s .book .used) where
+  abbrev before : List ℕ
+  before = take (s .book .used - 20) (s .journal)
 
-pub one : (v : ℕ) (s : List ℕ) → is-block v s ≡ true → One v s
-unfolding is-block
-one v s e = go (block as-written s 0) refl e
-  where
-    go : (x : Res BasicBlock) → block as-written s 0 ≡ x → fits-block v (length s) x ≡ true → One v s
-    go (ok b n) q p =
-        record {
-          b = b;
-          read = q ∙ ap (ok b) (eqb-true n (length s) (and-left (eqb n (length s)) _ p));
-          vip = eqb-true (b .vip) v (and-right (eqb n (length s)) _ p);
-        }
-    go (no k) q p = let z : _≡_ {A = ℕ} 0 1 = cc in absurd (omega arith)
+  pub used-size : length before ≡ s .book .used - 20
+  used-size = length-take-le (s .book .used - 20) (s .journal) (omega (arith, g .used))
 
-module _ (N : ℕ) (r : Routine) (t : Trailer) (s : List ℕ) (k : length s ≡ t .length) where
-  abbrev blocks : List BasicBlock
-  blocks = r .explored-blocks
-
-  abbrev others : Bool
-  others = not (present (t .vip) blocks) && (leb (t .place) (length blocks) && leb (size r + t .length) N)
-
-  -- the definition's tests are those of `entry-fits`
-  tests : (x : Res BasicBlock) → fits-block (t .vip) (t .length) x && others ≡ false → undo-remove-block N r t x ≡ refused 13
-  unfolding undo-remove-block choose
-  tests (no e) h = refl
-  tests (ok b n) h = go (eqb n (t .length)) (eqb (b .vip) (t .vip)) h
-    where
-      go : (p q : Bool) → (p && q) && others ≡ false
-          → choose {A = Outcome (Routine × ℕ)} (p && (q && others)) (accepted (with-blocks (insert-at (t .place) b blocks) r, 20 + t .length)) (refused 13) ≡ refused 13
-      go false q h = refl
-      go true false h = refl
-      go true true h = rw h
-
-  pub misfits : entry-fits N r (t .vip) (t .place) s ≡ false → undo-remove-block N r t (block as-written s 0) ≡ refused 13
-  unfolding entry-fits is-block
-  misfits h = tests (block as-written s 0) (rw k at h)
-
-  module _ (h : entry-fits N r (t .vip) (t .place) s ≡ true) where
-    is-one : is-block (t .vip) s ≡ true
-    unfolding entry-fits
-    is-one = and-left (is-block (t .vip) s) _ h
-
-    pub whole : One (t .vip) s
-    whole = one (t .vip) s is-one
-
-    other : others ≡ true
-    unfolding entry-fits
-    other = rw k at (and-right (is-block (t .vip) s) _ h)
-
-    far : leb (t .place) (length blocks) && leb (size r + t .length) N ≡ true
-    far = and-right (not (present (t .vip) blocks)) _ other
-
-    pub placed : t .place ≤ length blocks
-    placed = leb-true _ _ (and-left (leb (t .place) (length blocks)) _ far)
-
-    pub room : size r + t .length ≤ N
-    room = leb-true _ _ (and-right (leb (t .place) (length blocks)) _ far)
-
-    pub fits : undo-remove-block N r t (block as-written s 0) ≡ accepted (with-blocks (insert-at (t .place) (whole .b) blocks) r, 20 + t .length)
-    unfolding undo-remove-block choose
-    fits = rw (whole .read, eq-eqb (length s) (t .length) k, eq-eqb (whole .b .vip) (t .vip) (whole .vip), other)
-
--- the step
-module _ (image journal : List ℕ) (book : Book) (r : Routine) (g : Sound (state image journal book) r) (t : Trailer) (h : 20 ≤ book .used) where
-  abbrev N : ℕ
-  N = length image
-
-  abbrev used : List ℕ
-  used = take (book .used - 20) journal
-
-  abbrev gives : Answer → List ℕ → List ℕ → Type 0
-  gives a i j = outcome a i j ≡ restored (state image journal book) (undo-remove N r used t)
-
-  used-size : length used ≡ book .used - 20
-  used-size = length-take-le (book .used - 20) journal (omega (arith, g .used))
-
-  pub long : book .used - 20 < t .length → gives (record { refusal = 13; book = book }) image journal
-  unfolding undo-remove restored choose
-  long k = rw (used-size, lt-leb (t .length) (book .used - 20) k)
-
-  module _ (k : t .length ≤ book .used - 20) where
+  module _ (f : Fitting (length (s .image)) r before t) where
     abbrev from : ℕ
-    from = book .used - 20 - t .length
+    from = s .book .used - 20 - t .len
+
+    pub enough : t .len ≤ s .book .used - 20
+    enough = omega (arith, f .long, used-size)
 
     -- the bytes of the block, as the code cuts them
     abbrev pub entry : List ℕ
-    entry = take (book .used - 20 - from) (drop from journal)
+    entry = take (s .book .used - 20 - from) (drop from (s .journal))
 
-    pub entry-size : length entry ≡ t .length
+    pub is-block-form : entry ≡ block-bytes (f .b)
+    is-block-form =
+        sym (part-of from (s .book .used - 20) (s .journal) (omega arith))
+        ∙ sym (ap (λ (n : ℕ). drop (n - t .len) before) used-size)
+        ∙ f .form
+
+    pub entry-size : length entry ≡ t .len
     entry-size =
-        length-take-le (book .used - 20 - from) (drop from journal) (omega (arith, length-drop from journal, g .used)) ∙ omega arith
+        length-take-le (s .book .used - 20 - from) (drop from (s .journal)) (omega (arith, length-drop from (s .journal), g .used, enough))
+        ∙ omega (arith, enough)
 
-    cut : undo-remove N r used t ≡ undo-remove-block N r t (block as-written entry 0)
-    unfolding undo-remove choose
-    cut =
-        rw (used-size, le-leb (t .length) (book .used - 20) k)
-        (ap (λ (s : List ℕ). undo-remove-block N r t (block as-written s 0)) (part-of from (book .used - 20) journal (omega arith)))
-
-    pub misfit : entry-fits N r (t .vip) (t .place) entry ≡ false → gives (record { refusal = 13; book = book }) image journal
-    unfolding restored choose
-    misfit e = rw (cut, misfits N r t entry entry-size e)
-
-    module _ (e : entry-fits N r (t .vip) (t .place) entry ≡ true) where
-      abbrev pub back : BasicBlock
-      back = whole N r t entry entry-size e .b
-
-      pub written-back : Bytes journal → entry ≡ block-bytes back
-      written-back b =
-          exact-whole block-layout (bytes-take (book .used - 20 - from) (drop from journal) (bytes-drop from journal b)) (whole N r t entry entry-size e .read)
-
-      pub restores : Bytes journal → (i₁ j₁ : List ℕ) → i₁ ≡ in-image N (with-blocks (insert-at (t .place) back (r .explored-blocks)) r)
-          → j₁ ≡ put from (zeros (book .used - from)) journal
-          → gives (record { refusal = 0; book = record { written = book .written + t .length; used = from } }) i₁ j₁
-      unfolding restored choose
-      restores b i₁ j₁ e₁ e₂ =
-          let w : weight back ≡ t .length = sym (ap length (written-back b)) ∙ entry-size in
-          let n : size (with-blocks (insert-at (t .place) back (r .explored-blocks)) r) ≡ book .written + t .length =
-          length-inserted (t .place) back r ∙ omega (arith, g .written) in
-          let c : book .used - (20 + t .length) ≡ from = omega arith in
-          let d : book .used - from ≡ 20 + t .length = omega arith in
-          rw (cut, fits N r t entry entry-size e) (rw (n, c, e₁, e₂, d))
+    pub restores : (image journal : List ℕ) → image ≡ in-image (length (s .image)) (with-blocks (insert-at (t .place) (f .b) (r .explored-blocks)) r)
+        → journal ≡ put from (zeros (s .book .used - from)) (s .journal)
+        → leaving (record { image = image; journal = journal; book = record { written = s .book .written + t .len; used = from } })
+        ≡ taking-back s (undo-remove (length (s .image)) r before t)
+    restores image journal ei ej =
+        let w : weight (f .b) ≡ t .len = sym (ap length is-block-form) ∙ entry-size in
+        let c : from ≡ s .book .used - (20 + t .len) = omega arith in
+        let d : s .book .used - from ≡ 20 + t .len = omega (arith, enough) in
+        restored-to s _ (f .is) _ _ image journal (omega (arith, length-inserted (t .place) (f .b) r, w, g .written)) c ei (ej ∙ rw (d, c))

@@ -12,11 +12,10 @@ use Rattle.pod.specs.Written.{bytes, block-bytes, routine-head-bytes}
 use Rattle.exchange.specs.Parts.{exchanged}
 use Rattle.buffer.proofs.Put.{put-parts}
 use Rattle.exchange.proofs.Reversals.{exchanged-parts}
-use Rattle.machine.specs.Edits.{with-blocks}
-use Rattle.machine.specs.Machine.{size}
+use Rattle.machine.specs.Edits.{with-blocks, size}
 use Rattle.machine.specs.Book.{in-image}
 use Rattle.book.specs.Holding.{blocks-start}
-use Rattle.edits.proofs.Laid.{written, laid, upto, length-upto, laid-upto, in-laid, recount, written-size, written-parts, written-snoc, length-written, length-cons, length-one, zeros-join}
+use Rattle.image.proofs.Laid.{written, laid, upto, length-upto, laid-upto, in-laid, recount, written-size, written-parts, written-snoc, length-written, length-cons, length-one, zeros-join}
 
 -- bytes put after the last block
 module _ (r : Routine) (N : ℕ) (bs : List BasicBlock) (x : List ℕ) (h : size (with-blocks bs r) + length x ≤ N) where

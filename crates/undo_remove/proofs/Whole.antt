@@ -1,71 +1,71 @@
--- Bytes that are one whole written block, by the exact walk over them: it is taken, ends where they end, and the vip is their first eight.
+-- Bytes that are one whole written block, by the walk over them: it sees that form, ends where they end, and the vip is their first eight.
 -- Assumes nothing.
-use mathlib.Core.Path.{_≡_, sym, ap, _∙_}
-use mathlib.Core.Bool.{Bool, true, false}
-use mathlib.Core.List.{List}
-use Prim.Native.Nat.{ℕ, _+_, _-_, _≤_, _<_}
+use mathlib.Core.Path.{_≡_, refl, sym, ap, ap₂, _∙_}
+use mathlib.Core.Bool.{Bool, true, false, _&&_}
+use mathlib.Core.List.{List, [], append-nil}
+use Prim.Native.Nat.{ℕ, _≤_}
 use native.Mathlib.Omega.{arith}
 use lib.ListN.{length}
-use lib.Dec.{leb, eqb}
-use borrow.Author.Tests.{le-leb, lt-leb, eq-eqb, ne-eqb}
-use Rattle.fields.specs.Parse.{ok, no, le, span}
-use Rattle.fields.proofs.Le.{leb-sub}
-use Rattle.fields.proofs.Invert.{inv-span, inv-span-no}
-use Rattle.fields.specs.Lists.{choose}
+use lib.Dec.{eqb}
+use borrow.Author.Tests.{le-leb, eq-eqb, eqb-true}
 use Rattle.fields.specs.Bytes.{Bytes}
-use Rattle.pod.specs.Values.{BasicBlock, Routine}
-use Rattle.pod.specs.Layout.{block, as-written}
+use Rattle.fields.specs.Parse.{ok, no, le}
+use Rattle.fields.specs.Lists.{choose}
+use Rattle.fields.specs.Outcome.{Outcome, refused, accepted}
+use Rattle.pod.specs.Values.{BasicBlock}
+use Rattle.pod.specs.Layout.{block}
+use Rattle.pod.specs.Written.{block-bytes, walked}
+use Rattle.laws.specs.At.{At}
 use Rattle.laws.proofs.Layouts.{block-layout, read-to}
+use Rattle.laws.proofs.Walks.{spans-walked, walked-whole}
 use Rattle.laws.proofs.Sizes.{block-least}
 use Rattle.ends.specs.Ends.{word}
 use Rattle.ends.proofs.Same.{block-vip}
-use Rattle.machine.specs.Edits.{place}
-use Rattle.machine.specs.Machine.{size}
-use Rattle.machine.proofs.Lists.{present-before, absent-after}
-use Rattle.undo_remove.specs.Blocks.{is-block, entry-fits}
+use Rattle.machine.proofs.Held.{both, whole-yes, whole-is}
+use Rattle.undo_remove.specs.Blocks.{whole-block, has-vip, is-block}
 
-module _ (v : ℕ) (s : List ℕ) where
-  pub not-read : {e : ℕ} → no e ≡ span (block as-written s 0) → false ≡ is-block v s
+module _ (v : ℕ) (s : List ℕ) (y : Bytes s) where
+  -- the walk over one sees the written form, to the end
+  seen : {b : BasicBlock} → whole-block s ≡ accepted b → walked block block-bytes s 0 ≡ ok true (length s)
+  seen {b} e =
+      let w = whole-is block-bytes s _ e in
+      let at : At s 0 (block-bytes b) = record { rest = []; is = w .2 ∙ sym (append-nil (block-bytes b)); within = omega arith } in
+      let n : w .0 ≡ length s = omega (arith, read-to block-layout y (w .1), ap length (w .2)) in
+      spans-walked block-layout y (w .1) at ∙ ap (ok true) n
+
+  none : (walked block block-bytes s 0 ≡ ok true (length s) → ⊥) → false ≡ is-block v s
   unfolding is-block
-  not-read q = rw (inv-span-no (block as-written s 0) q)
+  none h = go (whole-block s) refl
+    where
+      go : (q : Outcome BasicBlock) → whole-block s ≡ q → false ≡ has-vip v q
+      go (refused e) p = refl
+      go (accepted b) p = absurd (h (seen p))
 
-  -- what was passed over was a block
-  passed : {n : ℕ} → ok tt n ≡ span (block as-written s 0) → (b : BasicBlock) × (block as-written s 0 ≡ ok b n)
-  passed q = inv-span (block as-written s 0) q
+  pub not-read : {e : ℕ} → walked block block-bytes s 0 ≡ no e → false ≡ is-block v s
+  not-read q = none λ p. let z : _≡_ {A = ℕ} 0 1 = cc in omega arith
 
-  pub not-all : {n : ℕ} → ok tt n ≡ span (block as-written s 0) → (n ≡ length s → ⊥) → false ≡ is-block v s
-  unfolding is-block
-  not-all {n} q h = let p = passed q in rw (p .1, ne-eqb n (length s) h)
+  -- the walk passed a block, which ends at n
+  module _ {n : ℕ} {t : Bool} (q : walked block block-bytes s 0 ≡ ok t n) where
+    pub not-all : (eqb n (length s) && t) ≡ false → false ≡ is-block v s
+    not-all h = none λ p.
+        let e : n ≡ length s = cc in
+        let w : t ≡ true = cc in
+        let x : true ≡ false = sym (ap₂ _&&_ (eq-eqb n (length s) e) w) ∙ h in
+        let z : _≡_ {A = ℕ} 0 1 = cc in
+        omega arith
 
-  module _ (y : Bytes s) {n : ℕ} (q : ok tt n ≡ span (block as-written s 0)) (h : n ≡ length s) where
-    pub long-enough : 8 ≤ length s
-    long-enough = let p = passed q in omega (arith, read-to block-layout true y (p .1), block-least (p .0))
+    module _ (h : (eqb n (length s) && t) ≡ true) where
+      one : (b : BasicBlock) × (block s 0 ≡ ok b (length s)) × (s ≡ block-bytes b)
+      one =
+          let p = both (eqb n (length s)) t h in
+          walked-whole block-layout y (q ∙ ap₂ (λ x m. ok x m) (p .1) (eqb-true n (length s) (p .0)))
 
-    pub by-vip : (x : ℕ) → x ≡ le 8 s 0 → eqb x v ≡ is-block v s
-    unfolding is-block word choose
-    by-vip x e =
-        let p = passed q in
-        let w : le 8 s 0 ≡ p .0 .vip = rw (le-leb 8 (length s) long-enough) at (block-vip s true 0 (p .1)) in
-        rw (p .1, eq-eqb n (length s) h) (ap (λ (k : ℕ). eqb k v) (e ∙ w))
+      pub long-enough : 8 ≤ length s
+      long-enough = let p = one in omega (arith, ap length (p .2), block-least (p .0))
 
--- the tests of `entry_fits` in turn
-module _ (N : ℕ) (r : Routine) (v i : ℕ) (s : List ℕ) where
-  pub no-block : (t : Bool) → t ≡ is-block v s → t ≡ false → false ≡ entry-fits N r v i s
-  unfolding entry-fits
-  no-block t e f = rw (sym e ∙ f)
-
-  module _ (b : is-block v s ≡ true) where
-    pub vip-there : place v (r .explored-blocks) < length (r .explored-blocks) → false ≡ entry-fits N r v i s
-    unfolding entry-fits
-    vip-there h = rw (b, present-before v (r .explored-blocks) h)
-
-    module _ (a : length (r .explored-blocks) ≤ place v (r .explored-blocks)) where
-      pub no-place : length (r .explored-blocks) < i → false ≡ entry-fits N r v i s
-      unfolding entry-fits
-      no-place h = rw (b, absent-after v (r .explored-blocks) a, lt-leb i (length (r .explored-blocks)) h)
-
-      pub by-room : i ≤ length (r .explored-blocks) → (w : ℕ) → w ≡ size r → w ≤ N → leb (length s) (N - w) ≡ entry-fits N r v i s
-      unfolding entry-fits
-      by-room h w e l =
-          rw (b, absent-after v (r .explored-blocks) a, le-leb i (length (r .explored-blocks)) h)
-          (leb-sub _ _ _ l ∙ ap (λ (k : ℕ). leb (k + length s) N) e)
+      pub by-vip : (x : ℕ) → x ≡ le 8 s 0 → eqb x v ≡ is-block v s
+      unfolding is-block word choose
+      by-vip x e =
+          let p = one in
+          let w : le 8 s 0 ≡ p .0 .vip = rw (le-leb 8 (length s) long-enough) at (block-vip s 0 (p .1)) in
+          rw (whole-yes block-bytes s (block s 0) (p .1) (p .2)) (ap (λ (k : ℕ). eqb k v) (e ∙ w))

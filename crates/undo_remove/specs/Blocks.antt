@@ -1,25 +1,22 @@
--- When the bytes of a removed block may enter an image.
-use Prim.Native.Nat.{ℕ, _+_}
-use mathlib.Core.Bool.{Bool, false, not, _&&_}
+-- Bytes that are one block.
+use Prim.Native.Nat.{ℕ}
+use mathlib.Core.Bool.{Bool, false}
 use mathlib.Core.List.{List}
-use lib.Dec.{leb, eqb}
-use lib.ListN.{length}
-use Rattle.fields.specs.Parse.{Res, ok, no}
-use Rattle.pod.specs.Values.{BasicBlock, Routine}
-use Rattle.pod.specs.Layout.{block, as-written}
-use Rattle.machine.specs.Edits.{present}
-use Rattle.machine.specs.Machine.{size}
+use lib.Dec.{eqb}
+use Rattle.fields.specs.Outcome.{Outcome, refused, accepted}
+use Rattle.pod.specs.Values.{BasicBlock}
+use Rattle.pod.specs.Layout.{block}
+use Rattle.pod.specs.Written.{block-bytes}
+use Rattle.machine.specs.Journal.{whole}
 
--- what was read ends at n, and has the vip v
-abbrev pub fits-block : ℕ → ℕ → Res BasicBlock → Bool
-fits-block v n (ok b m) = eqb m n && eqb (b .vip) v
-fits-block v n (no e) = false
+-- exactly one block in its written form; else 13
+abbrev pub whole-block : List ℕ → Outcome BasicBlock
+whole-block s = whole block-bytes s (block s 0)
 
--- a whole written block with that vip
+-- it is a block with the vip v
+abbrev pub has-vip : ℕ → Outcome BasicBlock → Bool
+has-vip v (accepted b) = eqb (b .vip) v
+has-vip v (refused e) = false
+
 unfoldable pub is-block : ℕ → List ℕ → Bool
-is-block v s = fits-block v (length s) (block as-written s 0)
-
--- it is one, no block of r has the vip, r has the place or it is the next, and an image of n bytes has room
-unfoldable pub entry-fits : ℕ → Routine → ℕ → ℕ → List ℕ → Bool
-entry-fits n r v i s =
-    is-block v s && (not (present v (r .explored-blocks)) && (leb i (length (r .explored-blocks)) && leb (size r + length s) n))
+is-block v s = has-vip v (whole-block s)

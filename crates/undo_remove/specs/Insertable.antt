@@ -4,10 +4,10 @@ use mathlib.Core.Path.{_≡_}
 use mathlib.Core.List.{List}
 use lib.ListN.{length}
 use Rattle.pod.specs.Values.{Routine}
-use Rattle.pod.specs.Descs.{most-lent}
+use Rattle.fields.specs.Bytes.{most-lent}
 use Rattle.laws.specs.Holds.{Routine-holds}
-use Rattle.machine.specs.Machine.{size}
 use Rattle.machine.specs.Book.{in-image}
+use Rattle.machine.specs.Edits.{size}
 
 -- the image holds r and then zeros, r ends at `written`, and the bytes of the block fit after it; the place i is one of r's, or the next
 pub record Insertable (r : Routine) (image : List ℕ) (i written : ℕ) (block : List ℕ) : Type 0 where

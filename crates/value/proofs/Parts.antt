@@ -12,13 +12,13 @@ use lib.IntN.{ℤ}
 use mir.Syntax.{w64}
 use mir.Val.{SFits, toZ, ofZ}
 use mir.ValLaws.{toZ-ofZ}
-use Rattle.fields.specs.Parse.{Res, ok, no, Reader, bind, uint, many, flag, taken}
+use Rattle.fields.specs.Parse.{Res, ok, no, Reader, bind, uint, many, flag}
 use Rattle.fields.proofs.Invert.{inv}
 use Rattle.fields.specs.Lists.{choose}
 use Rattle.op.specs.Ops.{number, counts}
 use Rattle.pod.specs.Values.{Instruction}
 use Rattle.pod.specs.Written.{bit}
-use Rattle.pod.specs.Layout.{operand, named, opcode, after-opcode, instruction, as-it-comes}
+use Rattle.pod.specs.Layout.{operand, named, opcode, after-opcode, instruction}
 use Rattle.pod.specs.Descs.{places, instruction-desc}
 use Rattle.pod.specs.declared.Operand.{Operand}
 use Rattle.pod.specs.declared.OperandDesc.{OperandDesc}
@@ -55,12 +55,12 @@ unfolding bind
 under (ok a n) f g e = e a n
 under (no k) f g e = refl
 
--- a flag that is read as it comes is the byte, always taken
-flagged : {B : Type 0} (s : List ℕ) (o : ℕ) (f : Bool → ℕ → Res B) → bind (flag as-it-comes s o) f ≡ bind (uint 1 s o) (λ b n. f (not (eqb b 0)) n)
-unfolding flag taken choose bind
+-- a flag is whether its byte is not 0
+flagged : {B : Type 0} (s : List ℕ) (o : ℕ) (f : Bool → ℕ → Res B) → bind (flag s o) f ≡ bind (uint 1 s o) (λ b n. f (not (eqb b 0)) n)
+unfolding flag bind
 flagged s o f = sym (step (uint 1 s o) _ f _ (λ b n. refl))
 
-after-parts : (k : ℕ) (s : List ℕ) (o : ℕ) → after-opcode as-it-comes k s o ≡ bind (many operand (getD counts k 0) s o) (λ xs n. bind (tail s n) (λ t m. ok (made k xs t) m))
+after-parts : (k : ℕ) (s : List ℕ) (o : ℕ) → after-opcode k s o ≡ bind (many operand (getD counts k 0) s o) (λ xs n. bind (tail s n) (λ t m. ok (made k xs t) m))
 unfolding after-opcode tail
 after-parts k s o =
     under _ _ _ (λ xs n. step _ _ _ _ (λ v a. step _ _ _ _ (λ z b. step _ _ _ _ (λ i c. flagged s c _ ∙ step _ _ _ _ (λ r d. here _ _ _)))))
@@ -149,31 +149,31 @@ desc-is k m r b ps t xs v l p z = rw (toZ-ofZ w64 _ v, ← l, p, z)
 
 module _ (s : List ℕ) (at : ℕ) where
   -- the operation is refused
-  pub op-off : {e : ℕ} → opcode s at ≡ no e → instruction-read (no e) ≡ instruction-read (instruction as-it-comes s at)
+  pub op-off : {e : ℕ} → opcode s at ≡ no e → instruction-read (no e) ≡ instruction-read (instruction s at)
   unfolding instruction bind
   op-off h = rw h
 
   module _ {k a : ℕ} (g : opcode s at ≡ ok k a) (x : OperandsRead) (m : ℕ) (n : m ≡ getD counts k 0) (e : x ≡ operands-read (many operand m s a)) where
-    whole : instruction as-it-comes s at ≡ bind (many operand m s a) (λ xs n. bind (tail s n) (λ t m. ok (made k xs t) m))
+    whole : instruction s at ≡ bind (many operand m s a) (λ xs n. bind (tail s n) (λ t m. ok (made k xs t) m))
     unfolding instruction bind
     whole = rw (g, n) (after-parts k s a)
 
     -- an operand is refused
-    pub operands-off : (x .refusal ≡ 0 → ⊥) → instruction-read (no (x .refusal)) ≡ instruction-read (instruction as-it-comes s at)
+    pub operands-off : (x .refusal ≡ 0 → ⊥) → instruction-read (no (x .refusal)) ≡ instruction-read (instruction s at)
     unfolding bind
     operands-off h = sym (ap instruction-read (whole ∙ rw (operands-no _ x e h)))
 
     -- what follows is refused
-    pub tail-off : {r : ℕ} → x .refusal ≡ 0 → tail s (x .next) ≡ no r → instruction-read (no r) ≡ instruction-read (instruction as-it-comes s at)
+    pub tail-off : {r : ℕ} → x .refusal ≡ 0 → tail s (x .next) ≡ no r → instruction-read (no r) ≡ instruction-read (instruction s at)
     unfolding bind
     tail-off h f = let o = operands-ok _ x (told-operands m s a) e h in sym (ap instruction-read (whole ∙ rw (o .1, f)))
 
     -- nothing is refused
     pub all-on : {t : Tail} {r : ℕ} (b : ℕ) → SFits w64 (t .«sp_offset») → x .refusal ≡ 0 → tail s (x .next) ≡ ok t r → b ≡ bit (not (eqb (t .«sp_reset») 0))
-        → record { refusal = 0; next = r; instruction = desc k m (x .places) t b } ≡ instruction-read (instruction as-it-comes s at)
+        → record { refusal = 0; next = r; instruction = desc k m (x .places) t b } ≡ instruction-read (instruction s at)
     unfolding bind
     all-on {t} {r} b v h f z =
         let o = operands-ok _ x (told-operands m s a) e h in
         let l = length-many operand m s a (o .1) in
-        let w : (xs : List Operand) → many operand m s a ≡ ok xs (x .next) → instruction as-it-comes s at ≡ ok (made k xs t) r = λ xs q. whole ∙ rw (q, f) in
+        let w : (xs : List Operand) → many operand m s a ≡ ok xs (x .next) → instruction s at ≡ ok (made k xs t) r = λ xs q. whole ∙ rw (q, f) in
         desc-is k m r b _ t (o .0) v l (o .2) z ∙ sym (ap instruction-read (w (o .0) (o .1)))

@@ -4,7 +4,7 @@ ghost use mathlib.Core.Bool.{not};
 ghost use Prim.Native.Nat.{_≤_};
 ghost use lib.Dec.{eqb};
 ghost use Rattle.fields.specs.Parse.{ok, no, bind, many, u8, u32, refusal-in};
-ghost use Rattle.pod.specs.Layout.{operand, instruction, as-it-comes};
+ghost use Rattle.pod.specs.Layout.{operand, instruction};
 ghost use Rattle.pod.specs.Written.{bit};
 ghost use Rattle.pod.specs.Descs.{operand-desc, unused};
 ghost use Rattle.value.specs.Answers.{operands-read, of-tail, instruction-read};
@@ -14,12 +14,10 @@ use fields::U8Read;
 use fields::U32Read;
 use fields::U64Read;
 use instruction::OpRead;
-use pod::ImmediateDesc;
 use pod::InstructionDesc;
 use pod::Operand;
 use pod::OperandDesc;
 use pod::OperandRead;
-use pod::RegisterDesc;
 use pod::Vip;
 
 // Refusal 0: the operands in their places, and the offset past them. A struct, since an enum can't hold an array.
@@ -57,19 +55,11 @@ fn operand_desc(x: Operand) -> OperandDesc
         Operand::Imm(i) => OperandDesc {
             kind: 0,
             immediate: i,
-            register: RegisterDesc {
-                flags: 0,
-                combined_id: 0,
-                bit_count: 0,
-                bit_offset: 0,
-            },
+            register: pod::NO_REGISTER,
         },
         Operand::Reg(r) => OperandDesc {
             kind: 1,
-            immediate: ImmediateDesc {
-                value: 0,
-                bit_count: 0,
-            },
+            immediate: pod::NO_IMMEDIATE,
             register: r,
         },
     }
@@ -79,11 +69,7 @@ fn operand_desc(x: Operand) -> OperandDesc
 fn unused_place() -> OperandDesc
     ensures { λ r. ⌜ r ≡ unused ⌝ }
 {
-    let width = 0;
-    operand_desc(Operand::Imm(ImmediateDesc {
-        value: 0,
-        bit_count: width,
-    }))
+    operand_desc(Operand::Imm(pod::NO_IMMEDIATE))
 }
 
 // `count` operands. It asks for at most three, since that is how many places there are; no operation takes more.
@@ -198,7 +184,7 @@ pub fn refused(e: u8) -> InstructionRead
 
 // The instruction at `at`.
 pub fn instruction_at(s: &[u8], at: usize) -> InstructionRead
-    ensures { λ r. ⌜ r ≡ instruction-read (instruction as-it-comes (now (s .entry)) at) ⌝ }
+    ensures { λ r. ⌜ r ≡ instruction-read (instruction (now (s .entry)) at) ⌝ }
 {
     let op = instruction::op_at(s, at);
     if let OpRead::Value(k, a) = op {
@@ -211,11 +197,12 @@ pub fn instruction_at(s: &[u8], at: usize) -> InstructionRead
         if let TailRead::Value(t, n) = tail {
             let vip = t.vip;
             let operands = x.places;
+            let number = k as u32;
             InstructionRead {
                 refusal: 0,
                 next: n,
                 instruction: InstructionDesc {
-                    op: k as u32,
+                    op: number,
                     count,
                     operands,
                     vip,

@@ -1,6 +1,5 @@
 -- The answer of the file check as a signed number: it fits, because reading ends within the file.
 use mathlib.Core.Path.{_≡_, ap, _∙_}
-use mathlib.Core.Bool.{false}
 use mathlib.Core.List.{List}
 use Prim.Native.Nat.{ℕ, zero, suc, _≤_, _<_, _^_, _-_}
 use native.Mathlib.Omega.{arith}
@@ -21,7 +20,7 @@ use Rattle.vtil.specs.Check.{told, check-file}
 
 -- what was passed over ends within the file
 pub ends : (s : List ℕ) → Bytes s → {n : ℕ} → ok tt n ≡ span (read-file s) → n ≤ length s
-ends s b h = read-within routine-layout false b (inv-span (read-file s) h .1)
+ends s b h = read-within routine-layout b (inv-span (read-file s) h .1)
 
 pub told-ok : {A : Type 0} (r : Res A) {n : ℕ} → ok tt n ≡ span r → pos n ≡ told r
 unfolding told

@@ -3,26 +3,28 @@ ghost use mathlib.Core.Path.{_≡_};
 ghost use Prim.Native.Nat.{_<_, _^_};
 ghost use lib.IntN.{pos};
 ghost use lib.ListN.{length};
-ghost use Rattle.pod.specs.Descs.{writing, written-over};
+ghost use Rattle.pod.specs.Descs.{write-instruction};
 ghost use Rattle.machine.specs.Edits.{create, remove, append};
 ghost use Rattle.machine.specs.Machine.{edit, undo};
 ghost use Rattle.machine.specs.Book.{open-book, step};
 ghost use Rattle.machine.specs.Look.{look-routine, look-block, look-instruction, look-vip, look-convention, look-register};
 ghost use Rattle.book.specs.Says.{state, outcome};
-ghost use Rattle.look.specs.Answers.{routine-look, block-look, instruction-look, vip-look};
-ghost use Rattle.look_convention.specs.Answers.{convention-look, register-look};
+ghost use Rattle.look.specs.Answers.{routine-look, block-look, instruction-look, vip-look, convention-look, register-look};
 ghost use Rattle.writer.specs.Answers.{write-answer};
+ghost use Rattle.machine.specs.CallList.{run-on};
+ghost use Rattle.call_list.specs.Says.{run-outcome, told};
 ghost use Rattle.call_list.specs.Runs.{Runs};
 ghost use Rattle.vtil.specs.Check.{check-file};
 use book::Answer;
 use book::Book;
-use fields::Skip;
+use call_list::RunAnswer;
+use fields::Walked;
 use look::BlockLook;
+use look::ConventionLook;
 use look::InstructionLook;
+use look::RegisterLook;
 use look::RoutineLook;
 use look::VipLook;
-use look_convention::ConventionLook;
-use look_convention::RegisterLook;
 use pod::InstructionDesc;
 use pod::Vip;
 use writer::Written;
@@ -47,10 +49,10 @@ pub extern "C" fn vtil_check(file: &[u8]) -> i64
         return 0 - (fields::LENDING_TOO_LARGE as i64);
     }
     let far = reader::pass_file(file);
-    if let Skip::Past(n) = far {
+    if let Walked::Past(n, _) = far {
         signed(n)
     } else {
-        0 - (fields::skip_refusal(far) as i64)
+        0 - (fields::walked_refusal(far) as i64)
     }
 }
 
@@ -65,7 +67,7 @@ pub extern "C" fn vtil_open(file: &[u8], image: &mut [u8], journal: &mut [u8]) -
 // The writer of an instruction value.
 #[no_mangle]
 pub extern "C" fn vtil_write_instruction(value: InstructionDesc, image: &mut [u8]) -> Written
-    ensures { λ r. ⌜ (r ≡ write-answer (writing (length (now (image .entry))) value)) × (now (image .exit) ≡ written-over (now (image .entry)) (writing (length (now (image .entry))) value)) ⌝ }
+    ensures { λ r. ⌜ (r ≡ write-answer (write-instruction (now (image .entry)) value .0)) × (now (image .exit) ≡ write-instruction (now (image .entry)) value .1) ⌝ }
 {
     writer::write_instruction(value, image)
 }
@@ -83,7 +85,7 @@ pub extern "C" fn vtil_routine(book: Book, image: &[u8], journal: &[u8]) -> Rout
 pub extern "C" fn vtil_block(book: Book, image: &[u8], journal: &[u8], place: u64) -> BlockLook
     ensures { λ r. ⌜ r ≡ block-look (look-block place (state (now (image .entry)) (now (journal .entry)) book)) ⌝ }
 {
-    look::look_block(book, image, journal, place)
+    look::blocks::look_block(book, image, journal, place)
 }
 
 // one of a block's instructions,
@@ -97,7 +99,7 @@ pub extern "C" fn vtil_instruction(
 ) -> InstructionLook
     ensures { λ r. ⌜ r ≡ instruction-look (look-instruction block place (state (now (image .entry)) (now (journal .entry)) book)) ⌝ }
 {
-    look::look_instruction(book, image, journal, block, place)
+    look::blocks::look_instruction(book, image, journal, block, place)
 }
 
 // one of its prev (list 0) or next (1) vips,
@@ -112,7 +114,7 @@ pub extern "C" fn vtil_block_vip(
 ) -> VipLook
     ensures { λ r. ⌜ r ≡ vip-look (look-vip block list place (state (now (image .entry)) (now (journal .entry)) book)) ⌝ }
 {
-    look::look_vip(book, image, journal, block, list, place)
+    look::blocks::look_vip(book, image, journal, block, list, place)
 }
 
 // a convention: 0 the routine's, 1 the subroutine's, then the special ones,
@@ -125,7 +127,7 @@ pub extern "C" fn vtil_convention(
 ) -> ConventionLook
     ensures { λ r. ⌜ r ≡ convention-look (look-convention place (state (now (image .entry)) (now (journal .entry)) book)) ⌝ }
 {
-    look_convention::look_convention(book, image, journal, place)
+    look::conventions::look_convention(book, image, journal, place)
 }
 
 // one of its volatile (list 0), param (1) or retval (2) registers.
@@ -140,7 +142,7 @@ pub extern "C" fn vtil_convention_register(
 ) -> RegisterLook
     ensures { λ r. ⌜ r ≡ register-look (look-register convention list place (state (now (image .entry)) (now (journal .entry)) book)) ⌝ }
 {
-    look_convention::look_register(book, image, journal, convention, list, place)
+    look::conventions::look_register(book, image, journal, convention, list, place)
 }
 
 // The edits, and undo: document 01's take back.
@@ -197,8 +199,22 @@ pub extern "C" fn vtil_run(
     journal: &mut [u8],
     words: &[u64],
     bytes: &[u8],
-) -> Answer
-    ensures { λ r. ⌜ Runs (now (file .entry)) (now (image .entry)) (now (journal .entry)) (now (words .entry)) (now (bytes .entry)) (outcome r (now (image .exit)) (now (journal .exit))) ⌝ }
+) -> RunAnswer
+    ensures { λ r. ⌜ Runs (now (file .entry)) (now (image .entry)) (now (journal .entry)) (now (words .entry)) (now (bytes .entry)) (run-outcome r (now (image .exit)) (now (journal .exit))) ⌝ }
 {
     call_list::run(file, image, journal, words, bytes)
+}
+
+// The same on a book that is there: words that encode no list are refused 15, with the book as handed in.
+#[no_mangle]
+pub extern "C" fn vtil_run_on(
+    book: Book,
+    image: &mut [u8],
+    journal: &mut [u8],
+    words: &[u64],
+    bytes: &[u8],
+) -> RunAnswer
+    ensures { λ r. ⌜ run-outcome r (now (image .exit)) (now (journal .exit)) ≡ told (run-on (now (words .entry)) (now (bytes .entry)) (state (now (image .entry)) (now (journal .entry)) book)) ⌝ }
+{
+    call_list::run_on(book, image, journal, words, bytes)
 }

@@ -1,5 +1,7 @@
 pub mod Bits
 pub mod Laid
+pub mod Rest
+pub mod Fields
 pub mod Sizes
 pub mod Used
 pub mod Name

@@ -1,6 +1,6 @@
 -- A walk over the used places, for a loop that counts up: what is left of it answers as the whole does.
 -- Assumes nothing.
-use mathlib.Core.Path.{_≡_, refl, sym, ap, ap₂, _∙_}
+use mathlib.Core.Path.{_≡_, ap, _∙_}
 use mathlib.Core.Bool.{Bool, true, false}
 use mathlib.Core.List.{List, [], _∷_, _++_}
 use Prim.Native.Nat.{ℕ, suc, _+_, _≤_, _<_}
@@ -8,12 +8,12 @@ use native.Mathlib.Omega.{arith}
 use native.Mathlib.Numerals.{add-one}
 use lib.ListN.{length, length-append, getD, take, drop, drop-of-length-le}
 use lib.Seq.{drop-cons, getD-take, length-take-le}
-use Rattle.fields.specs.Bytes.{put}
 use Rattle.fields.specs.Lists.{any}
 use Rattle.pod.specs.Written.{operand-bytes, many-bytes}
 use Rattle.pod.specs.Descs.{desc-operand}
 use Rattle.pod.specs.declared.OperandDesc.{OperandDesc}
-use Rattle.buffer.proofs.Put.{put-put, put-nil, length-put}
+use Rattle.fields.specs.Bytes.{put}
+use Rattle.writer.proofs.Rest.{Rest, rest-room, rest-more, rest-none}
 use Rattle.writer.specs.Forms.{operands-bytes}
 
 module _ (p : List OperandDesc) (count i : ℕ) (three : length p ≡ 3) (h : count ≤ 3) where
@@ -65,39 +65,15 @@ module _ (p : List OperandDesc) (count i : ℕ) (three : length p ≡ 3) (h : co
   pub sum-none : (n w : ℕ) → count ≤ i → n + length (operands-bytes (drop i (take count p))) ≡ w → n ≡ w
   sum-none n w l q = let z = ap length (bytes-none l) in omega arith
 
--- the first i places were put, from `at` on over a, which gave b up to o: what is left to be put there makes it the whole
-pub record Left (p : List OperandDesc) (count i at : ℕ) (a : List ℕ) (o : ℕ) (b : List ℕ) : Type 0 where
-  pub far : o + length (operands-bytes (drop i (take count p))) ≡ at + length (operands-bytes (take count p))
-  pub same : length b ≡ length a
-  pub is : put o (operands-bytes (drop i (take count p))) b ≡ put at (operands-bytes (take count p)) a
+  -- one more place put
+  module _ {at o : ℕ} {a b : List ℕ} (r : Rest (operands-bytes (take count p)) at a (operands-bytes (drop i (take count p))) o b) where
+    module _ (e : OperandDesc) (l : i < count) (g : at + length (operands-bytes (take count p)) ≤ length a) where
+      pub left-room : o + length (operand-bytes (desc-operand (getD p i e))) ≤ length b
+      left-room = rest-room r (operand-bytes (desc-operand (getD p i e))) (operands-bytes (drop (i + 1) (take count p))) (more e l) g
 
-pub left-all : (p : List OperandDesc) (count at : ℕ) (a : List ℕ) → Left p count 0 at a at a
-left-all p count at a = record { far = refl; same = refl; is = refl }
+      pub left-more : {m : ℕ} {d : List ℕ} → m ≡ o + length (operand-bytes (desc-operand (getD p i e))) → d ≡ put o (operand-bytes (desc-operand (getD p i e))) b
+          → Rest (operands-bytes (take count p)) at a (operands-bytes (drop (i + 1) (take count p))) m d
+      left-more = rest-more r (operand-bytes (desc-operand (getD p i e))) (operands-bytes (drop (i + 1) (take count p))) (more e l) g
 
-module _ (p : List OperandDesc) (count i : ℕ) (three : length p ≡ 3) (h : count ≤ 3) {at o : ℕ} {a b : List ℕ} (r : Left p count i at a o b) where
-  module _ (e : OperandDesc) (l : i < count) (g : at + length (operands-bytes (take count p)) ≤ length a) where
-    pub left-room : o + length (operand-bytes (desc-operand (getD p i e))) ≤ length b
-    left-room = let s = size-more p count i three h e l in let f = r .far in let n = r .same in omega arith
-
-    pub left-more : {m : ℕ} {d : List ℕ} → m ≡ o + length (operand-bytes (desc-operand (getD p i e))) → d ≡ put o (operand-bytes (desc-operand (getD p i e))) b
-        → Left p count (i + 1) at a m d
-    left-more {m} {d} q w =
-        let x : List ℕ = operand-bytes (desc-operand (getD p i e)) in
-        let y : List ℕ = operands-bytes (drop (i + 1) (take count p)) in
-        let s = size-more p count i three h e l in
-        let f = r .far in
-        let n = r .same in
-        record {
-          far = omega arith;
-          same = ap length w ∙ length-put o x b left-room ∙ n;
-          is =
-              ap₂ (λ (k : ℕ) (z : List ℕ). put k y z) q w ∙ put-put o x y b (omega arith) ∙ ap (λ (z : List ℕ). put o z b) (sym (more p count i three h e l))
-              ∙ r .is;
-        }
-
-  module _ (l : count ≤ i) where
-    pub left-far : o ≡ at + length (operands-bytes (take count p))
-    left-far = sum-none p count i three h o _ l (r .far)
-
-    pub left-is : b ≡ put at (operands-bytes (take count p)) a
-    left-is = sym (ap (λ (z : List ℕ). put o z b) (bytes-none p count i three h l) ∙ put-nil o b) ∙ r .is
+    pub left-none : count ≤ i → (o ≡ at + length (operands-bytes (take count p))) × (b ≡ put at (operands-bytes (take count p)) a)
+    left-none l = rest-none r (bytes-none l)

@@ -37,14 +37,14 @@ module _ (v : InstructionDesc) where
         ap (λ (k : ℕ). name-bytes (v .op) ++ ((bytes 4 k ++ used-bytes) ++ tail-bytes v)) n
 
     -- the four parts, one after the other
-    pub laid-whole : (a : List ℕ) {b d e f : List ℕ} {k l m : ℕ} → k ≡ length (name-bytes (v .op)) → l ≡ k + 4 → m ≡ l + length used-bytes
-        → b ≡ put 0 (name-bytes (v .op)) a → d ≡ put k (bytes 4 (v .count)) b → e ≡ put l used-bytes d → f ≡ put m (tail-bytes v) e
-        → length (instruction-bytes (desc-instruction v)) ≤ length a → f ≡ put 0 (instruction-bytes (desc-instruction v)) a
-    laid-whole a {b} {d} {e} {f} {k} {l} {m} hk hl hm p q r t g =
+    pub whole-put : (a z : List ℕ)
+        → z ≡ put (length (name-bytes (v .op)) + 4 + length used-bytes) (tail-bytes v)
+        (put (length (name-bytes (v .op)) + 4) used-bytes (put (length (name-bytes (v .op))) (bytes 4 (v .count)) (put 0 (name-bytes (v .op)) a)))
+        → length (instruction-bytes (desc-instruction v)) ≤ length a → z ≡ put 0 (instruction-bytes (desc-instruction v)) a
+    whole-put a z q g =
         let s = size-whole in
         let n = size-name (v .op) in
-        let i : Laid a 0 (name-bytes (v .op)) k b = record { size = sym hk; is = λ _. p } in
-        let u : Laid d l used-bytes (length used-bytes) e = record { size = refl; is = λ _. r } in
-        let w : Laid e m (tail-bytes v) 21 f = record { size = size-tail; is = λ _. t } in
-        laid-then i (laid-then (laid-then (laid-field 4 (v .count) q) u hl) w (omega arith)) (omega arith) .is (omega arith)
+        let part : (x b : List ℕ) (at : ℕ) → Laid b at x (length x) (put at x b) = λ x b at. record { size = refl; is = λ _. refl } in
+        let w : Laid _ _ (tail-bytes v) 21 z = record { size = size-tail; is = λ _. q } in
+        laid-then (part _ _ _) (laid-then (laid-then (laid-field 4 (v .count) refl) (part _ _ _) (omega arith)) w (omega arith)) (omega arith) .is (omega arith)
         ∙ ap (λ (x : List ℕ). put 0 x a) (sym whole)

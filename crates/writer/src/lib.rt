@@ -10,7 +10,7 @@ ghost use Rattle.fields.specs.Bytes.{put};
 ghost use Rattle.fields.specs.Outcome.{refused};
 ghost use Rattle.fields.specs.Lists.{any};
 ghost use Rattle.pod.specs.Written.{register-bytes, immediate-bytes, operand-bytes, name-bytes, instruction-bytes};
-ghost use Rattle.pod.specs.Descs.{desc-operand, desc-instruction, writing, written-over};
+ghost use Rattle.pod.specs.Descs.{desc-operand, desc-instruction, write-instruction};
 ghost use Rattle.writer.specs.Answers.{write-answer};
 ghost use Rattle.writer.specs.Forms.{faulty, operands-bytes, tail-bytes};
 use pod::ImmediateDesc;
@@ -206,9 +206,9 @@ fn refusal(e: u8) -> Written
 // Writes the value at the image's start and touches no byte after. Every test comes before the first store, so that a refusal leaves the image
 // as it was.
 pub fn write_instruction(value: InstructionDesc, image: &mut [u8]) -> Written
-    ensures { λ r. ⌜ (r ≡ write-answer (writing (length (now (image .entry))) value)) × (now (image .exit) ≡ written-over (now (image .entry)) (writing (length (now (image .entry))) value)) ⌝ }
+    ensures { λ r. ⌜ (r ≡ write-answer (write-instruction (now (image .entry)) value .0)) × (now (image .exit) ≡ write-instruction (now (image .entry)) value .1) ⌝ }
 {
-    if fields::MOST_LENT < image.len() {
+    if !fields::is_lent(image.len()) {
         return refusal(fields::LENDING_TOO_LARGE);
     }
     if 48 < value.op {

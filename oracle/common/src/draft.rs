@@ -1,7 +1,7 @@
 //! A file under construction: its bytes, and where the fields are that faults are put into. It writes fields as they
 //! come, whether or not they make an accepted file, and leans on neither reader.
 
-use crate::ops::OPS;
+use crate::reference::ops;
 use crate::rng::Rng;
 
 #[derive(Clone, Copy, Debug, PartialEq, Eq)]
@@ -140,7 +140,7 @@ impl Draft {
     }
 
     pub fn instruction(&mut self, rng: &mut Rng) {
-        let (name, operands) = rng.pick(&OPS);
+        let (name, operands) = rng.pick(ops());
         self.operation(name.as_bytes(), operands);
         self.operands_and_rest(rng, operands);
     }

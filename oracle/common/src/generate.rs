@@ -3,7 +3,7 @@
 use crate::draft::{minimal_routine, Draft, Field, FieldAt, FOREIGN, MANY_BLOCKS, MIDDLING, SMALL};
 use crate::faults::{apply, change, foreign_id, places, Fault, FAULTS};
 use crate::names;
-use crate::ops::OPS;
+use crate::reference::ops;
 use crate::rng::Rng;
 
 #[derive(Clone, Copy, Debug, PartialEq, Eq)]
@@ -149,7 +149,7 @@ impl Generator {
     fn named(&mut self) -> Vec<Vec<u8>> {
         let name = self.names[self.next_name].clone();
         self.next_name = (self.next_name + 1) % self.names.len();
-        let listed = OPS.iter().find(|(listed, _)| listed.as_bytes() == name);
+        let listed = ops().iter().find(|(listed, _)| listed.as_bytes() == name);
         let due = listed.map_or(0, |(_, count)| *count);
         let count = self.rng.pick(&[due, due, 0, 1, 2, 3, 4, u32::MAX]);
 

@@ -2,7 +2,7 @@
 
 use crate::draft::{Draft, Field, MIDDLING, SMALL};
 use crate::faults::{apply, places, FAULTS};
-use crate::machine::Call;
+use crate::reference::Call;
 use crate::rng::Rng;
 
 pub struct List {

@@ -1,6 +1,6 @@
 //! Names of operations that are nearly, or exactly, what a reader takes.
 
-use crate::ops::OPS;
+use crate::reference::ops;
 
 /// Both sides of every boundary of table 3-7 of the Unicode Standard, at each byte of a sequence, whole and cut short.
 pub fn boundary_names() -> Vec<Vec<u8>> {
@@ -48,7 +48,7 @@ fn around(name: &str) -> Vec<Vec<u8>> {
 /// UTF-8 alone and inside ordinary text.
 pub fn all() -> Vec<Vec<u8>> {
     let mut names = vec![vec![], b"a".repeat(300), [b"a".repeat(300), vec![0xff]].concat()];
-    names.extend(OPS.iter().flat_map(|(name, _)| around(name)));
+    names.extend(ops().iter().flat_map(|(name, _)| around(name)));
     let boundary = boundary_names();
     names.extend(boundary.iter().step_by(7).map(|name| [b"mov".as_slice(), name, b"z"].concat()));
     names.extend(boundary);

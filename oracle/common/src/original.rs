@@ -1,6 +1,6 @@
 //! The Rust's answers. Its source is not touched: what it panics or aborts on is told apart here.
 
-use crate::reader::{
+use crate::reference::{
     Counted, Refusal, FOREIGN_REGISTER, UNKNOWN_MACHINE, UNKNOWN_OPERAND_KIND, UNKNOWN_OPERATION, WRONG_MARK,
     WRONG_OPERAND_COUNT,
 };
@@ -117,7 +117,7 @@ mod tests {
     use super::*;
     use crate::blocks::empty_blocks;
     use crate::draft::{minimal_routine, Draft, FOREIGN};
-    use crate::reader::read_file;
+    use crate::reference::{check, list_counts};
     use vtil_parser::{Op, Operand, RegisterFlags};
 
     #[test]
@@ -126,22 +126,21 @@ mod tests {
         let file = empty_blocks(&[0, 0]);
         assert_eq!(file.len(), 186);
         assert_eq!(ask(&file), Answer::RepeatedVip);
-        assert_eq!(read_file(&file).number(), -9);
+        assert_eq!(check(&file), Err(9));
     }
 
     #[test]
     fn a_huge_count_is_held_back() {
         let file = [&minimal_routine()[..16], &[0xff; 4]].concat();
-        let document = read_file(&file);
-        assert!(reserves_too_much(&document.counted));
-        assert_eq!(document.number(), -1);
+        assert!(reserves_too_much(&list_counts(&file)));
+        assert_eq!(check(&file), Err(1));
     }
 
     #[test]
     fn a_name_of_size_0_at_the_end_is_some_other_error() {
         let file = [Draft::up_to_an_instruction().bytes, vec![0; 4]].concat();
         assert_eq!(ask(&file), Answer::Other);
-        assert_eq!(read_file(&file).number(), -1);
+        assert_eq!(check(&file), Err(1));
     }
 
     #[test]

@@ -1,13 +1,13 @@
-//! Lists of calls: after every call the answer, the image and the journal beside the routine machine of document 01,
+//! Lists of calls: after every call the answer, the image and the journal beside the reference's routine machine,
 //! and the written bytes beside the Rust, which has create_block and remove_block of its own. Then the whole list again,
-//! in one call.
+//! in one call, and in two: from the opening to its middle, and on from there.
 
-use crate::report::{hex, number, shrink, Report};
+use crate::report::{hex, lengths, number, shrink, Report};
 use oracle::lists::{self, List};
-use oracle::machine::{Call, Machine, BLOCK_PRESENT, NO_SUCH_BLOCK};
-use oracle::reader::{read_file, Read};
+use oracle::reference::{Call, Machine, Refusal, BLOCK_PRESENT, NO_SUCH_BLOCK};
 use oracle::rng::Rng;
 use scroll::Pread;
+use std::collections::BTreeMap;
 use vtil::{Book, Lengths};
 use vtil_parser::{Instruction, Routine, Vip};
 
@@ -53,14 +53,6 @@ fn library_call(book: &mut Book<Vec<u8>>, call: &Call) -> Answer {
     (number(answer), book.lengths())
 }
 
-/// A refused call answers the book as it was handed in.
-fn due_answer(step: Read<oracle::machine::Lengths>, before: Lengths) -> Answer {
-    match step {
-        Err(refusal) => (refusal, before),
-        Ok(lengths) => (0, Lengths { written: lengths.written as u64, used: lengths.used as u64 }),
-    }
-}
-
 /// Keeps the edits that none has taken back.
 fn note(history: &mut Vec<Call>, call: &Call) {
     match call {
@@ -91,27 +83,29 @@ fn memory_for(list: &List) -> Book<Vec<u8>> {
     Book::resume(Lengths::default(), vec![0xa5; list.image_length], vec![0x5a; list.journal_length])
 }
 
+fn machine_for(list: &List) -> Machine {
+    Machine::start(&list.file, list.image_length, list.journal_length)
+}
+
 impl Run<'_> {
     fn start(list: &List) -> Run<'_> {
-        let (routine, _) = read_file(&list.file).answer.expect("lists start from accepted files");
         let mut book = memory_for(list);
         book.reopen(&list.file).expect("lists have room for their files");
-        let machine = Machine::new(routine, list.image_length, list.journal_length);
+        let machine = machine_for(list);
         let last = (0, book.lengths());
         Run { list, machine, history: vec![], book, last }
     }
 
     fn difference_after(&mut self, call: &Call) -> Option<String> {
         let step = self.machine.step(call);
-        if let Err(BLOCK_PRESENT | NO_SUCH_BLOCK) = step {
-            if !rust_refuses(&self.list.file, &self.history, call) {
+        match step.refusal {
+            BLOCK_PRESENT | NO_SUCH_BLOCK if !rust_refuses(&self.list.file, &self.history, call) => {
                 return Some("document 01 refuses what the Rust does".to_string());
             }
+            0 => note(&mut self.history, call),
+            _ => {}
         }
-        if step.is_ok() {
-            note(&mut self.history, call);
-        }
-        let due = due_answer(step, self.book.lengths());
+        let due = (step.refusal, lengths(step.book));
         let got = library_call(&mut self.book, call);
         if got != due {
             return Some(format!("library {got:?}, document 01 {due:?}"));
@@ -144,16 +138,26 @@ fn as_library_call(call: &Call) -> vtil::Call<'_> {
     }
 }
 
-/// The list in one call has to leave what its calls left one by one.
+/// The list in one call, or in one for each half, has to leave what its calls left one by one.
 fn difference_at_once(run: &Run) -> Option<String> {
-    let mut book = memory_for(run.list);
     let calls: Vec<vtil::Call> = run.list.calls.iter().map(as_library_call).collect();
-    let got = (number(book.run(&run.list.file, &calls)), book.lengths());
+    let (first, second) = calls.split_at(calls.len() / 2);
+    let file = &run.list.file;
+    let mut whole = memory_for(run.list);
+    let last = whole.run(file, &calls).expect("lists have room for their files");
+    let mut halves = memory_for(run.list);
+    let first = halves.run(file, first).expect("lists have room for their files");
+    let second = if second.is_empty() { first } else { halves.run_on(second) };
+    difference_of(run, "at once", &whole, last).or_else(|| difference_of(run, "in halves", &halves, second))
+}
+
+fn difference_of(run: &Run, way: &str, book: &Book<Vec<u8>>, last: vtil::Last) -> Option<String> {
+    let got = (number(last), book.lengths());
     if got != run.last {
-        return Some(format!("at once {got:?}, one by one {:?}", run.last));
+        return Some(format!("{way} {got:?}, one by one {:?}", run.last));
     }
     if (book.image(), book.journal()) != (run.book.image(), run.book.journal()) {
-        return Some("at once another image or journal than one by one".to_string());
+        return Some(format!("{way} another image or journal than one by one"));
     }
     None
 }
@@ -176,23 +180,24 @@ fn describe(list: &List) -> String {
     format!("list: {text}: image {image}, journal {journal}, calls {calls:?}, file {file}")
 }
 
-/// How often the machine accepted, and how often it refused with each number.
+/// How often the machine gave each answer: 0 where it accepted, else the refusal.
 #[derive(Default)]
-struct Answers([usize; 18]);
+struct Answers(BTreeMap<Refusal, usize>);
 
 impl Answers {
     fn count(&mut self, list: &List) {
-        let (routine, _) = read_file(&list.file).answer.expect("lists start from accepted files");
-        let mut machine = Machine::new(routine, list.image_length, list.journal_length);
+        let mut machine = machine_for(list);
         for call in &list.calls {
-            let refusal = machine.step(call).err().unwrap_or(0);
-            self.0[refusal as usize] += 1;
+            *self.0.entry(machine.step(call).refusal).or_default() += 1;
         }
     }
 
     fn print(&self) {
-        let counts: Vec<String> = (1..18).filter(|&i| self.0[i] > 0).map(|i| format!("{i}: {}", self.0[i])).collect();
-        println!("calls {}, accepted {}, refused {}", self.0.iter().sum::<usize>(), self.0[0], counts.join(", "));
+        let calls: usize = self.0.values().sum();
+        let accepted = self.0.get(&0).unwrap_or(&0);
+        let refused = self.0.iter().filter(|(&refusal, _)| refusal != 0);
+        let refused: Vec<String> = refused.map(|(refusal, count)| format!("{refusal}: {count}")).collect();
+        println!("calls {calls}, accepted {accepted}, refused {}", refused.join(", "));
     }
 }
 

@@ -1,63 +1,56 @@
-//! Files: the library's check, document 01 and the Rust, each asked about the same bytes.
+//! Files: the library's check, the reference and the Rust, each asked about the same bytes.
 
 use crate::aborts::Aborts;
 use crate::opens;
 use crate::report::{hex, shrink, Report};
 use oracle::generate::{Class, Generator, CLASSES};
 use oracle::original::{self, Answer};
-use oracle::reader::{read_file, Document, NAME_NOT_TEXT, REPEATED_BLOCK, SHORT_FILE};
+use oracle::reference::{self, Refusal, NAME_NOT_TEXT, REPEATED_BLOCK, SHORT_FILE};
 
 pub enum Verdict {
     Same,
     /// The Rust panics, the library refuses 9.
     RepeatedVip,
-    /// The Rust would abort and was not asked; the library answers as document 01 says.
+    /// The Rust would abort and was not asked; the library answers as docs/SPEC.md says.
     HugeCount,
     Different(String),
 }
 
-/// The Rust's answer beside document 01's.
-fn beside_the_rust(file: &[u8], document: &Document) -> Verdict {
+/// The Rust's answer beside the reference's.
+fn beside_the_rust(file: &[u8], due: Result<usize, Refusal>) -> Verdict {
     let answer = original::ask(file);
-    let is_same = match (&answer, &document.answer) {
-        (Answer::Accepted { consumed, written }, Ok((routine, length))) => {
-            consumed == length && *written == routine.written()
+    let is_same = match (&answer, due) {
+        (Answer::Accepted { consumed, written }, Ok(length)) => {
+            *consumed == length && *written == reference::written(file, length)
         }
-        (Answer::Refused(rust), Err(refusal)) => rust == refusal,
-        (Answer::Other, Err(refusal)) => [SHORT_FILE, NAME_NOT_TEXT].contains(refusal),
+        (Answer::Refused(rust), Err(refusal)) => *rust == refusal,
+        (Answer::Other, Err(refusal)) => [SHORT_FILE, NAME_NOT_TEXT].contains(&refusal),
         (Answer::RepeatedVip, Err(REPEATED_BLOCK)) => return Verdict::RepeatedVip,
         _ => false,
     };
     if is_same {
         return Verdict::Same;
     }
-    Verdict::Different(format!("document 01 {}, Rust {answer:?}", document.number()))
+    Verdict::Different(format!("document 01 {due:?}, Rust {answer:?}"))
 }
 
-/// The consumed length, or minus the refusal.
-fn library_checks(file: &[u8]) -> i64 {
-    match vtil::check(file) {
-        Ok(consumed) => consumed as i64,
-        Err(refusal) => -(refusal.number() as i64),
+pub fn judge(file: &[u8]) -> Verdict {
+    let due = reference::check(file);
+    let library = vtil::check(file).map_err(vtil::Refusal::number);
+    if library != due {
+        return Verdict::Different(format!("library {library:?}, document 01 {due:?}"));
     }
-}
-
-pub fn judge(file: &[u8], document: &Document) -> Verdict {
-    let library = library_checks(file);
-    if library != document.number() {
-        return Verdict::Different(format!("library {library}, document 01 {}", document.number()));
-    }
-    if let Some(text) = opens::difference(file, document) {
+    if let Some(text) = opens::difference(file, due) {
         return Verdict::Different(text);
     }
-    if original::reserves_too_much(&document.counted) {
+    if original::reserves_too_much(&reference::list_counts(file)) {
         return Verdict::HugeCount;
     }
-    beside_the_rust(file, document)
+    beside_the_rust(file, due)
 }
 
 fn is_different(file: &[u8]) -> bool {
-    matches!(judge(file, &read_file(file)), Verdict::Different(_))
+    matches!(judge(file), Verdict::Different(_))
 }
 
 /// Puts 0 for every byte that the difference does not need.
@@ -86,7 +79,7 @@ fn smallest(file: &[u8]) -> Vec<u8> {
 
 fn describe(class: Class, file: &[u8]) -> String {
     let small = smallest(file);
-    let Verdict::Different(text) = judge(&small, &read_file(&small)) else {
+    let Verdict::Different(text) = judge(&small) else {
         unreachable!("shrinking keeps the difference");
     };
     format!("{class:?}: {text}: {}", hex(&small))
@@ -121,10 +114,9 @@ const HEADING: &str = "class          files accepted        1        2        3 
                        7        8        9  9 by panic  huge count";
 
 fn one(class: Class, file: &[u8], tally: &mut Tally, aborts: &mut Aborts, report: &mut Report) {
-    let document = read_file(file);
     tally.files += 1;
-    tally.answers[document.number().min(0).unsigned_abs() as usize] += 1;
-    match judge(file, &document) {
+    tally.answers[reference::check(file).err().unwrap_or(0) as usize] += 1;
+    match judge(file) {
         Verdict::Same => {}
         Verdict::RepeatedVip => tally.repeated_vip += 1,
         Verdict::HugeCount => {

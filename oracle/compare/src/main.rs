@@ -1,4 +1,4 @@
-//! Compares the library with the Rust and with a plain reading of document 01, on files and lists of calls from a seed.
+//! Compares the library with the Rust and with the reference, on files and lists of calls from a seed.
 //! The exit status is 0 where nothing differs, 1 where something does, 2 on a bad command line.
 
 mod aborts;

@@ -1,12 +1,9 @@
-//! Opening: the book, the image and the journal beside document 01, whose written form is held to the Rust's elsewhere.
+//! Opening: the book, the image and the journal beside the reference, whose written form is held to the Rust's elsewhere.
 
-use crate::report::{number, Report};
+use crate::report::{lengths, number, Report};
 use oracle::draft::minimal_routine;
-use oracle::machine::IMAGE_FULL;
-use oracle::reader::{read_file, Document, Refusal};
+use oracle::reference::{self, Refusal};
 use vtil::{Book, Lengths, MOST_LENT};
-
-const LENDING_TOO_LARGE: Refusal = 10;
 
 /// What the lent memory holds before the opening, to see what it touches.
 const IMAGE_BEFORE: u8 = 0xa5;
@@ -24,38 +21,15 @@ struct Opened {
     journal: Vec<u8>,
 }
 
-fn refused(refusal: Refusal, image_length: usize, journal_length: usize) -> Opened {
-    Opened {
-        refusal,
-        lengths: Lengths::default(),
-        image: vec![IMAGE_BEFORE; image_length],
-        journal: vec![JOURNAL_BEFORE; journal_length],
-    }
+/// What the reference says.
+fn due(file: &[u8], image_length: usize, journal_length: usize) -> Opened {
+    let mut image = vec![IMAGE_BEFORE; image_length];
+    let mut journal = vec![JOURNAL_BEFORE; journal_length];
+    let answer = reference::open(file, &mut image, &mut journal);
+    Opened { refusal: answer.refusal, lengths: lengths(answer.book), image, journal }
 }
 
-/// By document 01: 10, then 1 to 9, then 11.
-fn expected(document: &Document, image_length: usize, journal_length: usize) -> Opened {
-    if image_length > MOST_LENT || journal_length > MOST_LENT {
-        return refused(LENDING_TOO_LARGE, image_length, journal_length);
-    }
-    let routine = match &document.answer {
-        Ok((routine, _)) => routine,
-        Err(refusal) => return refused(*refusal, image_length, journal_length),
-    };
-    let mut image = routine.written();
-    let written = image.len();
-    if written > image_length {
-        return refused(IMAGE_FULL, image_length, journal_length);
-    }
-    image.resize(image_length, 0);
-    Opened {
-        refusal: 0,
-        lengths: Lengths { written: written as u64, used: 0 },
-        image,
-        journal: vec![0; journal_length],
-    }
-}
-
+/// What the library does.
 fn opened(file: &[u8], image_length: usize, journal_length: usize) -> Opened {
     let mut image = vec![IMAGE_BEFORE; image_length];
     let mut journal = vec![JOURNAL_BEFORE; journal_length];
@@ -64,8 +38,8 @@ fn opened(file: &[u8], image_length: usize, journal_length: usize) -> Opened {
     Opened { refusal, lengths: book.lengths(), image, journal }
 }
 
-fn difference_at(file: &[u8], document: &Document, image_length: usize, journal_length: usize) -> Option<String> {
-    let due = expected(document, image_length, journal_length);
+fn difference_at(file: &[u8], image_length: usize, journal_length: usize) -> Option<String> {
+    let due = due(file, image_length, journal_length);
     let got = opened(file, image_length, journal_length);
     if got == due {
         return None;
@@ -81,22 +55,18 @@ fn difference_at(file: &[u8], document: &Document, image_length: usize, journal_
 }
 
 /// Opens the file with just enough room, with more, and with one byte too few.
-pub fn difference(file: &[u8], document: &Document) -> Option<String> {
-    let size = match &document.answer {
-        Ok((_, consumed)) => *consumed,
-        Err(_) => file.len(),
-    };
+pub fn difference(file: &[u8], consumed: Result<usize, Refusal>) -> Option<String> {
+    let size = consumed.unwrap_or(file.len());
     let lendings = [(size, 0), (size + 50, 30), (size.saturating_sub(1), 20)];
-    lendings.iter().find_map(|&(image, journal)| difference_at(file, document, image, journal))
+    lendings.iter().find_map(|&(image, journal)| difference_at(file, image, journal))
 }
 
 /// The limit on what is lent, beside an accepted file and a refused one.
 pub fn limits(report: &mut Report) {
     const OVER: usize = MOST_LENT + 1;
     for file in [minimal_routine(), vec![]] {
-        let document = read_file(&file);
         for (image, journal) in [(MOST_LENT, 20), (OVER, 20), (200, MOST_LENT), (200, OVER), (OVER, OVER)] {
-            if let Some(text) = difference_at(&file, &document, image, journal) {
+            if let Some(text) = difference_at(&file, image, journal) {
                 report.difference(|| text);
             }
         }

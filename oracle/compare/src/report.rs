@@ -7,9 +7,14 @@ pub struct Report {
     pub differences: usize,
 }
 
-/// A call's answer as document 01 numbers it: 0 where it is accepted.
+/// A call's answer as docs/SPEC.md numbers it: 0 where it is accepted.
 pub fn number(answer: Result<(), vtil::Refusal>) -> u64 {
     answer.err().map_or(0, vtil::Refusal::number)
+}
+
+/// The reference's book as the library's crate has it.
+pub fn lengths(book: oracle::reference::Book) -> vtil::Lengths {
+    vtil::Lengths { written: book.written, used: book.used }
 }
 
 pub fn hex(bytes: &[u8]) -> String {

@@ -1,82 +1,195 @@
--- `append::append` meets its contract: each answer is one law of appending, with what `instruction_skip` tells of the bytes.
+-- `append::append` meets its contract: each answer is one law of an edit's step, with what `refusal_of_bytes` tells of the bytes, `find` of the routine
+-- held, and with what appending makes of it.
 -- Assumes nothing.
 use mathlib.Core.Path.{_≡_, sym, ap, _∙_}
-use mathlib.Core.Bool.{false}
-use Rattle.fields.specs.Parse.{ok, no, span}
-use Rattle.fields.specs.Answers.{of-skip}
-use Rattle.pod.specs.Layout.{instruction}
+use native.Mathlib.Omega.{arith}
+use Prim.Native.Nat.{ℕ, _+_, _≤_, _<_}
+use lib.ListN.{length}
+use Rattle.fields.specs.Bytes.{put, Bytes}
+use Rattle.fields.specs.Outcome.{accepted}
+use Rattle.pod.specs.Values.{Routine}
+use Rattle.machine.specs.Edits.{Edit, append, edited, place, size}
+use Rattle.machine.specs.Trailer.{trailer-with, trailer-bytes}
+use Rattle.machine.specs.Journal.{entry}
 use Rattle.machine.specs.Book.{State}
 use Rattle.book.specs.Says.{state}
-use Rattle.append.proofs.Appends as A
-use Rattle.fields.proofs.Steps.{handed}
-use Rattle.fields.specs.Lists.{choose}
+use Rattle.book.proofs.Answers.{refused-by, admits}
+use Rattle.book.proofs.Steps.{refused-step, not-admitted-step, admitted-step}
+use Rattle.image.specs.Places.{Finds}
+use Rattle.image.proofs.Inspects.{sound-holding}
+use Rattle.image.proofs.Fills.{sound-filled}
+use Rattle.append.specs.Whole.{Whole}
+use Rattle.append.specs.Target.{Target, with-one}
+use Rattle.append.proofs.Appends.{is-whole, sized, one-size, not-one, no-block, appends, entry-is, append-costs}
 use borrow.Author.Needs.{needs}
 use Rattle.append.proofs.append.Statement.{statement}
 use Rattle.append.proofs.append.Tie as tie
 
-abbrev S : tie.Start → State
-S s = state (s .args .image .now) (s .args .journal .now) (s .args .book)
+-- The way through the code, each place from the next.
+abbrev start : tie.After-refusal-of-bytes → tie.Start
+start c = c .before .before .before .before
 
--- what the skip told
-refused-with : (c : tie.After-skip-refusal) → no (c .skip-refusal .result) ≡ span (instruction false (c .before .before .before .before .before .before .before .args .instruction .now) 0)
-refused-with c = handed (ap of-skip (c .before .enum-told .given .1)) (c .before .before .before .instruction-skip .ensures) (c .skip-refusal .ensures)
+abbrev reading : tie.Else1 → tie.After-refusal-of-bytes
+reading c = c .before
 
-read-to : (c : tie.After-far) → ok tt (c .far .given .0 .0) ≡ span (instruction false (c .before .before .before .before .before .before .args .instruction .now) 0)
-read-to c = sym (ap of-skip (c .far .given .1)) ∙ c .before .before .instruction-skip .ensures
+abbrev passing : tie.After-find → tie.Else1
+passing c = c .before .before
 
-instruction-skip-requires : tie.Need-instruction-skip-requires
-instruction-skip-requires c κs = search needs
+abbrev finding : tie.Else2 → tie.After-find
+finding c = c .before .before
 
-enum-known-far : tie.Need-enum-known-far
-enum-known-far c = search needs
+abbrev testing : tie.After-admit → tie.Else2
+testing c = c .before
+
+abbrev admitting : tie.After-insert-instruction-arg → tie.After-admit
+admitting c = c .before .before
+
+abbrev inserting : tie.After-put-trailer-arg → tie.After-insert-instruction
+inserting c = c .before .before .before
+
+abbrev noting : tie.After-accept → tie.After-put-trailer
+noting c = c .before .before .before
+
+-- What is known at them. At the start: the state, the routine that it holds, the place of the vip, and the edit.
+module _ (s : tie.Start) where
+  abbrev S : State
+  S = state (s .args .image .now) (s .args .journal .now) (s .args .book)
+
+  abbrev R : Routine
+  R = s .pre .r
+
+  abbrev I : ℕ
+  I = place (s .args .vip .0) (R .explored-blocks)
+
+  abbrev E : Edit
+  E = append (s .args .vip .0) (s .args .instruction .now)
+
+octets : (c : tie.After-refusal-of-bytes) → Bytes (start c .args .instruction .now)
+octets c = c .before .shared-slice-known .given
+
+-- the bytes are an instruction
+whole : (c : tie.Else1) → Whole (start (reading c) .args .instruction .now)
+whole c = let b = reading c in is-whole _ (octets b) (sym (b .refusal-of-bytes .ensures) ∙ c .if1 .left)
+
+abbrev at-find : tie.After-find → tie.Start
+at-find c = start (reading (passing c))
+
+finds : (c : tie.After-find) → Finds (R (at-find c)) (at-find c .args .vip .0) (c .find .result)
+finds c = let s = at-find c in c .find .ensures (R s) (sound-holding (s .pre .sound))
+
+-- the block is there
+abbrev at-block : tie.Else2 → tie.Start
+at-block c = at-find (finding c)
+
+there : (c : tie.Else2) → I (at-block c) < length (R (at-block c) .explored-blocks)
+there c = let f = finds (finding c) in omega (arith, c .if2 .left, f .place, f .count)
+
+target : (c : tie.Else2) → Target (at-block c .args .image .now) (at-block c .args .book .written) (finding c .find .result .at) (R (at-block c)) (I (at-block c))
+target c = record { filled = sound-filled (at-block c .pre .sound); there = there c; begins = finds (finding c) .at }
+
+-- after the edit's own tests: what it makes of the routine, and what is written and used then
+module _ (c : tie.After-admit) where
+  abbrev s : tie.Start
+  s = at-block (testing c)
+
+  abbrev Y : Whole (s .args .instruction .now)
+  Y = whole (passing (finding (testing c)))
+
+  abbrev R′ : Routine
+  R′ = with-one (R s) (I s) (Y .x)
+
+  made : edited (E s) (R s) ≡ accepted R′
+  made = appends (R s) (s .args .vip .0) (s .args .instruction .now) Y (there (testing c))
+
+  grown : s .args .book .written + length (s .args .instruction .now) ≡ size R′
+  grown = omega (arith, one-size (target (testing c)) (Y .x), sized (octets (reading (passing (finding (testing c))))) Y)
+
+  spent : s .args .book .used + 20 ≡ s .args .book .used + length (entry (E s) (R s))
+  spent = omega (arith, append-costs (R s) (s .args .vip .0) (s .args .instruction .now) Y)
+
+-- after 11 and 12: there is room
+module _ (c : tie.After-insert-instruction-arg) where
+  abbrev t : tie.Start
+  t = s (admitting c)
+
+  admitted : admitting c .admit .result ≡ 0
+  admitted = c .before .if3 .left
+
+  room : (t .args .book .written + length (t .args .instruction .now) ≤ length (t .args .image .now)) × (t .args .book .used + 20 ≤ length (t .args .journal .now))
+  room = admits _ _ _ (sym (admitting c .admit .ensures) ∙ admitted)
 
 returns : tie.Need-returns
-unfolding choose
 returns c =
-    let s = (c .before .before .before .before .before .before .before .before) in
-    A.append-leftover (S s) (s .pre .r) (s .pre .sound) (s .args .vip .0) (s .args .instruction .now) _ (read-to (c .before .before)) (c .if1 .taken)
-
-append-whole-requires : tie.Need-append-whole-requires
-append-whole-requires c κs =
-    let s = (c .before .before .before .before .before .before .before .before .before .before) in
-    let b = c .before .before .before .before .before .before .before .shared-slice-known .given in
-    (s .pre, A.all-read (S s) (s .pre .r) (s .pre .sound) (s .args .vip .0) (s .args .instruction .now) b _ (read-to (c .before .before .before .before)) (c .before .before .if1 .left))
-
-enum-told : tie.Need-enum-told
-enum-told c = search needs
-
-skip-refusal-requires : tie.Need-skip-refusal-requires
-skip-refusal-requires c κs = search needs
-
-cast-t16 : tie.Need-cast-t16
-cast-t16 c = search needs
-
-same-length : tie.Need-same-length
-same-length c = search needs
-
-same-length-2 : tie.Need-same-length-2
-same-length-2 c = search needs
+    let b = c .before .before in
+    let s = start b in
+    let z = c .before .if1 .taken in
+    c .refuse .ensures _ _ (omega arith)
+    ∙ sym (refused-step (S s) (R s) (s .pre .sound) (E s) _ (not-one (R s) _ _ (refused-by _ (b .refusal-of-bytes .ensures) z)))
 
 returns-2 : tie.Need-returns-2
-returns-2 c = search needs
+returns-2 c =
+    let g = c .before .before .before in
+    let s = at-find g in
+    let f = finds g in
+    c .refuse2 .ensures _ _ (omega arith)
+    ∙ sym (refused-step (S s) (R s) (s .pre .sound) (E s) _ (no-block (R s) _ _ (whole (passing g)) (omega (arith, c .before .if2 .taken, f .place, f .count))))
 
 returns-3 : tie.Need-returns-3
 returns-3 c =
-    let s = (c .before .before .before .before .before .before .before) in
-    A.append-unread (S s) (s .pre .r) (s .pre .sound) (s .args .vip .0) (s .args .instruction .now) _ _ (refused-with c)
+    let a = c .before .before in
+    let s = s a in
+    c .refuse3 .ensures _ _ (omega arith)
+    ∙ not-admitted-step (S s) (R s) (s .pre .sound) (E s) (R′ a) (made a) (grown a) (spent a) (a .admit .ensures) (c .before .if3 .taken)
+
+insert-instruction-requires : tie.Need-insert-instruction-requires
+insert-instruction-requires c κs =
+    let e = testing (admitting c) in
+    (record { x = R (t c); i = I (t c); target = target e }, (whole (passing (finding e)), room c .0))
+
+cast-put-trailer-2 : tie.Need-cast-put-trailer-2
+cast-put-trailer-2 c = let i = inserting c .before in omega (arith, room i .0, t i .pre .sound .image-lent)
+
+put-trailer-requires : tie.Need-put-trailer-requires
+put-trailer-requires c κs = room (inserting c .before) .1
+
+returns-4 : tie.Need-returns-4
+returns-4 c =
+    let p = noting c in
+    let n = inserting (p .before) in
+    let i = n .before in
+    let a = admitting i in
+    let s = s a in
+    let v = s .args .vip .0 in
+    c .accept .ensures _ _
+    ∙ admitted-step (S s) (R s) (s .pre .sound) (E s) (R′ a) (made a) (grown a) (spent a) (a .admit .ensures) (admitted i)
+    (n .insert-instruction .ensures (R s) (I s) (Y a) (target (testing a)))
+    (p .put-trailer .ensures
+    ∙ ap (λ j. put (s .args .book .used) (trailer-bytes (trailer-with v j (length (s .args .instruction .now)) 3)) (s .args .journal .now)) (finds (finding (testing a)) .place)
+    ∙ ap (λ l. put (s .args .book .used) l (s .args .journal .now)) (sym (entry-is (R s) v (s .args .instruction .now) (Y a))))
 
 pub append-spec : {M : Type 1} → statement M
 append-spec =
     tie.close
     (tie.spec
-    instruction-skip-requires
-    enum-known-far
+    (λ c κs. search needs)
+    (λ c κs. search needs)
     returns
-    append-whole-requires
-    enum-told
-    skip-refusal-requires
-    cast-t16
-    same-length
-    same-length-2
+    (λ c κs. search needs)
+    (λ c. search needs)
+    (λ c κs. search needs)
+    (λ c. search needs)
     returns-2
-    returns-3)
+    (λ c. search needs)
+    (λ c. search needs)
+    (λ c κs. search needs)
+    (λ c κs. search needs)
+    (λ c. search needs)
+    returns-3
+    insert-instruction-requires
+    (λ c. search needs)
+    cast-put-trailer-2
+    put-trailer-requires
+    (λ c κs. search needs)
+    (λ c. search needs)
+    (λ c. search needs)
+    returns-4)

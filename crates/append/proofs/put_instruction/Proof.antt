@@ -1,52 +1,45 @@
--- `append::put_instruction` meets its contract: a last byte of 0 stays, and over any other 1 is stored.
+-- `append::put_instruction` meets its contract: over the last byte its written form is stored.
 -- Assumes nothing.
-use mathlib.Core.Path.{ap, _∙_}
-use Rattle.fields.specs.Bytes.{put}
-use Rattle.append.proofs.Flags.{flag-off, flag-on}
-use lib.ListN.{length}
+use mathlib.Core.Path.{ap₂, _∙_}
 use Prim.Native.Nat.{_+_, _-_}
+use lib.ListN.{length}
+use Rattle.fields.specs.Bytes.{put}
 use Rattle.pod.specs.Written.{bytes}
+use Rattle.append.proofs.Flags.{flag-stored}
 use borrow.Author.Needs.{needs}
 use Rattle.append.proofs.put_instruction.Statement.{statement}
 use Rattle.append.proofs.put_instruction.Tie as tie
 
-sub-last : tie.Need-sub-last
-sub-last c = search needs
+-- The way through the code, each place from the next.
+abbrev start : tie.After-copy-at → tie.Start
+start c = c .before .before .before .before
 
-copy-at-requires : tie.Need-copy-at-requires
-copy-at-requires c κs = search needs
+abbrev copying : tie.After-flag-bit → tie.After-copy-at
+copying c = c .before .before .before .before
 
-shared-slice-read-if1 : tie.Need-shared-slice-read-if1
-shared-slice-read-if1 c = search needs
-
-same-length : tie.Need-same-length
-same-length c = search needs
+abbrev writing : tie.After-put-u8 → tie.After-flag-bit
+writing c = c .before .before
 
 returns : tie.Need-returns
-returns c = let a = c .before .before .before .before .before .before .before .before .args in c .before .before .before .before .copy-at .ensures ∙ ap (λ t. put (a .at) t (a .image .now)) (flag-off (a .instruction .now) (c .before .before .before .before .before .before .before .before .pre .0) (c .if1 .taken))
-
-add-put-u8 : tie.Need-add-put-u8
-add-put-u8 c = search needs
-
-put-u8-requires : tie.Need-put-u8-requires
-put-u8-requires c κs = search needs
-
-same-length-2 : tie.Need-same-length-2
-same-length-2 c = search needs
-
-returns-2 : tie.Need-returns-2
-returns-2 c = let a = c .before .before .before .before .before .before .before .before .before .before .before .before .args in c .before .before .put-u8 .ensures ∙ ap (put (a .at + (length (a .instruction .now) - 1)) (bytes 1 1)) (c .before .before .before .before .before .before .before .before .copy-at .ensures) ∙ flag-on (a .instruction .now) (c .before .before .before .before .before .before .before .before .before .before .before .before .pre .0) (c .before .before .before .before .if1 .left) (a .at) (a .image .now) (c .before .before .before .before .before .before .before .before .before .before .before .before .pre .1)
+returns c =
+    let u = c .before .before in
+    let w = writing u in
+    let p = copying w in
+    let s = start p in
+    let a = s .args in
+    u .put-u8 .ensures
+    ∙ ap₂ (λ f b. put (a .at + (length (a .instruction .now) - 1)) (bytes 1 f) b) (w .flag-bit .ensures) (p .copy-at .ensures)
+    ∙ flag-stored (a .instruction .now) (s .pre .0) (a .at) (a .image .now) (s .pre .1)
 
 pub put-instruction-spec : {M : Type 1} → statement M
 put-instruction-spec =
     tie.close
     (tie.spec
-    sub-last
-    copy-at-requires
-    shared-slice-read-if1
-    same-length
-    returns
-    add-put-u8
-    put-u8-requires
-    same-length-2
-    returns-2)
+    (λ c. search needs)
+    (λ c κs. search needs)
+    (λ c. search needs)
+    (λ c κs. search needs)
+    (λ c. search needs)
+    (λ c κs. search needs)
+    (λ c. search needs)
+    returns)

@@ -1,56 +1,53 @@
--- A list of instructions passed over: its count, and then the run.
-use Rattle.fields.proofs.Chain.{far-past, far-refused}
-use Rattle.fields.proofs.Steps.{skips}
+-- A list of instructions walked over: its count, and then the run.
+use mathlib.Core.Path.{refl, ap}
+use Rattle.fields.specs.Answers.{of-skip}
+use Rattle.fields.proofs.Chain.{far-past}
+use Rattle.fields.proofs.Steps.{off, on-u32, off-u32}
+use Rattle.pod.specs.Layout.{instruction}
+use Rattle.pod.specs.Written.{instruction-bytes}
+use Rattle.laws.proofs.Layouts.{instruction-layout}
+use Rattle.laws.proofs.Walks.{fills, walked-counted}
 use borrow.Author.Needs.{needs}
 use Rattle.block.proofs.then_instructions.Statement.{statement}
 use Rattle.block.proofs.then_instructions.Tie as tie
-use Rattle.block.proofs.then_instructions.Reads as reads
-use Rattle.block.proofs.then_instructions.Lts as lts
-use Rattle.block.proofs.instructions_run.Reads as instructions-run-reads
-use Rattle.fields.proofs.u32_at.Reads as u32-at-reads
-use Rattle.fields.proofs.u32_refusal.Reads as u32-refusal-reads
 
-enum-known-far : tie.Need-enum-known-far
-enum-known-far c = search needs
+abbrev so-far : tie.After-u32-at → tie.After-far
+so-far c = c .before .before
 
-u32-at-requires : tie.Need-u32-at-requires
-u32-at-requires c κs = search needs
-
-enum-known-count : tie.Need-enum-known-count
-enum-known-count c = search needs
-
-instructions-run-requires : tie.Need-instructions-run-requires
-instructions-run-requires c κs = search needs
-
-enum-told : tie.Need-enum-told
-enum-told c = search needs
-
-u32-refusal-requires : tie.Need-u32-refusal-requires
-u32-refusal-requires c κs = search needs
-
-enum-told-2 : tie.Need-enum-told-2
-enum-told-2 c = search needs
+abbrev known : tie.After-u32-at → tie.After-shared-slice-known
+known c = so-far c .before .before
 
 returns : tie.Need-returns
-returns c = search (needs, skips, far-past)
+returns c =
+    let count = c .before .before in
+    let call = count .before .before in
+    let b = known call .shared-slice-known .given in
+    far-past _ (so-far call .far .given .1)
+    (rw (walked-counted instruction instruction-bytes (fills instruction-layout b) b) (on-u32 _ (count .count .given .1) (call .u32-at .ensures) (c .instructions-run .ensures)))
 
 returns-2 : tie.Need-returns-2
-returns-2 c = search (needs, skips, far-past)
+returns-2 c =
+    let told = c .before in
+    let call = told .before .before in
+    let b = known call .shared-slice-known .given in
+    far-past _ (so-far call .far .given .1)
+    (rw (walked-counted instruction instruction-bytes (fills instruction-layout b) b) (off-u32 _ (told .enum-told .given .1) (call .u32-at .ensures) (c .u32-refusal .ensures)))
 
 returns-3 : tie.Need-returns-3
-returns-3 c = search (needs, far-refused)
+returns-3 c = off _ (ap of-skip (c .before .enum-told2 .given .1)) refl (c .skip-refusal .ensures)
 
 pub then-instructions-spec : {M : Type 1} → statement M
 then-instructions-spec =
     tie.close
     (tie.spec
-    enum-known-far
-    u32-at-requires
-    enum-known-count
-    instructions-run-requires
-    enum-told
-    u32-refusal-requires
-    enum-told-2
+    (λ c. search needs)
+    (λ c κs. search needs)
+    (λ c. search needs)
+    (λ c κs. search needs)
+    (λ c. search needs)
+    (λ c κs. search needs)
+    (λ c. search needs)
+    (λ c κs. search needs)
     returns
     returns-2
     returns-3)

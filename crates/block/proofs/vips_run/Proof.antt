@@ -14,12 +14,6 @@ use Rattle.block.proofs.vips_run.Tie as tie
 returns : tie.Need-returns
 returns c = run-end u64 _ _ _ refl (omega arith)
 
-mul-size : tie.Need-mul-size
-mul-size c = search needs
-
-within-requires : tie.Need-within-requires
-within-requires c κs = search needs
-
 -- the bytes stand within
 fits : (c : tie.Then2) → (let a = c .before .before .before .before .args in a .at + 8 * a .count ≤ length (a .s .now))
 fits c = leb-true _ _ (sym (c .before .within .ensures) ∙ c .if2 .taken)
@@ -35,4 +29,4 @@ returns-3 c = run-short 8 _ _ _ (omega arith) (leb-false _ _ (sym (c .before .wi
 
 pub vips-run-spec : {M : Type 1} → statement M
 vips-run-spec =
-    tie.close (tie.spec returns mul-size within-requires add-t9 returns-2 returns-3)
+    tie.close (tie.spec returns (λ c. search needs) (λ c κs. search needs) add-t9 returns-2 returns-3)

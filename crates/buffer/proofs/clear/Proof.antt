@@ -5,6 +5,7 @@ use native.Mathlib.Omega.{arith}
 use lib.ListN.{length, length-set}
 use Rattle.fields.specs.Bytes.{put, zeros}
 use Rattle.buffer.proofs.Moves.{clear-more, clear-none}
+use borrow.Author.Needs.{needs}
 use Rattle.buffer.proofs.clear.Statement.{statement}
 use Rattle.buffer.proofs.clear.Tie as tie
 
@@ -15,41 +16,19 @@ abbrev μ-loop : tie.MeasureT-loop
 μ-loop a₀ from to i₀ a i = to - i
 
 loop-holds : tie.Need-loop-holds Inv-loop μ-loop
-loop-holds c = (omega arith, (c .pre .0, (refl, clear-none _ _)))
-
-slice-write-a : tie.Need-slice-write-a Inv-loop μ-loop
-slice-write-a c = omega arith
-
-add-i : tie.Need-add-i Inv-loop μ-loop
-add-i c = omega arith
-
-loop-less : tie.Need-loop-less Inv-loop μ-loop
-loop-less c = omega arith
+loop-holds c = (omega arith, (omega arith, (refl, clear-none _ _)))
 
 loop-again : tie.Need-loop-again Inv-loop μ-loop
 loop-again c =
-    let at = c .before in
-    (omega arith, (omega arith, (simp length-set (omega arith), clear-more _ _ _ _ (at .loop .inv .0) (omega arith) (at .loop .inv .1 .1 .1))))
-
-same-length : tie.Need-same-length Inv-loop μ-loop
-same-length c = omega arith
+    (omega arith, (omega arith, (simp length-set (omega arith), clear-more _ _ _ _ (c .before .loop .inv .1 .1 .1) (omega arith) (omega arith))))
 
 returns : tie.Need-returns Inv-loop μ-loop
 returns c =
-    let at = c .before in
-    let start = at .before in
-    at .loop .inv .1 .1 .1 ∙ ap (λ (k : ℕ). put (start .args .from) (zeros (k - start .args .from)) (start .args .a .now)) (omega arith)
+    let s : tie.Start Inv-loop μ-loop = c .before .before in
+    c .before .loop .inv .1 .1 .1 ∙ ap (λ (k : ℕ). put (s .args .from) (zeros (k - s .args .from)) (s .args .a .now)) (omega arith)
 
 pub clear-spec : {M : Type 1} → statement M
 clear-spec =
     tie.close
     (tie.spec
-    Inv-loop
-    μ-loop
-    loop-holds
-    slice-write-a
-    add-i
-    loop-less
-    loop-again
-    same-length
-    returns)
+    Inv-loop μ-loop loop-holds (λ c. search needs) (λ c. search needs) (λ c. search needs) loop-again (λ c. search needs) returns)

@@ -1,6 +1,6 @@
 -- The loop's invariant: the first i bytes are moved. Those that a turn reads stand past all that was put, so they are as they were.
 use Prim.Native.Nat.{_≤_, _-_}
-use mathlib.Core.Path.{_≡_, refl, sym, _∙_}
+use mathlib.Core.Path.{_≡_, refl, sym}
 use native.Mathlib.Omega.{arith}
 use lib.ListN.{length}
 use Rattle.buffer.proofs.Put.{put-nil}
@@ -18,78 +18,23 @@ abbrev μ-loop : tie.MeasureT-loop
 loop-holds : tie.Need-loop-holds Inv-loop μ-loop
 loop-holds c = (omega arith, (refl, (refl, sym (put-nil _ _))))
 
-sub-loop : tie.Need-sub-loop Inv-loop μ-loop
-sub-loop c = omega arith
-
-slice-aggregate-move-some : tie.Need-slice-aggregate-move-some Inv-loop μ-loop
-slice-aggregate-move-some c = sym (c .before .before .before .loop .inv .1 .0)
-
-add-move-some : tie.Need-add-move-some Inv-loop μ-loop
-add-move-some c = search needs
-
-add-move-some-2 : tie.Need-add-move-some-2 Inv-loop μ-loop
-add-move-some-2 c = search needs
-
-move-some-requires : tie.Need-move-some-requires Inv-loop μ-loop
-move-some-requires c κs = (omega arith, (omega arith, omega arith))
-
-add-i : tie.Need-add-i Inv-loop μ-loop
-add-i c = search needs
-
-loop-less : tie.Need-loop-less Inv-loop μ-loop
-loop-less c = search needs
+abbrev start : tie.At-loop Inv-loop μ-loop → tie.Start Inv-loop μ-loop
+start c = c .before .before
 
 loop-again : tie.Need-loop-again Inv-loop μ-loop
 loop-again c =
-    let call = c .before .before .before in
-    let at = call .before .before .before .before in
-    let start = at .before .before in
-    (omega arith, (omega arith, (omega arith, call .move-some .ensures ∙ down-more _ _ _ _ _ _ (start .pre .0) (omega arith) (at .loop .inv .1 .1 .1))))
-
-slice-aggregate-move-some-2 : tie.Need-slice-aggregate-move-some-2 Inv-loop μ-loop
-slice-aggregate-move-some-2 c = sym (c .before .before .before .loop .inv .1 .0)
-
-add-move-some-3 : tie.Need-add-move-some-3 Inv-loop μ-loop
-add-move-some-3 c = search needs
-
-add-move-some-4 : tie.Need-add-move-some-4 Inv-loop μ-loop
-add-move-some-4 c = search needs
-
-sub-move-some : tie.Need-sub-move-some Inv-loop μ-loop
-sub-move-some c = search needs
-
-move-some-requires-2 : tie.Need-move-some-requires-2 Inv-loop μ-loop
-move-some-requires-2 c κs = (omega arith, (omega arith, omega arith))
-
-same-length : tie.Need-same-length Inv-loop μ-loop
-same-length c = search needs
+    let l : tie.At-loop Inv-loop μ-loop = c .before .before .before .before .before .before .before in
+    (omega arith, (omega arith, (omega arith, down-more _ _ (start l .args .from) _ (l .loop .i) 512 (cc) (omega arith) (omega arith))))
 
 returns : tie.Need-returns Inv-loop μ-loop
 returns c =
-    let call = c .before .before .before in
-    let at = call .before .before .before .before in
-    let start = at .before .before in
-    call .move-some2 .ensures ∙ down-last _ _ _ _ _ _ (start .pre .0) (start .pre .1) (at .loop .inv .0) (at .loop .inv .1 .1 .1)
+    let l : tie.At-loop Inv-loop μ-loop = c .before .before .before .before .before .before .before in
+    down-last _ _ (start l .args .from) _ (l .loop .i) (start l .args .n) (cc) (omega arith) (omega arith) (omega arith)
 
 pub move-down-spec : {M : Type 1} → statement M
 move-down-spec =
     tie.close
     (tie.spec
-    Inv-loop
-    μ-loop
-    loop-holds
-    sub-loop
-    slice-aggregate-move-some
-    add-move-some
-    add-move-some-2
-    move-some-requires
-    add-i
-    loop-less
-    loop-again
-    slice-aggregate-move-some-2
-    add-move-some-3
-    add-move-some-4
-    sub-move-some
-    move-some-requires-2
-    same-length
-    returns)
+    Inv-loop μ-loop loop-holds (λ c. search needs) (λ c. search needs) (λ c. search needs) (λ c. search needs) (λ c κs. search needs)
+    (λ c. search needs) (λ c. search needs) loop-again (λ c. search needs) (λ c. search needs) (λ c. search needs) (λ c. search needs)
+    (λ c κs. search needs) (λ c. search needs) returns)

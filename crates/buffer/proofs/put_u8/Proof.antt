@@ -5,14 +5,8 @@ use borrow.Author.Needs.{needs}
 use Rattle.buffer.proofs.put_u8.Statement.{statement}
 use Rattle.buffer.proofs.put_u8.Tie as tie
 
-slice-write-a : tie.Need-slice-write-a
-slice-write-a c = search needs
-
-same-length : tie.Need-same-length
-same-length c = search needs
-
 returns : tie.Need-returns
 returns c = store1 _ _ _ (c .pre) (omega arith)
 
 pub put-u8-spec : {M : Type 1} → statement M
-put-u8-spec = tie.close (tie.spec slice-write-a same-length returns)
+put-u8-spec = tie.close (tie.spec (λ c. search needs) (λ c. search needs) returns)

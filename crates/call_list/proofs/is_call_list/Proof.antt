@@ -6,7 +6,7 @@ use Prim.Native.Nat.{ℕ, _≤_, _+_, _-_}
 use native.Mathlib.Omega.{arith}
 use lib.ListN.{length-drop, length, drop}
 use borrow.Author.Needs.{needs}
-use Rattle.call_list.specs.Encoding.{is-call-list}
+use Rattle.machine.specs.CallList.{is-call-list}
 use Rattle.call_list.proofs.Words as W
 use Rattle.call_list.proofs.is_call_list.Statement.{statement}
 use Rattle.call_list.proofs.is_call_list.Tie as tie

@@ -1,43 +1,27 @@
 -- `calls::undo` meets its contract: where the inspection refuses, so does the step, and else the state is what the edit's function asks for.
 -- Assumes nothing.
+use native.Mathlib.Omega.{arith}
 use borrow.Author.Needs.{needs}
 use Rattle.calls.proofs.Inspected.{sound, spoiled}
 use Rattle.calls.proofs.undo.Statement.{statement}
 use Rattle.calls.proofs.undo.Tie as tie
 
-inspect-requires : tie.Need-inspect-requires
-inspect-requires c κs = search needs
-
-same-length : tie.Need-same-length
-same-length c = search needs
-
-same-length-2 : tie.Need-same-length-2
-same-length-2 c = search needs
-
 returns : tie.Need-returns
-returns c = search (needs, spoiled)
+returns c = let t = c .before in spoiled _ _ _ _ (t .before .inspect .ensures) _ (c .refuse .ensures _ _) (λ z. omega (arith, t .if1 .taken))
 
 undo-requires : tie.Need-undo-requires
 undo-requires c κs = search (needs, sound)
-
-same-length-3 : tie.Need-same-length-3
-same-length-3 c = search needs
-
-same-length-4 : tie.Need-same-length-4
-same-length-4 c = search needs
-
-returns-2 : tie.Need-returns-2
-returns-2 c = search needs
 
 pub undo-spec : {M : Type 1} → statement M
 undo-spec =
     tie.close
     (tie.spec
-    inspect-requires
-    same-length
-    same-length-2
+    (λ c κs. search needs)
+    (λ c κs. search needs)
+    (λ c. search needs)
+    (λ c. search needs)
     returns
     undo-requires
-    same-length-3
-    same-length-4
-    returns-2)
+    (λ c. search needs)
+    (λ c. search needs)
+    (λ c. search needs))

@@ -1,52 +1,40 @@
--- A convention passed over part by part: each call is given how far the one before it came.
-use Rattle.convention.proofs.Skip.{convention-skip}
+-- A convention walked over: what is seen of it is seen at its last byte.
+use mathlib.Core.Path.{_≡_, sym, ap, _∙_}
+use native.Mathlib.Omega.{arith}
+use Rattle.fields.specs.Parse.{ok, span}
+use Rattle.fields.specs.Answers.{of-skip}
+use Rattle.fields.proofs.Steps.{handed}
+use Rattle.pod.specs.Layout.{convention}
+use Rattle.pod.specs.Written.{convention-bytes}
+use Rattle.laws.proofs.Walks.{convention-within, convention-walked, walked-no}
 use borrow.Author.Needs.{needs}
 use Rattle.convention.proofs.convention_skip.Statement.{statement}
 use Rattle.convention.proofs.convention_skip.Tie as tie
-use Rattle.convention.proofs.convention_skip.Reads as reads
-use Rattle.convention.proofs.convention_skip.Lts as lts
-use Rattle.convention.proofs.then_register.Reads as then-register-reads
-use Rattle.convention.proofs.then_registers.Reads as then-registers-reads
-use Rattle.fields.proofs.then_uint.Reads as then-uint-reads
-use Rattle.pod.proofs.registers_skip.Reads as registers-skip-reads
 
-registers-skip-requires : tie.Need-registers-skip-requires
-registers-skip-requires c κs = search needs
+abbrev known : tie.After-far → tie.After-shared-slice-known
+known c = c .before .before .before
 
-then-registers-requires : tie.Need-then-registers-requires
-then-registers-requires c κs = search needs
-
-then-registers-requires-2 : tie.Need-then-registers-requires-2
-then-registers-requires-2 c κs = search needs
-
-then-register-requires : tie.Need-then-register-requires
-then-register-requires c κs = search needs
-
-then-uint-requires : tie.Need-then-uint-requires
-then-uint-requires c κs = search needs
-
-then-flag-requires : tie.Need-then-flag-requires
-then-flag-requires c κs = search needs
+-- it was passed over
+past : (c : tie.After-far) → ok tt (c .far .given .0 .0) ≡ span (convention (known c .before .args .s .now) (known c .before .args .at))
+past c = sym (ap of-skip (c .far .given .1)) ∙ c .before .before .convention-past .ensures
 
 returns : tie.Need-returns
-returns c =
-    rw (
-      c .then-flag .ensures,
-      c .before .then-uint .ensures,
-      c .before .before .then-register .ensures,
-      c .before .before .before .then-registers2 .ensures,
-      c .before .before .before .before .then-registers .ensures,
-      c .before .before .before .before .before .registers-skip .ensures,
-    ) (convention-skip _ _ _)
+returns c = let far = c .before .before in convention-walked _ (known far .shared-slice-known .given) _ (past far)
+
+returns-2 : tie.Need-returns-2
+returns-2 c =
+    walked-no convention convention-bytes _ _
+    (handed (ap of-skip (c .before .enum-told .given .1)) (c .before .before .before .convention-past .ensures) (c .skip-refusal .ensures))
 
 pub convention-skip-spec : {M : Type 1} → statement M
 convention-skip-spec =
     tie.close
     (tie.spec
-    registers-skip-requires
-    then-registers-requires
-    then-registers-requires-2
-    then-register-requires
-    then-uint-requires
-    then-flag-requires
-    returns)
+    (λ c κs. search needs)
+    (λ c. search needs)
+    (λ c. let far = c .before in omega (arith, convention-within _ (known far .shared-slice-known .given) _ (past far)))
+    (λ c. let far = c .before .before in omega (arith, convention-within _ (known far .shared-slice-known .given) _ (past far)))
+    (λ c. search needs)
+    (λ c κs. search needs)
+    returns
+    returns-2)

@@ -7,28 +7,9 @@ use Rattle.fields.proofs.Steps.{handed}
 use borrow.Author.Needs.{needs}
 use Rattle.convention.proofs.then_register.Statement.{statement}
 use Rattle.convention.proofs.then_register.Tie as tie
-use Rattle.convention.proofs.then_register.Reads as reads
-use Rattle.convention.proofs.then_register.Lts as lts
-use Rattle.pod.proofs.register_at.Reads as register-at-reads
-use Rattle.pod.proofs.register_refusal.Reads as register-refusal-reads
-
-enum-known-far : tie.Need-enum-known-far
-enum-known-far c = search needs
-
-register-at-requires : tie.Need-register-at-requires
-register-at-requires c κs = search needs
-
-enum-known-register : tie.Need-enum-known-register
-enum-known-register c = search needs
 
 enum-told : tie.Need-enum-told
 enum-told c = search needs
-
-register-refusal-requires : tie.Need-register-refusal-requires
-register-refusal-requires c κs = search needs
-
-enum-told-2 : tie.Need-enum-told-2
-enum-told-2 c = search needs
 
 returns : tie.Need-returns
 unfolding span
@@ -49,12 +30,12 @@ pub then-register-spec : {M : Type 1} → statement M
 then-register-spec =
     tie.close
     (tie.spec
-    enum-known-far
-    register-at-requires
-    enum-known-register
+    (λ c. search needs)
+    (λ c κs. search needs)
+    (λ c. search needs)
     enum-told
-    register-refusal-requires
-    enum-told-2
+    (λ c κs. search needs)
+    (λ c. search needs)
     returns
     returns-2
     returns-3)

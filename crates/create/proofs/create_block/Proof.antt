@@ -1,144 +1,143 @@
--- `create::create_block` meets its contract: each answer is one law of creating a block, with what `find` and `blocks_of` tell of the routine held.
+-- `create::create_block` meets its contract: each answer is one law of an edit's step, with what `find` tells of the routine held, and with what creating
+-- makes of it.
 -- Assumes nothing.
-use mathlib.Core.Path.{_≡_}
+use mathlib.Core.Path.{_≡_, sym, ap, _∙_}
 use native.Mathlib.Omega.{arith}
-use Prim.Native.Nat.{_≤_}
+use Prim.Native.Nat.{_+_, _≤_}
 use lib.ListN.{length}
-use Rattle.fields.specs.Lists.{choose}
+use Rattle.fields.specs.Bytes.{put}
+use Rattle.fields.specs.Outcome.{accepted}
 use Rattle.pod.specs.Values.{Routine}
-use Rattle.machine.specs.Edits.{place}
+use Rattle.machine.specs.Edits.{Edit, create, edited, size}
+use Rattle.machine.specs.Trailer.{trailer-with, trailer-bytes}
+use Rattle.machine.specs.Journal.{entry}
 use Rattle.machine.specs.Book.{State}
-use Rattle.machine.proofs.Keeps.{blocks-few}
-use Rattle.laws.proofs.Sizes.{routine-size}
+use Rattle.machine.proofs.Keeps.{created-size}
 use Rattle.book.specs.Says.{state}
-use Rattle.book.specs.Holding.{blocks-start}
+use Rattle.book.proofs.Answers.{admits}
+use Rattle.book.proofs.Steps.{refused-step, not-admitted-step, admitted-step}
 use Rattle.image.specs.Places.{Finds}
 use Rattle.image.proofs.Inspects.{sound-holding}
-use Rattle.create.proofs.Creates as C
+use Rattle.image.proofs.Fills.{sound-filled, is-filled}
+use Rattle.create.specs.Created.{with-new}
+use Rattle.create.proofs.Creates.{not-created, creates, create-costs}
 use borrow.Author.Needs.{needs}
 use Rattle.create.proofs.create_block.Statement.{statement}
 use Rattle.create.proofs.create_block.Tie as tie
 
--- the state at entry, and the routine that it holds
-abbrev found-from : tie.After-find → tie.Start
-found-from c = c .before .before .before .before
+-- The way through the code, each place from the next.
+abbrev start : tie.After-find → tie.Start
+start c = c .before .before .before .before
 
-abbrev S : tie.Start → State
-S s = state (s .args .image .now) (s .args .journal .now) (s .args .book)
+abbrev finding : tie.Else1 → tie.After-find
+finding c = c .before .before
 
-abbrev R : tie.Start → Routine
-R s = s .pre .r
+abbrev testing : tie.After-admit → tie.Else1
+testing c = c .before
 
-finds : (c : tie.After-find) → Finds (R (found-from c)) (found-from c .args .vip .0) (c .find .result)
-finds c = let s = found-from c in c .find .ensures (R s) (sound-holding (s .pre .sound))
+abbrev admitting : tie.Else2 → tie.After-admit
+admitting c = c .before
 
-few : (s : tie.Start) → length (R s .explored-blocks) ≤ 16777216
-few s = omega (arith, blocks-few (R s) (R s .explored-blocks), s .pre .sound .room, s .pre .sound .image-lent)
+abbrev passing : tie.After-add-block → tie.Else2
+passing c = c .before .before
 
-absent : (c : tie.Else1) → length (R (found-from (c .before .before)) .explored-blocks) ≤ place (found-from (c .before .before) .args .vip .0) (R (found-from (c .before .before)) .explored-blocks)
-absent c = let f = finds (c .before .before) in omega (arith, c .if1 .left, f .place, f .count)
+abbrev adding : tie.After-put-trailer → tie.After-add-block
+adding c = c .before .before .before .before
 
-begins : (c : tie.After-blocks-of) → c .blocks-of .result .start ≡ blocks-start (R (found-from (c .before .before .before .before .before .before)))
-begins c = let s = found-from (c .before .before .before .before .before .before) in c .blocks-of .ensures (R s) (sound-holding (s .pre .sound)) .0
+abbrev noting : tie.After-accept → tie.After-put-trailer
+noting c = c .before .before .before
 
-find-requires : tie.Need-find-requires
-find-requires c κs = search needs
+-- What is known at them. At the start: the state, the routine that it holds, the edit, and what is written and used after it.
+module _ (s : tie.Start) where
+  abbrev S : State
+  S = state (s .args .image .now) (s .args .journal .now) (s .args .book)
 
-cast-if1 : tie.Need-cast-if1
-cast-if1 c = search needs
+  abbrev R : Routine
+  R = s .pre .r
 
-same-length : tie.Need-same-length
-same-length c = search needs
+  abbrev E : Edit
+  E = create (s .args .vip .0)
+
+  abbrev R′ : Routine
+  R′ = with-new (s .args .vip .0) R
+
+  grown : s .args .book .written + 36 ≡ size R′
+  grown = omega (arith, created-size R (s .args .vip .0), s .pre .sound .written)
+
+  spent : s .args .book .used + 20 ≡ s .args .book .used + length (entry E R)
+  spent = omega (arith, create-costs R (s .args .vip .0))
+
+finds : (c : tie.After-find) → Finds (R (start c)) (start c .args .vip .0) (c .find .result)
+finds c = let s = start c in c .find .ensures (R s) (sound-holding (s .pre .sound))
+
+-- after its tests, the edit is made
+abbrev at-tests : tie.Else1 → tie.Start
+at-tests c = start (finding c)
+
+made : (c : tie.Else1) → edited (E (at-tests c)) (R (at-tests c)) ≡ accepted (R′ (at-tests c))
+made c = let f = finds (finding c) in creates _ _ (omega (arith, c .if1 .left, f .place, f .count))
+
+-- and after 11 and 12, there is room for it
+abbrev at-room : tie.Else2 → tie.Start
+at-room c = at-tests (testing (admitting c))
+
+room : (c : tie.Else2) → (at-room c .args .book .written + 36 ≤ length (at-room c .args .image .now)) × (at-room c .args .book .used + 20 ≤ length (at-room c .args .journal .now))
+room c = admits _ _ _ (sym (admitting c .admit .ensures) ∙ c .if2 .left)
 
 returns : tie.Need-returns
-unfolding choose
-returns c = let f = c .before .before in let s = found-from f in C.create-present (S s) (R s) (s .pre .sound) (s .args .vip .0) (omega (arith, c .if1 .taken, finds f .place, finds f .count))
-
-sub-if2 : tie.Need-sub-if2
-sub-if2 c = search needs
-
-same-length-2 : tie.Need-same-length-2
-same-length-2 c = search needs
+returns c =
+    let t = c .before in
+    let g = t .before .before in
+    let s = start g in
+    let f = finds g in
+    c .refuse .ensures _ _ (omega arith) ∙ sym (refused-step (S s) (R s) (s .pre .sound) (E s) _ (not-created _ _ (omega (arith, t .if1 .taken, f .place, f .count))))
 
 returns-2 : tie.Need-returns-2
-unfolding choose
-returns-2 c = let s = found-from (c .before .before .before) in C.create-image-full (S s) (R s) (s .pre .sound) (s .args .vip .0) (absent (c .before)) (omega (arith, c .if2 .taken))
+returns-2 c =
+    let t = c .before in
+    let a = t .before in
+    let e = testing a in
+    let s = at-tests e in
+    c .refuse2 .ensures _ _ (omega arith) ∙ not-admitted-step (S s) (R s) (s .pre .sound) (E s) (R′ s) (made e) (grown s) (spent s) (a .admit .ensures) (t .if2 .taken)
 
-sub-if3 : tie.Need-sub-if3
-sub-if3 c = search needs
-
-same-length-3 : tie.Need-same-length-3
-same-length-3 c = search needs
-
-returns-3 : tie.Need-returns-3
-unfolding choose
-returns-3 c = let s = found-from (c .before .before .before .before) in C.create-journal-full (S s) (R s) (s .pre .sound) (s .args .vip .0) (absent (c .before .before)) (omega (arith, c .before .if2 .left)) (omega (arith, c .if3 .taken))
-
-blocks-of-requires : tie.Need-blocks-of-requires
-blocks-of-requires c κs = search needs
-
-put-u64-requires : tie.Need-put-u64-requires
-put-u64-requires c κs = search needs
-
-sub-put-u32 : tie.Need-sub-put-u32
-sub-put-u32 c = let b = c .before .before .before .before .before in omega (arith, begins b)
-
-add-put-u32 : tie.Need-add-put-u32
-add-put-u32 c = let f = c .before .before .before .before .before .before .before .before .before .before .before in omega (arith, finds f .count, few (found-from f))
-
-put-u32-requires : tie.Need-put-u32-requires
-put-u32-requires c κs = let b = c .before .before .before .before .before in let s = found-from (b .before .before .before .before .before .before) in omega (arith, begins b, routine-size (R s), s .pre .sound .room, c .before .before .before .put-u64 .kept .0)
+add-block-requires : tie.Need-add-block-requires
+add-block-requires c κs = let e = c .before in (is-filled (at-room e .pre), room e .0)
 
 put-trailer-requires : tie.Need-put-trailer-requires
-put-trailer-requires c κs = search needs
+put-trailer-requires c κs = room (passing (c .before .before .before)) .1
 
-add-t16 : tie.Need-add-t16
-add-t16 c = search needs
-
-add-t14 : tie.Need-add-t14
-add-t14 c = search needs
-
-same-length-4 : tie.Need-same-length-4
-same-length-4 c = search needs
-
-same-length-5 : tie.Need-same-length-5
-same-length-5 c = search needs
-
-returns-4 : tie.Need-returns-4
-unfolding choose
-returns-4 c =
-    let p = c .before .before in
-    let q = p .before .before .before .before in
-    let t = q .before .before .before .before in
-    let b = t .before .before in
-    let e = b .before .before in
-    let f = e .before .before .before .before in
-    let s = found-from f in
-    C.create-final (S s) (R s) (s .pre .sound) (s .args .vip .0) (absent (e .before .before)) (omega (arith, e .before .if2 .left)) (omega (arith, e .if3 .left))
-    (b .blocks-of .result .start) (f .find .result .count) _ _ _ (begins b) (finds f .count) (t .put-u64 .ensures) (q .put-u32 .ensures) (p .put-trailer .ensures)
+returns-3 : tie.Need-returns-3
+unfolding entry
+returns-3 c =
+    let p = noting c in
+    let b = adding p in
+    let l = passing b in
+    let a = admitting l in
+    let e = testing a in
+    let s = at-tests e in
+    c .accept .ensures _ _
+    ∙ admitted-step (S s) (R s) (s .pre .sound) (E s) (R′ s) (made e) (grown s) (spent s) (a .admit .ensures) (l .if2 .left)
+    (b .add-block .ensures (R s) (sound-filled (s .pre .sound)))
+    (p .put-trailer .ensures ∙ ap (λ n. put (s .args .book .used) (trailer-bytes (trailer-with (s .args .vip .0) n 0 1)) (s .args .journal .now)) (finds (finding e) .count))
 
 pub create-block-spec : {M : Type 1} → statement M
 create-block-spec =
     tie.close
     (tie.spec
-    find-requires
-    cast-if1
-    same-length
+    (λ c κs. search needs)
+    (λ c. search needs)
+    (λ c κs. search needs)
+    (λ c. search needs)
     returns
-    sub-if2
-    same-length-2
+    (λ c. search needs)
+    (λ c. search needs)
+    (λ c κs. search needs)
+    (λ c κs. search needs)
+    (λ c. search needs)
     returns-2
-    sub-if3
-    same-length-3
-    returns-3
-    blocks-of-requires
-    put-u64-requires
-    sub-put-u32
-    add-put-u32
-    put-u32-requires
+    add-block-requires
     put-trailer-requires
-    add-t16
-    add-t14
-    same-length-4
-    same-length-5
-    returns-4)
+    (λ c κs. search needs)
+    (λ c. search needs)
+    (λ c. search needs)
+    returns-3)

@@ -1,4 +1,4 @@
--- The vips that the walk finds are those of the blocks that were read, whichever walk accepted them.
+-- The vips that the walk finds are those of the blocks that were read.
 use mathlib.Core.Path.{ap, _∙_}
 use Rattle.pod.specs.Blocks.{repeats}
 use Rattle.distinct.proofs.Read.{vips-read}
@@ -13,7 +13,7 @@ has-repeat-in-requires : tie.Need-has-repeat-in-requires
 has-repeat-in-requires c κs = search needs
 
 returns : tie.Need-returns
-returns c = λ exact bs end e. c .before .has-repeat-in .ensures ∙ ap repeats (vips-read exact _ _ _ e)
+returns c = λ bs end e. c .before .has-repeat-in .ensures ∙ ap repeats (vips-read _ _ _ e)
 
 pub has-repeat-spec : {M : Type 1} → statement M
 has-repeat-spec =

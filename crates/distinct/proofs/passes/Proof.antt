@@ -5,7 +5,6 @@ use mathlib.Core.Path.{sym}
 use lib.ListN.{length}
 use Rattle.distinct.specs.Walked.{vipsFrom}
 use Rattle.sorting.specs.Buffer.{TOP}
-use Rattle.sorting.proofs.Order.{lt-of}
 use Rattle.distinct.proofs.Rounds.{Passing, pass-start, pass-twice, pass-more, pass-end}
 use borrow.Author.Needs.{needs}
 use Rattle.distinct.proofs.passes.Statement.{statement}
@@ -17,55 +16,43 @@ Inv-loop s start count b₀ lo₀ b lo = Passing (vipsFrom s start count) (lengt
 abbrev μ-loop : tie.MeasureT-loop
 μ-loop s start count b₀ lo₀ b lo = TOP - lo
 
-loop-holds : tie.Need-loop-holds Inv-loop μ-loop
-loop-holds c = pass-start _ _
+-- The way through the code, each place from the next.
+abbrev lent : tie.At-loop Inv-loop μ-loop → tie.After-shared-slice-known Inv-loop μ-loop
+lent c = c .before .before
 
-gather-requires : tie.Need-gather-requires Inv-loop μ-loop
-gather-requires c κs = search needs
+abbrev turn : tie.After-gather Inv-loop μ-loop → tie.At-loop Inv-loop μ-loop
+turn c = c .before .before .before
 
-same-length : tie.Need-same-length Inv-loop μ-loop
-same-length c = search needs
+abbrev gathered : tie.After-sort-arg Inv-loop μ-loop → tie.After-gather Inv-loop μ-loop
+gathered c = c .before .before .before .before
 
-returns : tie.Need-returns Inv-loop μ-loop
-returns c = sym (c .before .before .before .gather .ensures .found (c .if1 .taken))
+abbrev sorted : tie.After-has-repeat-sorted-arg Inv-loop μ-loop → tie.After-sort Inv-loop μ-loop
+sorted c = c .before .before .before
 
-sort-requires : tie.Need-sort-requires Inv-loop μ-loop
-sort-requires c κs = c .before .before .before .before .gather .ensures .heap
-
-has-repeat-sorted-requires : tie.Need-has-repeat-sorted-requires Inv-loop μ-loop
-has-repeat-sorted-requires c κs = c .before .before .before .sort .ensures .asc
-
-same-length-2 : tie.Need-same-length-2 Inv-loop μ-loop
-same-length-2 c = search needs
+abbrev pass : tie.After-sort Inv-loop μ-loop → tie.After-gather Inv-loop μ-loop
+pass c = gathered (c .before)
 
 returns-2 : tie.Need-returns-2 Inv-loop μ-loop
 returns-2 c =
     let t = c .before in
-    let k = t .before .before .before .before in
-    let g = k .before .before .before .before .before in
-    sym (pass-twice _ _ _ _ _ (g .gather .ensures) (k .sort .ensures) _ (c .if2 .taken) (t .has-repeat-sorted .ensures))
+    let k = sorted (t .before) in
+    sym (pass-twice (pass k .gather .ensures) (k .sort .ensures) (t .has-repeat-sorted .ensures) (c .if2 .taken))
 
 loop-less : tie.Need-loop-less Inv-loop μ-loop
-loop-less c =
-    let k = c .before .before .before .before .before in
-    let g = k .before .before .before .before .before in
-    omega (arith, g .gather .ensures .rises (lt-of (omega arith) (k .before .before .if1 .left)), g .gather .ensures .within, g .before .before .loop-test .taken)
+loop-less c = let g = pass (sorted (c .before .before)) in omega (arith, g .gather .ensures .rises (omega arith), g .gather .ensures .within)
 
 loop-again : tie.Need-loop-again Inv-loop μ-loop
 loop-again c =
     let t = c .before in
-    let k = t .before .before .before .before in
-    let g = k .before .before .before .before .before in
-    pass-more _ _ _ _ _ (g .gather .ensures) (k .sort .ensures) _ _ _ (k .before .before .if1 .left) (c .if2 .left) (t .has-repeat-sorted .ensures) (g .before .before .before .loop .inv) (omega arith)
-
-same-length-3 : tie.Need-same-length-3 Inv-loop μ-loop
-same-length-3 c = search needs
+    let k = sorted (t .before) in
+    let g = pass k in
+    pass-more (g .gather .ensures) (k .sort .ensures) (t .has-repeat-sorted .ensures) (c .if2 .left) (turn g .loop .inv) (omega arith) (omega arith)
 
 returns-3 : tie.Need-returns-3 Inv-loop μ-loop
 returns-3 c =
-    let l = c .before in
-    let s = l .before in
-    sym (pass-end _ _ _ _ _ _ (s .before .shared-slice-known .given) (c .loop-test .left) (s .before .before .pre .1) (l .loop .inv))
+    let t = c .before in
+    let s = lent t in
+    sym (pass-end _ _ _ (s .shared-slice-known .given) (s .before .pre .1) (t .loop .inv) (omega arith))
 
 pub passes-spec : {M : Type 1} → statement M
 passes-spec =
@@ -73,15 +60,15 @@ passes-spec =
     (tie.spec
     Inv-loop
     μ-loop
-    loop-holds
-    gather-requires
-    same-length
-    returns
-    sort-requires
-    has-repeat-sorted-requires
-    same-length-2
+    (λ c. pass-start _ _)
+    (λ c κs. search needs)
+    (λ c. search needs)
+    (λ c. sym (c .before .before .before .gather .ensures .found (omega arith)))
+    (λ c κs. gathered c .gather .ensures .heap)
+    (λ c κs. sorted c .sort .ensures .asc)
+    (λ c. search needs)
     returns-2
     loop-less
     loop-again
-    same-length-3
+    (λ c. search needs)
     returns-3)

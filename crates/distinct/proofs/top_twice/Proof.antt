@@ -1,7 +1,7 @@
 -- How often the highest number was passed (`Tops`). The measure is the number of blocks left.
 use native.Mathlib.Omega.{arith}
 use Rattle.distinct.specs.Walked.{vipsFrom}
-use Rattle.distinct.proofs.Walks.{Tops, tops-other, tops-first, tops-twice, tops-end}
+use Rattle.distinct.proofs.Walks.{Tops, Block-read, tops-other, tops-first, tops-twice, tops-end}
 use borrow.Author.Needs.{needs}
 use Rattle.distinct.proofs.top_twice.Statement.{statement}
 use Rattle.distinct.proofs.top_twice.Tie as tie
@@ -12,41 +12,28 @@ Inv-loop s start count left₀ at₀ seen₀ left at seen = Tops s (vipsFrom s s
 abbrev μ-loop : tie.MeasureT-loop
 μ-loop s start count left₀ at₀ seen₀ left at seen = left
 
-loop-holds : tie.Need-loop-holds Inv-loop μ-loop
-loop-holds c = record { few = omega arith; is = omega arith }
+-- the way through the code, each place from the next; and the block that is read in a turn
+abbrev start : tie.At-loop Inv-loop μ-loop → tie.Start Inv-loop μ-loop
+start c = c .before .before
 
-block-at-requires : tie.Need-block-at-requires Inv-loop μ-loop
-block-at-requires c κs = search needs
+abbrev turn : tie.After-block-at Inv-loop μ-loop → tie.At-loop Inv-loop μ-loop
+turn c = c .before .before
 
-sub-left : tie.Need-sub-left Inv-loop μ-loop
-sub-left c = search needs
+abbrev reading : tie.Then1 Inv-loop μ-loop → tie.After-block-at Inv-loop μ-loop
+reading c = c .before .before
+
+block : (c : tie.After-block-at Inv-loop μ-loop)
+    → let b = c .block-at .result in let l = turn c .loop in Block-read (start (turn c) .args .s .now) (l .left) (l .at) (b .vip .0) (b .next)
+block c = record { vip = c .block-at .ensures .0; end = c .block-at .ensures .1; some = omega arith }
 
 returns : tie.Need-returns Inv-loop μ-loop
-returns c =
-    let b = c .before .before .before in
-    let l = b .before in
-    tops-twice _ _ _ _ _ _ _ (b .block-at .ensures .0) (b .block-at .ensures .1) (l .loop-test .taken) (l .before .loop .inv) (c .before .if1 .taken) (c .if2 .taken)
-
-loop-less : tie.Need-loop-less Inv-loop μ-loop
-loop-less c = search needs
+returns c = let b = reading (c .before) in tops-twice (block b) (turn b .loop .inv) (omega arith) (omega arith)
 
 loop-again : tie.Need-loop-again Inv-loop μ-loop
-loop-again c =
-    let b = c .before .before .before in
-    let l = b .before in
-    tops-first _ _ _ _ _ _ _ (b .block-at .ensures .0) (b .block-at .ensures .1) (l .loop-test .taken) (l .before .loop .inv) (c .before .if1 .taken) (c .if2 .left)
-
-loop-less-2 : tie.Need-loop-less-2 Inv-loop μ-loop
-loop-less-2 c = search needs
+loop-again c = let b = reading (c .before) in tops-first (block b) (turn b .loop .inv) (omega arith) (omega arith)
 
 loop-again-2 : tie.Need-loop-again-2 Inv-loop μ-loop
-loop-again-2 c =
-    let b = c .before .before in
-    let l = b .before in
-    tops-other _ _ _ _ _ _ _ (b .block-at .ensures .0) (b .block-at .ensures .1) (l .loop-test .taken) (l .before .loop .inv) (c .if1 .left)
-
-returns-2 : tie.Need-returns-2 Inv-loop μ-loop
-returns-2 c = tops-end _ _ _ _ _ (c .loop-test .left) (c .before .loop .inv)
+loop-again-2 c = let b = c .before .before in tops-other (block b) (turn b .loop .inv) (λ e. omega arith)
 
 pub top-twice-spec : {M : Type 1} → statement M
 top-twice-spec =
@@ -54,12 +41,12 @@ top-twice-spec =
     (tie.spec
     Inv-loop
     μ-loop
-    loop-holds
-    block-at-requires
-    sub-left
+    (λ c. record { few = omega arith; is = omega arith })
+    (λ c κs. search needs)
+    (λ c. search needs)
     returns
-    loop-less
+    (λ c. search needs)
     loop-again
-    loop-less-2
+    (λ c. search needs)
     loop-again-2
-    returns-2)
+    (λ c. tops-end (c .before .loop .inv) (omega arith)))

@@ -4,29 +4,8 @@ use borrow.Author.Needs.{needs}
 use Rattle.ends.proofs.block_end.Statement.{statement}
 use Rattle.ends.proofs.block_end.Tie as tie
 
-fast-block-end-requires : tie.Need-fast-block-end-requires
-fast-block-end-requires c κs = search needs
-
 returns : tie.Need-returns
 returns c = c .before .fast-block-end .ensures (c .if1 .taken)
-
-jump-requires : tie.Need-jump-requires
-jump-requires c κs = search needs
-
-word32-requires : tie.Need-word32-requires
-word32-requires c κs = search needs
-
-jump-requires-2 : tie.Need-jump-requires-2
-jump-requires-2 c κs = search needs
-
-instructions-end-requires : tie.Need-instructions-end-requires
-instructions-end-requires c κs = search needs
-
-vips-end-requires : tie.Need-vips-end-requires
-vips-end-requires c κs = search needs
-
-vips-end-requires-2 : tie.Need-vips-end-requires-2
-vips-end-requires-2 c κs = search needs
 
 returns-2 : tie.Need-returns-2
 returns-2 c =
@@ -40,12 +19,12 @@ pub block-end-spec : {M : Type 1} → statement M
 block-end-spec =
     tie.close
     (tie.spec
-    fast-block-end-requires
+    (λ c κs. search needs)
     returns
-    jump-requires
-    word32-requires
-    jump-requires-2
-    instructions-end-requires
-    vips-end-requires
-    vips-end-requires-2
+    (λ c κs. search needs)
+    (λ c κs. search needs)
+    (λ c κs. search needs)
+    (λ c κs. search needs)
+    (λ c κs. search needs)
+    (λ c κs. search needs)
     returns-2)

@@ -9,41 +9,17 @@ use Rattle.ends.proofs.fast_block_end.Tie as tie
 returns : tie.Need-returns
 returns c = λ h. absurd (omega arith)
 
-sub-if2 : tie.Need-sub-if2
-sub-if2 c = search needs
-
 returns-2 : tie.Need-returns-2
 returns-2 c = λ h. absurd (omega arith)
-
-add-four : tie.Need-add-four
-add-four c = search needs
-
-four-requires : tie.Need-four-requires
-four-requires c κs = search needs
 
 returns-3 : tie.Need-returns-3
 returns-3 c = λ h. absurd (omega arith)
 
-add-four-2 : tie.Need-add-four-2
-add-four-2 c = search needs
-
-four-requires-2 : tie.Need-four-requires-2
-four-requires-2 c κs = search needs
-
 returns-4 : tie.Need-returns-4
 returns-4 c = λ h. absurd (omega arith)
 
-add-four-3 : tie.Need-add-four-3
-add-four-3 c = search needs
-
-four-requires-3 : tie.Need-four-requires-3
-four-requires-3 c κs = search needs
-
 returns-5 : tie.Need-returns-5
 returns-5 c = λ h. absurd (omega arith)
-
-add-result : tie.Need-add-result
-add-result c = search needs
 
 returns-6 : tie.Need-returns-6
 returns-6 c =
@@ -60,16 +36,16 @@ fast-block-end-spec =
     tie.close
     (tie.spec
     returns
-    sub-if2
+    (λ c. search needs)
     returns-2
-    add-four
-    four-requires
+    (λ c. search needs)
+    (λ c κs. search needs)
     returns-3
-    add-four-2
-    four-requires-2
+    (λ c. search needs)
+    (λ c κs. search needs)
     returns-4
-    add-four-3
-    four-requires-3
+    (λ c. search needs)
+    (λ c κs. search needs)
     returns-5
-    add-result
+    (λ c. search needs)
     returns-6)

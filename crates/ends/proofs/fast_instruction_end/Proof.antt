@@ -18,32 +18,14 @@ abbrev μ-loop : tie.MeasureT-loop
 returns : tie.Need-returns Inv-loop μ-loop
 returns c = λ h. absurd (omega arith)
 
-sub-if2 : tie.Need-sub-if2 Inv-loop μ-loop
-sub-if2 c = search needs
-
 returns-2 : tie.Need-returns-2 Inv-loop μ-loop
 returns-2 c = λ h. absurd (omega arith)
-
-four-requires : tie.Need-four-requires Inv-loop μ-loop
-four-requires c κs = search needs
 
 returns-3 : tie.Need-returns-3 Inv-loop μ-loop
 returns-3 c = λ h. absurd (omega arith)
 
-add-n : tie.Need-add-n Inv-loop μ-loop
-add-n c = search needs
-
-add-n-2 : tie.Need-add-n-2 Inv-loop μ-loop
-add-n-2 c = search needs
-
-four-requires-2 : tie.Need-four-requires-2 Inv-loop μ-loop
-four-requires-2 c κs = search needs
-
 returns-4 : tie.Need-returns-4 Inv-loop μ-loop
 returns-4 c = λ h. absurd (omega arith)
-
-add-o : tie.Need-add-o Inv-loop μ-loop
-add-o c = search needs
 
 loop-holds : tie.Need-loop-holds Inv-loop μ-loop
 loop-holds c = (omega arith, refl)
@@ -51,20 +33,11 @@ loop-holds c = (omega arith, refl)
 fast-operand-end-requires : tie.Need-fast-operand-end-requires Inv-loop μ-loop
 fast-operand-end-requires c κs = let i = c .before .loop .inv in omega (arith, i .0)
 
-sub-left : tie.Need-sub-left Inv-loop μ-loop
-sub-left c = search needs
-
-loop-less : tie.Need-loop-less Inv-loop μ-loop
-loop-less c = search needs
-
 loop-again : tie.Need-loop-again Inv-loop μ-loop
 loop-again c =
     let i = c .before .before .loop .inv in
     let e = c .fast-operand-end .ensures in
     (omega (arith, i .0, e .1), times-next _ _ _ (i .1) (c .before .loop-test .taken) (e .0))
-
-add-result : tie.Need-add-result Inv-loop μ-loop
-add-result c = search needs
 
 returns-5 : tie.Need-returns-5 Inv-loop μ-loop
 returns-5 c =
@@ -81,19 +54,19 @@ fast-instruction-end-spec =
     Inv-loop
     μ-loop
     returns
-    sub-if2
+    (λ c. search needs)
     returns-2
-    four-requires
+    (λ c κs. search needs)
     returns-3
-    add-n
-    add-n-2
-    four-requires-2
+    (λ c. search needs)
+    (λ c. search needs)
+    (λ c κs. search needs)
     returns-4
-    add-o
+    (λ c. search needs)
     loop-holds
     fast-operand-end-requires
-    sub-left
-    loop-less
+    (λ c. search needs)
+    (λ c. search needs)
     loop-again
-    add-result
+    (λ c. search needs)
     returns-5)

@@ -6,15 +6,6 @@ use borrow.Author.Needs.{needs}
 use Rattle.ends.proofs.fast_operand_end.Statement.{statement}
 use Rattle.ends.proofs.fast_operand_end.Tie as tie
 
-four-requires : tie.Need-four-requires
-four-requires c κs = search needs
-
-add-result : tie.Need-add-result
-add-result c = search needs
-
-add-result-2 : tie.Need-add-result-2
-add-result-2 c = search needs
-
 returns : tie.Need-returns
 returns c =
     let f = c .before in
@@ -29,8 +20,8 @@ pub fast-operand-end-spec : {M : Type 1} → statement M
 fast-operand-end-spec =
     tie.close
     (tie.spec
-    four-requires
-    add-result
-    add-result-2
+    (λ c κs. search needs)
+    (λ c. search needs)
+    (λ c. search needs)
     returns
     returns-2)

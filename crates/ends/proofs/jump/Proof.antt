@@ -12,11 +12,8 @@ returns c = sym (jump-out _ _ _ (omega arith))
 returns-2 : tie.Need-returns-2
 returns-2 c = sym (jump-out _ _ _ (omega arith))
 
-add-result : tie.Need-add-result
-add-result c = search needs
-
 returns-3 : tie.Need-returns-3
 returns-3 c = sym (jump-in _ _ _ (omega arith))
 
 pub jump-spec : {M : Type 1} → statement M
-jump-spec = tie.close (tie.spec returns returns-2 add-result returns-3)
+jump-spec = tie.close (tie.spec returns returns-2 (λ c. search needs) returns-3)

@@ -4,18 +4,6 @@ use borrow.Author.Needs.{needs}
 use Rattle.ends.proofs.operand_end.Statement.{statement}
 use Rattle.ends.proofs.operand_end.Tie as tie
 
-jump-requires : tie.Need-jump-requires
-jump-requires c κs = search needs
-
-word32-requires : tie.Need-word32-requires
-word32-requires c κs = search needs
-
-jump-requires-2 : tie.Need-jump-requires-2
-jump-requires-2 c κs = search needs
-
-jump-requires-3 : tie.Need-jump-requires-3
-jump-requires-3 c κs = search needs
-
 returns : tie.Need-returns
 returns c =
     let w = c .before .before in
@@ -29,4 +17,4 @@ returns-2 c =
 pub operand-end-spec : {M : Type 1} → statement M
 operand-end-spec =
     tie.close
-    (tie.spec jump-requires word32-requires jump-requires-2 jump-requires-3 returns returns-2)
+    (tie.spec (λ c κs. search needs) (λ c κs. search needs) (λ c κs. search needs) (λ c κs. search needs) returns returns-2)

@@ -12,18 +12,6 @@ Inv-loop s at count left₀ o₀ left o = times (operandEnd s) left o ≡ times 
 abbrev μ-loop : tie.MeasureT-loop
 μ-loop s at count left₀ o₀ left o = left
 
-loop-holds : tie.Need-loop-holds Inv-loop μ-loop
-loop-holds c = search needs
-
-operand-end-requires : tie.Need-operand-end-requires Inv-loop μ-loop
-operand-end-requires c κs = search needs
-
-sub-left : tie.Need-sub-left Inv-loop μ-loop
-sub-left c = search needs
-
-loop-less : tie.Need-loop-less Inv-loop μ-loop
-loop-less c = search needs
-
 loop-again : tie.Need-loop-again Inv-loop μ-loop
 loop-again c = search (needs, times-next)
 
@@ -36,9 +24,9 @@ operands-end-spec =
     (tie.spec
     Inv-loop
     μ-loop
-    loop-holds
-    operand-end-requires
-    sub-left
-    loop-less
+    (λ c. search needs)
+    (λ c κs. search needs)
+    (λ c. search needs)
+    (λ c. search needs)
     loop-again
     returns)

@@ -4,24 +4,9 @@ use borrow.Author.Needs.{needs}
 use Rattle.ends.proofs.registers_end.Statement.{statement}
 use Rattle.ends.proofs.registers_end.Tie as tie
 
-jump-requires : tie.Need-jump-requires
-jump-requires c κs = search needs
-
-word32-requires : tie.Need-word32-requires
-word32-requires c κs = search needs
-
-cast-jump : tie.Need-cast-jump
-cast-jump c = search needs
-
-mul-jump : tie.Need-mul-jump
-mul-jump c = search needs
-
-jump-requires-2 : tie.Need-jump-requires-2
-jump-requires-2 c κs = search needs
-
 returns : tie.Need-returns
 returns c = registers-made _ _ (c .before .before .jump .ensures) (c .before .word32 .ensures) (c .jump2 .ensures)
 
 pub registers-end-spec : {M : Type 1} → statement M
 registers-end-spec =
-    tie.close (tie.spec jump-requires word32-requires cast-jump mul-jump jump-requires-2 returns)
+    tie.close (tie.spec (λ c κs. search needs) (λ c κs. search needs) (λ c. search needs) (λ c. search needs) (λ c κs. search needs) returns)

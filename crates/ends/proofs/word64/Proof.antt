@@ -6,12 +6,6 @@ use borrow.Author.Needs.{needs}
 use Rattle.ends.proofs.word64.Statement.{statement}
 use Rattle.ends.proofs.word64.Tie as tie
 
-u64-at-requires : tie.Need-u64-at-requires
-u64-at-requires c κs = search needs
-
-enum-known-v : tie.Need-enum-known-v
-enum-known-v c = search needs
-
 enum-told : tie.Need-enum-told
 enum-told c = search needs
 
@@ -24,4 +18,4 @@ returns-2 : tie.Need-returns-2
 returns-2 c = sym (ap value (ap of-u64 (c .enum-told .given .1))) ∙ ap value (c .before .before .u64-at .ensures) ∙ word-is 8 _ _
 
 pub word64-spec : {M : Type 1} → statement M
-word64-spec = tie.close (tie.spec u64-at-requires enum-known-v enum-told returns returns-2)
+word64-spec = tie.close (tie.spec (λ c κs. search needs) (λ c. search needs) enum-told returns returns-2)

@@ -6,18 +6,6 @@ use mathlib.Core.Path.{sym}
 use borrow.Author.Needs.{needs}
 use Rattle.fields.proofs.eight.Statement.{statement}
 use Rattle.fields.proofs.eight.Tie as tie
-use Rattle.fields.proofs.eight.Reads as reads
-use Rattle.fields.proofs.eight.Lts as lts
-use Rattle.fields.proofs.four.Reads as four-reads
-
-four-requires : tie.Need-four-requires
-four-requires c κs = search needs
-
-add-four : tie.Need-add-four
-add-four c = search needs
-
-four-requires-2 : tie.Need-four-requires-2
-four-requires-2 c κs = search needs
 
 mul-result : tie.Need-mul-result
 mul-result c =
@@ -35,4 +23,4 @@ returns c = rw (c .four2 .ensures, c .before .four .ensures) (sym (le-split 4 4 
 
 pub eight-spec : {M : Type 1} → statement M
 eight-spec =
-    tie.close (tie.spec four-requires add-four four-requires-2 mul-result add-result returns)
+    tie.close (tie.spec (λ c κs. search needs) (λ c. search needs) (λ c κs. search needs) mul-result add-result returns)

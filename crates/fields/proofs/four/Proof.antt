@@ -6,18 +6,6 @@ use mathlib.Core.Path.{sym}
 use borrow.Author.Needs.{needs}
 use Rattle.fields.proofs.four.Statement.{statement}
 use Rattle.fields.proofs.four.Tie as tie
-use Rattle.fields.proofs.four.Reads as reads
-use Rattle.fields.proofs.four.Lts as lts
-use Rattle.fields.proofs.two.Reads as two-reads
-
-two-requires : tie.Need-two-requires
-two-requires c κs = search needs
-
-add-two : tie.Need-add-two
-add-two c = search needs
-
-two-requires-2 : tie.Need-two-requires-2
-two-requires-2 c κs = search needs
 
 mul-result : tie.Need-mul-result
 mul-result c =
@@ -34,4 +22,4 @@ returns : tie.Need-returns
 returns c = rw (c .two2 .ensures, c .before .two .ensures) (sym (le-split 2 2 _ _))
 
 pub four-spec : {M : Type 1} → statement M
-four-spec = tie.close (tie.spec two-requires add-two two-requires-2 mul-result add-result returns)
+four-spec = tie.close (tie.spec (λ c κs. search needs) (λ c. search needs) (λ c κs. search needs) mul-result add-result returns)

@@ -7,26 +7,6 @@ use mir.Syntax.{w32}
 use borrow.Author.Needs.{needs}
 use Rattle.fields.proofs.i32_at.Statement.{statement}
 use Rattle.fields.proofs.i32_at.Tie as tie
-use Rattle.fields.proofs.i32_at.Reads as reads
-use Rattle.fields.proofs.i32_at.Lts as lts
-use Rattle.fields.proofs.signed32.Reads as signed32-reads
-use Rattle.fields.proofs.u32_at.Reads as u32-at-reads
-use Rattle.fields.proofs.u32_refusal.Reads as u32-refusal-reads
-
-u32-at-requires : tie.Need-u32-at-requires
-u32-at-requires c κs = search needs
-
-enum-known-field : tie.Need-enum-known-field
-enum-known-field c = search needs
-
-signed32-requires : tie.Need-signed32-requires
-signed32-requires c κs = search needs
-
-enum-told : tie.Need-enum-told
-enum-told c = search needs
-
-u32-refusal-requires : tie.Need-u32-refusal-requires
-u32-refusal-requires c κs = search needs
 
 returns : tie.Need-returns
 returns c =
@@ -40,10 +20,10 @@ pub i32-at-spec : {M : Type 1} → statement M
 i32-at-spec =
     tie.close
     (tie.spec
-    u32-at-requires
-    enum-known-field
-    signed32-requires
-    enum-told
-    u32-refusal-requires
+    (λ c κs. search needs)
+    (λ c. search needs)
+    (λ c κs. search needs)
+    (λ c. search needs)
+    (λ c κs. search needs)
     returns
     returns-2)

@@ -7,26 +7,6 @@ use mir.Syntax.{w64}
 use borrow.Author.Needs.{needs}
 use Rattle.fields.proofs.i64_at.Statement.{statement}
 use Rattle.fields.proofs.i64_at.Tie as tie
-use Rattle.fields.proofs.i64_at.Reads as reads
-use Rattle.fields.proofs.i64_at.Lts as lts
-use Rattle.fields.proofs.signed64.Reads as signed64-reads
-use Rattle.fields.proofs.u64_at.Reads as u64-at-reads
-use Rattle.fields.proofs.u64_refusal.Reads as u64-refusal-reads
-
-u64-at-requires : tie.Need-u64-at-requires
-u64-at-requires c κs = search needs
-
-enum-known-field : tie.Need-enum-known-field
-enum-known-field c = search needs
-
-signed64-requires : tie.Need-signed64-requires
-signed64-requires c κs = search needs
-
-enum-told : tie.Need-enum-told
-enum-told c = search needs
-
-u64-refusal-requires : tie.Need-u64-refusal-requires
-u64-refusal-requires c κs = search needs
 
 returns : tie.Need-returns
 returns c =
@@ -40,10 +20,10 @@ pub i64-at-spec : {M : Type 1} → statement M
 i64-at-spec =
     tie.close
     (tie.spec
-    u64-at-requires
-    enum-known-field
-    signed64-requires
-    enum-told
-    u64-refusal-requires
+    (λ c κs. search needs)
+    (λ c. search needs)
+    (λ c κs. search needs)
+    (λ c. search needs)
+    (λ c κs. search needs)
     returns
     returns-2)

@@ -5,17 +5,6 @@ use Rattle.fields.proofs.Signed.{int-is, upper-is, upper-fits}
 use borrow.Author.Needs.{needs}
 use Rattle.fields.proofs.signed32.Statement.{statement}
 use Rattle.fields.proofs.signed32.Tie as tie
-use Rattle.fields.proofs.signed32.Reads as reads
-use Rattle.fields.proofs.signed32.Lts as lts
-
-cast-result : tie.Need-cast-result
-cast-result c = search needs
-
-sub-result : tie.Need-sub-result
-sub-result c = search needs
-
-cast-result-2 : tie.Need-cast-result-2
-cast-result-2 c = search needs
 
 sub-result-2 : tie.Need-sub-result-2
 sub-result-2 c = upper-fits w32 _ (c .before .fits .v) (c .if1 .left)
@@ -28,4 +17,4 @@ returns-2 c = upper-is w32 _ (c .before .fits .v) (c .if1 .left)
 
 pub signed32-spec : {M : Type 1} → statement M
 signed32-spec =
-    tie.close (tie.spec cast-result sub-result cast-result-2 sub-result-2 returns returns-2)
+    tie.close (tie.spec (λ c. search needs) (λ c. search needs) (λ c. search needs) sub-result-2 returns returns-2)

@@ -9,15 +9,6 @@ use Rattle.fields.proofs.Le.{span-ok, span-no}
 use borrow.Author.Needs.{needs}
 use Rattle.fields.proofs.then_uint.Statement.{statement}
 use Rattle.fields.proofs.then_uint.Tie as tie
-use Rattle.fields.proofs.then_uint.Reads as reads
-use Rattle.fields.proofs.then_uint.Lts as lts
-use Rattle.fields.proofs.within.Reads as within-reads
-
-enum-known-far : tie.Need-enum-known-far
-enum-known-far c = search needs
-
-within-requires : tie.Need-within-requires
-within-requires c κs = search needs
 
 add-t8 : tie.Need-add-t8
 add-t8 c =
@@ -45,4 +36,4 @@ returns-3 c = far-refused _ (c .enum-told .given .1)
 pub then-uint-spec : {M : Type 1} → statement M
 then-uint-spec =
     tie.close
-    (tie.spec enum-known-far within-requires add-t8 enum-told returns returns-2 returns-3)
+    (tie.spec (λ c. search needs) (λ c κs. search needs) add-t8 enum-told returns returns-2 returns-3)

@@ -8,13 +8,6 @@ use Rattle.fields.proofs.Le.{le-lt, uint-ok, uint-no}
 use borrow.Author.Needs.{needs}
 use Rattle.fields.proofs.u32_at.Statement.{statement}
 use Rattle.fields.proofs.u32_at.Tie as tie
-use Rattle.fields.proofs.u32_at.Reads as reads
-use Rattle.fields.proofs.u32_at.Lts as lts
-use Rattle.fields.proofs.four.Reads as four-reads
-use Rattle.fields.proofs.within.Reads as within-reads
-
-within-requires : tie.Need-within-requires
-within-requires c κs = search needs
 
 four-requires : tie.Need-four-requires
 four-requires c κs = leb-true _ _ (sym (c .before .within .ensures) ∙ c .if1 .taken)
@@ -36,4 +29,4 @@ returns-2 : tie.Need-returns-2
 returns-2 c = sym (uint-no 4 _ _ (leb-false _ _ (sym (c .before .within .ensures) ∙ c .if1 .left)))
 
 pub u32-at-spec : {M : Type 1} → statement M
-u32-at-spec = tie.close (tie.spec within-requires four-requires cast-t6 add-t7 returns returns-2)
+u32-at-spec = tie.close (tie.spec (λ c κs. search needs) four-requires cast-t6 add-t7 returns returns-2)

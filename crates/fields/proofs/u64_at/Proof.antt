@@ -8,13 +8,6 @@ use Rattle.fields.proofs.Le.{uint-ok, uint-no}
 use borrow.Author.Needs.{needs}
 use Rattle.fields.proofs.u64_at.Statement.{statement}
 use Rattle.fields.proofs.u64_at.Tie as tie
-use Rattle.fields.proofs.u64_at.Reads as reads
-use Rattle.fields.proofs.u64_at.Lts as lts
-use Rattle.fields.proofs.eight.Reads as eight-reads
-use Rattle.fields.proofs.within.Reads as within-reads
-
-within-requires : tie.Need-within-requires
-within-requires c κs = search needs
 
 eight-requires : tie.Need-eight-requires
 eight-requires c κs = leb-true _ _ (sym (c .before .within .ensures) ∙ c .if1 .taken)
@@ -33,4 +26,4 @@ returns-2 : tie.Need-returns-2
 returns-2 c = sym (uint-no 8 _ _ (leb-false _ _ (sym (c .before .within .ensures) ∙ c .if1 .left)))
 
 pub u64-at-spec : {M : Type 1} → statement M
-u64-at-spec = tie.close (tie.spec within-requires eight-requires add-t6 returns returns-2)
+u64-at-spec = tie.close (tie.spec (λ c κs. search needs) eight-requires add-t6 returns returns-2)

@@ -7,16 +7,6 @@ use Rattle.fields.proofs.Steps.{handed}
 use borrow.Author.Needs.{needs}
 use Rattle.fields.proofs.u8_at.Statement.{statement}
 use Rattle.fields.proofs.u8_at.Tie as tie
-use Rattle.fields.proofs.u8_at.Reads as reads
-use Rattle.fields.proofs.u8_at.Lts as lts
-use Rattle.fields.proofs.uint_at.Reads as uint-at-reads
-use Rattle.fields.proofs.u64_refusal.Reads as u64-refusal-reads
-
-uint-at-requires : tie.Need-uint-at-requires
-uint-at-requires c κs = search needs
-
-enum-known-field : tie.Need-enum-known-field
-enum-known-field c = search needs
 
 cast-t7 : tie.Need-cast-t7
 cast-t7 c =
@@ -25,9 +15,6 @@ cast-t7 c =
 
 enum-told : tie.Need-enum-told
 enum-told c = search needs
-
-u64-refusal-requires : tie.Need-u64-refusal-requires
-u64-refusal-requires c κs = search needs
 
 returns : tie.Need-returns
 returns c = sym (ap of-u64 (c .before .field .given .1)) ∙ c .before .before .before .uint-at .ensures
@@ -39,10 +26,10 @@ pub u8-at-spec : {M : Type 1} → statement M
 u8-at-spec =
     tie.close
     (tie.spec
-    uint-at-requires
-    enum-known-field
+    (λ c κs. search needs)
+    (λ c. search needs)
     cast-t7
     enum-told
-    u64-refusal-requires
+    (λ c κs. search needs)
     returns
     returns-2)

@@ -10,8 +10,6 @@ use Rattle.fields.proofs.Le.{le-below, le-more, le-none, uint-no}
 use borrow.Author.Needs.{needs}
 use Rattle.fields.proofs.uint_at.Statement.{statement}
 use Rattle.fields.proofs.uint_at.Tie as tie
-use Rattle.fields.proofs.uint_at.Reads as reads
-use Rattle.fields.proofs.uint_at.Lts as lts
 
 abbrev Inv-loop : tie.InvT-loop
 Inv-loop s at k v₀ i₀ v i = (i ≤ k) × (v ≡ le (k - i) s (at + i))
@@ -22,23 +20,11 @@ abbrev μ-loop : tie.MeasureT-loop
 returns : tie.Need-returns Inv-loop μ-loop
 returns c = sym (uint-no _ _ _ (omega arith))
 
-sub-if2 : tie.Need-sub-if2 Inv-loop μ-loop
-sub-if2 c = search needs
-
 returns-2 : tie.Need-returns-2 Inv-loop μ-loop
 returns-2 c = sym (uint-no _ _ _ (omega arith))
 
 loop-holds : tie.Need-loop-holds Inv-loop μ-loop
 loop-holds c = (omega arith, sym (le-none _ _ _))
-
-sub-i : tie.Need-sub-i Inv-loop μ-loop
-sub-i c = search needs
-
-add-v : tie.Need-add-v Inv-loop μ-loop
-add-v c = search needs
-
-shared-slice-read-v : tie.Need-shared-slice-read-v Inv-loop μ-loop
-shared-slice-read-v c = search needs
 
 cast-v : tie.Need-cast-v Inv-loop μ-loop
 cast-v c = omega (arith, c .shared-slice-known .given (c .before .before .before .before .before .args .at + (c .before .before .loop .i - 1)))
@@ -55,14 +41,8 @@ add-v-2 c =
     let l = c .before .before .loop in
     omega (arith, c .shared-slice-known .given (a .at + (l .i - 1)), le-below (a .k - l .i) 7 (a .s .now) (a .at + l .i) (c .shared-slice-known .given) (omega arith))
 
-loop-less : tie.Need-loop-less Inv-loop μ-loop
-loop-less c = search needs
-
 loop-again : tie.Need-loop-again Inv-loop μ-loop
 loop-again c = (omega arith, rw (c .before .before .loop .inv .1) (le-more _ _ _ _ (omega arith) (omega arith)))
-
-add-t6 : tie.Need-add-t6 Inv-loop μ-loop
-add-t6 c = search needs
 
 returns-3 : tie.Need-returns-3 Inv-loop μ-loop
 returns-3 c = uint-end _ _ _ (c .before .loop .i) _ (c .loop-test .left) (c .before .loop .inv .1) (omega arith)
@@ -74,16 +54,16 @@ uint-at-spec =
     Inv-loop
     μ-loop
     returns
-    sub-if2
+    (λ c. search needs)
     returns-2
     loop-holds
-    sub-i
-    add-v
-    shared-slice-read-v
+    (λ c. search needs)
+    (λ c. search needs)
+    (λ c. search needs)
     cast-v
     mul-v
     add-v-2
-    loop-less
+    (λ c. search needs)
     loop-again
-    add-t6
+    (λ c. search needs)
     returns-3)

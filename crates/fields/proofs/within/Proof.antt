@@ -8,17 +8,12 @@ use Rattle.fields.proofs.Le.{leb-sub}
 use borrow.Author.Needs.{needs}
 use Rattle.fields.proofs.within.Statement.{statement}
 use Rattle.fields.proofs.within.Tie as tie
-use Rattle.fields.proofs.within.Reads as reads
-use Rattle.fields.proofs.within.Lts as lts
 
 returns : tie.Need-returns
 returns c = let a = c .before .args in sym (lt-leb (a .at + a .k) (length (a .s .now)) (omega arith))
-
-sub-result : tie.Need-sub-result
-sub-result c = search needs
 
 returns-2 : tie.Need-returns-2
 returns-2 c = leb-sub _ _ _ (c .if1 .left)
 
 pub within-spec : {M : Type 1} → statement M
-within-spec = tie.close (tie.spec returns sub-result returns-2)
+within-spec = tie.close (tie.spec returns (λ c. search needs) returns-2)

@@ -6,34 +6,9 @@ use Rattle.pod.specs.Layout.{named}
 use borrow.Author.Needs.{needs}
 use Rattle.instruction.proofs.named_at.Statement.{statement}
 use Rattle.instruction.proofs.named_at.Tie as tie
-use Rattle.instruction.proofs.named_at.Reads as reads
-use Rattle.instruction.proofs.named_at.Lts as lts
-use Rattle.fields.proofs.u32_at.Reads as u32-at-reads
-use Rattle.op.proofs.is_text.Reads as is-text-reads
-use Rattle.op.proofs.number_of.Reads as number-of-reads
-use Rattle.op.proofs.operand_count.Reads as operand-count-reads
-use Rattle.fields.proofs.u32_refusal.Reads as u32-refusal-reads
-
-is-text-requires : tie.Need-is-text-requires
-is-text-requires c κs = search needs
-
-u32-at-requires : tie.Need-u32-at-requires
-u32-at-requires c κs = search needs
-
-enum-known-count : tie.Need-enum-known-count
-enum-known-count c = search needs
-
-number-of-requires : tie.Need-number-of-requires
-number-of-requires c κs = search needs
-
-operand-count-requires : tie.Need-operand-count-requires
-operand-count-requires c κs = search needs
 
 enum-told : tie.Need-enum-told
 enum-told c = search needs
-
-u32-refusal-requires : tie.Need-u32-refusal-requires
-u32-refusal-requires c κs = search needs
 
 returns : tie.Need-returns
 unfolding named
@@ -85,13 +60,13 @@ pub named-at-spec : {M : Type 1} → statement M
 named-at-spec =
     tie.close
     (tie.spec
-    is-text-requires
-    u32-at-requires
-    enum-known-count
-    number-of-requires
-    operand-count-requires
+    (λ c κs. search needs)
+    (λ c κs. search needs)
+    (λ c. search needs)
+    (λ c κs. search needs)
+    (λ c κs. search needs)
     enum-told
-    u32-refusal-requires
+    (λ c κs. search needs)
     returns
     returns-2
     returns-3

@@ -8,10 +8,6 @@ use Rattle.fields.proofs.Steps.{handed}
 use borrow.Author.Needs.{needs}
 use Rattle.instruction.proofs.operands_run.Statement.{statement}
 use Rattle.instruction.proofs.operands_run.Tie as tie
-use Rattle.instruction.proofs.operands_run.Reads as reads
-use Rattle.instruction.proofs.operands_run.Lts as lts
-use Rattle.pod.proofs.operand_at.Reads as operand-at-reads
-use Rattle.pod.proofs.operand_refusal.Reads as operand-refusal-reads
 
 abbrev Inv-loop : tie.InvT-loop
 Inv-loop s at count left₀ o₀ left o = span (many operand left s o) ≡ span (many operand count s at)
@@ -19,32 +15,14 @@ Inv-loop s at count left₀ o₀ left o = span (many operand left s o) ≡ span 
 abbrev μ-loop : tie.MeasureT-loop
 μ-loop s at count left₀ o₀ left o = left
 
-loop-holds : tie.Need-loop-holds Inv-loop μ-loop
-loop-holds c = search needs
-
-operand-at-requires : tie.Need-operand-at-requires Inv-loop μ-loop
-operand-at-requires c κs = search needs
-
-enum-known-operand : tie.Need-enum-known-operand Inv-loop μ-loop
-enum-known-operand c = search needs
-
 enum-told : tie.Need-enum-told Inv-loop μ-loop
 enum-told c = search needs
-
-operand-refusal-requires : tie.Need-operand-refusal-requires Inv-loop μ-loop
-operand-refusal-requires c κs = search needs
 
 returns : tie.Need-returns Inv-loop μ-loop
 returns c =
     let d = c .before .before .before in
     run-stop operand _ _ _ (d .before .before .loop .inv) (d .before .loop-test .taken)
     (sym (handed (ap of-operand (c .before .enum-told .given .1)) (d .operand-at .ensures) (c .operand-refusal .ensures)))
-
-sub-left : tie.Need-sub-left Inv-loop μ-loop
-sub-left c = search needs
-
-loop-less : tie.Need-loop-less Inv-loop μ-loop
-loop-less c = search needs
 
 loop-again : tie.Need-loop-again Inv-loop μ-loop
 loop-again c =
@@ -60,13 +38,13 @@ operands-run-spec =
     (tie.spec
     Inv-loop
     μ-loop
-    loop-holds
-    operand-at-requires
-    enum-known-operand
+    (λ c. search needs)
+    (λ c κs. search needs)
+    (λ c. search needs)
     enum-told
-    operand-refusal-requires
+    (λ c κs. search needs)
     returns
-    sub-left
-    loop-less
+    (λ c. search needs)
+    (λ c. search needs)
     loop-again
     returns-2)

@@ -8,20 +8,15 @@ use borrow.Author.Needs.{needs}
 use Rattle.journal.proofs.clear_trailer.Statement.{statement}
 use Rattle.journal.proofs.clear_trailer.Tie as tie
 
-sub-before : tie.Need-sub-before
-sub-before c = search needs
-
-clear-requires : tie.Need-clear-requires
-clear-requires c κs = search needs
-
-same-length : tie.Need-same-length
-same-length c = search needs
+abbrev start : tie.After-clear → tie.Start
+start c = c .before .before .before
 
 returns : tie.Need-returns
 returns c =
-    let s = (c .before .before .before .before .before) in
+    let l = c .before .before in
+    let s = start l in
     let k : s .args .used - (s .args .used - 20) ≡ 20 = omega (arith, s .pre .0) in
-    (refl, c .before .before .clear .ensures ∙ ap (λ n. put (s .args .used - 20) (zeros n) (s .args .journal .now)) k)
+    (refl, l .clear .ensures ∙ ap (λ n. put (s .args .used - 20) (zeros n) (s .args .journal .now)) k)
 
 pub clear-trailer-spec : {M : Type 1} → statement M
-clear-trailer-spec = tie.close (tie.spec sub-before clear-requires same-length returns)
+clear-trailer-spec = tie.close (tie.spec (λ c. search needs) (λ c κs. search needs) (λ c. search needs) returns)

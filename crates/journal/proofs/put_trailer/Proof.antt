@@ -5,45 +5,34 @@ use borrow.Author.Needs.{needs}
 use Rattle.journal.proofs.put_trailer.Statement.{statement}
 use Rattle.journal.proofs.put_trailer.Tie as tie
 
-put-u64-requires : tie.Need-put-u64-requires
-put-u64-requires c κs = search needs
+-- The way through the code, each store from the next.
+abbrev start : tie.After-put-u64 → tie.Start
+start c = c .before .before .before
 
-add-put-u32 : tie.Need-add-put-u32
-add-put-u32 c = search needs
+abbrev vip : tie.After-put-u32 → tie.After-put-u64
+vip c = c .before .before .before .before
 
-put-u32-requires : tie.Need-put-u32-requires
-put-u32-requires c κs = search needs
+abbrev place : tie.After-put-u322 → tie.After-put-u32
+place c = c .before .before .before .before
 
-add-put-u32-2 : tie.Need-add-put-u32-2
-add-put-u32-2 c = search needs
-
-put-u32-requires-2 : tie.Need-put-u32-requires-2
-put-u32-requires-2 c κs = search needs
-
-add-put-u32-3 : tie.Need-add-put-u32-3
-add-put-u32-3 c = search needs
-
-put-u32-requires-3 : tie.Need-put-u32-requires-3
-put-u32-requires-3 c κs = search needs
-
-same-length : tie.Need-same-length
-same-length c = search needs
+abbrev size : tie.After-put-u323 → tie.After-put-u322
+size c = c .before .before .before .before
 
 returns : tie.Need-returns
 returns c =
-    let s = c .before .before .before .before .before .before .before .before .before .before .before .before .before .before .before .before .before in
+    let s = start (vip (place (size (c .before .before)))) in
     cc (put-fields (s .args .at) (s .args .vip .0) (s .args .place) (s .args .size) (s .args .kind) (s .args .journal .now) (s .pre))
 
 pub put-trailer-spec : {M : Type 1} → statement M
 put-trailer-spec =
     tie.close
     (tie.spec
-    put-u64-requires
-    add-put-u32
-    put-u32-requires
-    add-put-u32-2
-    put-u32-requires-2
-    add-put-u32-3
-    put-u32-requires-3
-    same-length
+    (λ c κs. search needs)
+    (λ c. search needs)
+    (λ c κs. search needs)
+    (λ c. search needs)
+    (λ c κs. search needs)
+    (λ c. search needs)
+    (λ c κs. search needs)
+    (λ c. search needs)
     returns)

@@ -1,60 +1,52 @@
 -- `journal::read_trailer` meets its contract: each field is the number that stands there, and four bytes hold less than 2^32.
 -- Assumes nothing.
-use mathlib.Core.Path.{_∙_}
+use Rattle.fields.specs.Bytes.{Bytes}
 use Rattle.fields.proofs.Le.{le-lt}
 use Rattle.journal.proofs.Trailers.{trailer-at}
 use borrow.Author.Needs.{needs}
 use Rattle.journal.proofs.read_trailer.Statement.{statement}
 use Rattle.journal.proofs.read_trailer.Tie as tie
 
-eight-requires : tie.Need-eight-requires
-eight-requires c κs = search needs
+-- The way through the code, each field from the next.
+abbrev start : tie.After-eight → tie.Start
+start c = c .before .before
 
-add-four : tie.Need-add-four
-add-four c = search needs
+abbrev vip : tie.After-four → tie.After-eight
+vip c = c .before
 
-four-requires : tie.Need-four-requires
-four-requires c κs = search needs
+abbrev place : tie.After-four2 → tie.After-four
+place c = c .before
+
+abbrev len : tie.After-four3 → tie.After-four2
+len c = c .before
+
+octets : (c : tie.After-eight) → Bytes (start c .args .journal .now)
+octets c = c .before .shared-slice-known .given
 
 cast-place : tie.Need-cast-place
-cast-place c = record { fits = rw (c .four .ensures) (le-lt 4 _ _ (c .before .before .shared-slice-known .given)) }
+cast-place c = record { fits = rw (c .four .ensures) (le-lt 4 _ _ (octets (vip c))) }
 
-add-four-2 : tie.Need-add-four-2
-add-four-2 c = search needs
-
-four-requires-2 : tie.Need-four-requires-2
-four-requires-2 c κs = search needs
-
-cast-length : tie.Need-cast-length
-cast-length c = record { fits = rw (c .four2 .ensures) (le-lt 4 _ _ (c .before .before .before .shared-slice-known .given)) }
-
-add-four-3 : tie.Need-add-four-3
-add-four-3 c = search needs
-
-four-requires-3 : tie.Need-four-requires-3
-four-requires-3 c κs = search needs
+cast-len : tie.Need-cast-len
+cast-len c = record { fits = rw (c .four2 .ensures) (le-lt 4 _ _ (octets (vip (place c)))) }
 
 cast-kind : tie.Need-cast-kind
-cast-kind c = record { fits = rw (c .four3 .ensures) (le-lt 4 _ _ (c .before .before .before .before .shared-slice-known .given)) }
+cast-kind c = record { fits = rw (c .four3 .ensures) (le-lt 4 _ _ (octets (vip (place (len c))))) }
 
 returns : tie.Need-returns
-returns c =
-    let s = c .before .before .before .before .before in
-    trailer-at (s .args .journal .now) (s .args .at) (s .pre)
-    ∙ rw (c .four3 .ensures, c .before .four2 .ensures, c .before .before .four .ensures, c .before .before .before .eight .ensures)
+returns c = let s = start (vip (place (len c))) in cc (trailer-at (s .args .journal .now) (s .args .at) (s .pre))
 
 pub read-trailer-spec : {M : Type 1} → statement M
 read-trailer-spec =
     tie.close
     (tie.spec
-    eight-requires
-    add-four
-    four-requires
+    (λ c κs. search needs)
+    (λ c. search needs)
+    (λ c κs. search needs)
     cast-place
-    add-four-2
-    four-requires-2
-    cast-length
-    add-four-3
-    four-requires-3
+    (λ c. search needs)
+    (λ c κs. search needs)
+    cast-len
+    (λ c. search needs)
+    (λ c κs. search needs)
     cast-kind
     returns)

@@ -4,18 +4,12 @@ use borrow.Author.Needs.{needs}
 use Rattle.normal.proofs.normalise_convention.Statement.{statement}
 use Rattle.normal.proofs.normalise_convention.Tie as tie
 
-convention-end-requires : tie.Need-convention-end-requires
-convention-end-requires c κs = search needs
-
-normalise-flag-requires : tie.Need-normalise-flag-requires
-normalise-flag-requires c κs = search needs
-
-same-length : tie.Need-same-length
-same-length c = search needs
-
 returns : tie.Need-returns
-returns c = convention-normal (c .before .before .before .before .before .before .slice-known .given) _ (c .before .before .before .before .convention-end .ensures) (c .before .before .normalise-flag .ensures)
+returns c =
+    let flag = c .before .before in
+    let end = flag .before .before in
+    convention-normal (end .before .before .slice-known .given) _ (end .convention-end .ensures) (flag .normalise-flag .ensures)
 
 pub normalise-convention-spec : {M : Type 1} → statement M
 normalise-convention-spec =
-    tie.close (tie.spec convention-end-requires normalise-flag-requires same-length returns)
+    tie.close (tie.spec (λ c κs. search needs) (λ c κs. search needs) (λ c. search needs) returns)

@@ -16,24 +16,6 @@ returns c = λ h l. absurd (omega arith)
 returns-2 : tie.Need-returns-2
 returns-2 c = λ h l. absurd (omega arith)
 
-sub-a : tie.Need-sub-a
-sub-a c = search needs
-
-slice-read-a : tie.Need-slice-read-a
-slice-read-a c = search needs
-
-cast-a : tie.Need-cast-a
-cast-a c = search needs
-
-sub-a-2 : tie.Need-sub-a-2
-sub-a-2 c = search needs
-
-slice-write-a : tie.Need-slice-write-a
-slice-write-a c = search needs
-
-same-length : tie.Need-same-length
-same-length c = search needs
-
 returns-3 : tie.Need-returns-3
 returns-3 c =
     λ h l. let a = c .before .before .before .args .a .now in
@@ -46,10 +28,10 @@ normalise-flag-spec =
     (tie.spec
     returns
     returns-2
-    sub-a
-    slice-read-a
-    cast-a
-    sub-a-2
-    slice-write-a
-    same-length
+    (λ c. search needs)
+    (λ c. search needs)
+    (λ c. search needs)
+    (λ c. search needs)
+    (λ c. search needs)
+    (λ c. search needs)
     returns-3)

@@ -4,18 +4,12 @@ use borrow.Author.Needs.{needs}
 use Rattle.normal.proofs.normalise_instruction.Statement.{statement}
 use Rattle.normal.proofs.normalise_instruction.Tie as tie
 
-instruction-end-requires : tie.Need-instruction-end-requires
-instruction-end-requires c κs = search needs
-
-normalise-flag-requires : tie.Need-normalise-flag-requires
-normalise-flag-requires c κs = search needs
-
-same-length : tie.Need-same-length
-same-length c = search needs
-
 returns : tie.Need-returns
-returns c = instruction-normal (c .before .before .before .before .before .before .slice-known .given) _ (c .before .before .before .before .instruction-end .ensures) (c .before .before .normalise-flag .ensures)
+returns c =
+    let flag = c .before .before in
+    let end = flag .before .before in
+    instruction-normal (end .before .before .slice-known .given) _ (end .instruction-end .ensures) (flag .normalise-flag .ensures)
 
 pub normalise-instruction-spec : {M : Type 1} → statement M
 normalise-instruction-spec =
-    tie.close (tie.spec instruction-end-requires normalise-flag-requires same-length returns)
+    tie.close (tie.spec (λ c κs. search needs) (λ c κs. search needs) (λ c. search needs) returns)

@@ -2,7 +2,6 @@
 use Prim.Native.Nat.{ℕ}
 use mathlib.Core.Path.{_≡_, refl, _∙_}
 use mathlib.Core.List.{List}
-use mathlib.Core.Bool.{false}
 use lib.ListN.{length}
 use Rattle.fields.specs.Parse.{ok, counted}
 use Rattle.pod.specs.Values.{Instruction}
@@ -15,38 +14,20 @@ use Rattle.normal.proofs.normalise_instructions.Statement.{statement}
 use Rattle.normal.proofs.normalise_instructions.Tie as tie
 
 abbrev Inv-loop : tie.InvT-loop
-Inv-loop a₀ at left₀ o₀ a left o = (length a ≡ length a₀) × ((xs : List Instruction) (n : ℕ) → counted (instruction false) a₀ at ≡ ok xs n → Run (instruction false) instruction-bytes a₀ at xs n a left o)
+Inv-loop a₀ at left₀ o₀ a left o = (length a ≡ length a₀) × ((xs : List Instruction) (n : ℕ) → counted instruction a₀ at ≡ ok xs n → Run instruction instruction-bytes a₀ at xs n a left o)
 
 abbrev μ-loop : tie.MeasureT-loop
 μ-loop a₀ at left₀ o₀ a left o = left
 
-word32-requires : tie.Need-word32-requires Inv-loop μ-loop
-word32-requires c κs = search needs
-
-jump-requires : tie.Need-jump-requires Inv-loop μ-loop
-jump-requires c κs = search needs
-
 loop-holds : tie.Need-loop-holds Inv-loop μ-loop
 loop-holds c = (refl, λ xs n e. run-start (c .before .before .before .before .slice-known .given) e (c .before .before .word32 .ensures) (c .jump .ensures))
-
-normalise-instruction-requires : tie.Need-normalise-instruction-requires Inv-loop μ-loop
-normalise-instruction-requires c κs = search needs
-
-sub-left : tie.Need-sub-left Inv-loop μ-loop
-sub-left c = search needs
-
-loop-less : tie.Need-loop-less Inv-loop μ-loop
-loop-less c = search needs
 
 loop-again : tie.Need-loop-again Inv-loop μ-loop
 loop-again c =
     let call = c .before .before in
     let turn = call .before .before in
     let inv = turn .before .loop .inv in
-    (call .normalise-instruction .kept .0 ∙ inv .0, λ xs n e. run-next (inv .1 xs n e) (local-instruction false) (turn .loop-test .taken) (call .normalise-instruction .ensures))
-
-same-length : tie.Need-same-length Inv-loop μ-loop
-same-length c = search needs
+    (call .normalise-instruction .kept .0 ∙ inv .0, λ xs n e. run-next (inv .1 xs n e) local-instruction (turn .loop-test .taken) (call .normalise-instruction .ensures))
 
 returns : tie.Need-returns Inv-loop μ-loop
 returns c = record { when = λ xs n e. run-end (c .before .loop .inv .1 xs n e) (c .loop-test .left) }
@@ -57,12 +38,12 @@ normalise-instructions-spec =
     (tie.spec
     Inv-loop
     μ-loop
-    word32-requires
-    jump-requires
+    (λ c κs. search needs)
+    (λ c κs. search needs)
     loop-holds
-    normalise-instruction-requires
-    sub-left
-    loop-less
+    (λ c κs. search needs)
+    (λ c. search needs)
+    (λ c. search needs)
     loop-again
-    same-length
+    (λ c. search needs)
     returns)

@@ -9,28 +9,14 @@ use Rattle.normal.proofs.normalise_routine.Tie as tie
 returns : tie.Need-returns
 returns c = too-short (c .before .slice-known .given) (c .if1 .taken)
 
-slice-write-a : tie.Need-slice-write-a
-slice-write-a c = search needs
-
-normalise-convention-requires : tie.Need-normalise-convention-requires
-normalise-convention-requires c κs = search needs
-
-normalise-convention-requires-2 : tie.Need-normalise-convention-requires-2
-normalise-convention-requires-2 c κs = search needs
-
-normalise-conventions-requires : tie.Need-normalise-conventions-requires
-normalise-conventions-requires c κs = search needs
-
-normalise-blocks-requires : tie.Need-normalise-blocks-requires
-normalise-blocks-requires c κs = search needs
-
 same-length : tie.Need-same-length
 same-length c =
     let blocks = c .before .before in
     let special = blocks .before .before .before .before in
     let sub = special .before .before .before .before in
     let own = sub .before .before .before .before in
-    blocks .normalise-blocks .kept .0 ∙ special .normalise-conventions .kept .0 ∙ sub .normalise-convention2 .kept .0 ∙ own .normalise-convention .kept .0 ∙ length-set (own .before .before .before .before .args .a .now) _ _
+    blocks .normalise-blocks .kept .0 ∙ special .normalise-conventions .kept .0 ∙ sub .normalise-convention2 .kept .0 ∙ own .normalise-convention .kept .0
+    ∙ length-set (own .before .before .before .before .args .a .now) _ _
 
 returns-2 : tie.Need-returns-2
 returns-2 c =
@@ -38,17 +24,18 @@ returns-2 c =
     let special = blocks .before .before .before .before in
     let sub = special .before .before .before .before in
     let own = sub .before .before .before .before in
-    routine-normal (own .before .before .before .slice-known .given) refl (own .normalise-convention .ensures) (sub .normalise-convention2 .ensures) (special .normalise-conventions .ensures) (blocks .normalise-blocks .ensures)
+    routine-normal (own .before .before .before .slice-known .given) refl (own .normalise-convention .ensures) (sub .normalise-convention2 .ensures)
+    (special .normalise-conventions .ensures) (blocks .normalise-blocks .ensures)
 
 pub normalise-routine-spec : {M : Type 1} → statement M
 normalise-routine-spec =
     tie.close
     (tie.spec
     returns
-    slice-write-a
-    normalise-convention-requires
-    normalise-convention-requires-2
-    normalise-conventions-requires
-    normalise-blocks-requires
+    (λ c. search needs)
+    (λ c κs. search needs)
+    (λ c κs. search needs)
+    (λ c κs. search needs)
+    (λ c κs. search needs)
     same-length
     returns-2)

@@ -1,69 +1,58 @@
--- The fast lookup: where the packed name found has the name's own key, it is that name.
+-- The fast lookup: where the slot found has the name's own key, it is that of the name.
 use native.Mathlib.Omega.{arith}
-use mathlib.Core.Path.{_∙_}
-use Prim.Native.Nat.{_+_, _*_}
+use mathlib.Core.Path.{_≡_, ap, _∙_}
+use Prim.Native.Nat.{_+_, _*_, _%_, _^_, _≤_, _<_}
+use Rattle.fields.specs.Parse.{le}
 use Rattle.op.proofs.Packed.{low-below, known, hash-fits}
 use borrow.Author.Needs.{needs}
 use Rattle.op.proofs.fast_lookup.Statement.{statement}
 use Rattle.op.proofs.fast_lookup.Tie as tie
-use Rattle.op.proofs.fast_lookup.Reads as reads
-use Rattle.op.proofs.fast_lookup.Lts as lts
-use Rattle.fields.proofs.eight.Reads as eight-reads
-use Rattle.op.proofs.packed_name.Reads as packed-name-reads
-use Rattle.op.proofs.low.Reads as low-reads
 
-returns : tie.Need-returns
-returns c = λ h. absurd (omega arith)
+-- The way through the code, each place from the next.
+abbrev entered : tie.Else2 → tie.After-shared-slice-known
+entered c = c .before .before
 
-returns-2 : tie.Need-returns-2
-returns-2 c = λ h. absurd (omega arith)
+abbrev measured : tie.After-low → tie.Else2
+measured c = c .before .before
 
-eight-requires : tie.Need-eight-requires
-eight-requires c κs = search needs
+abbrev hashed : tie.Then3 → tie.After-low
+hashed c = c .before .before .before
 
-low-requires : tie.Need-low-requires
-low-requires c κs = search needs
+abbrev start : tie.After-low → tie.Start
+start c = entered (measured c) .before
 
-mul-v : tie.Need-mul-v
-mul-v c = search needs
+-- What is known there: the lowest n bytes, which are at most 6.
+short : (c : tie.After-low) → start c .args .n ≤ 6
+short c = omega arith
 
-add-v : tie.Need-add-v
-add-v c = omega (arith, c .low .ensures, low-below (c .before .eight .result) (c .before .before .before .before .before .args .n) (omega arith))
+cut : (c : tie.After-low) → c .low .result ≡ le 8 (start c .args .s .now) (start c .args .at) % 2 ^ (8 * start c .args .n)
+cut c = c .low .ensures ∙ ap (λ v. v % 2 ^ (8 * start c .args .n)) (c .before .eight .ensures)
 
-add-f : tie.Need-add-f
-add-f c = search needs
+small : (c : tie.After-low) → c .low .result < 2 ^ 48
+small c = omega (arith, c .low .ensures, low-below (c .before .eight .result) (start c .args .n) (short c))
 
-mul-packed-name : tie.Need-mul-packed-name
-mul-packed-name c =
-    let n = c .before .before .before .before .before .args .n in
-    let b = low-below (c .before .eight .result) n (omega arith) in
-    record { fits = hash-fits (c .low .result + 281474976710656 * n) (omega (arith, c .low .ensures)) }
-
-packed-name-requires : tie.Need-packed-name-requires
-packed-name-requires c κs = search needs
+mul-hash : tie.Need-mul-hash
+mul-hash c = record { fits = hash-fits (c .low .result + 281474976710656 * start c .args .n) (omega (arith, small c, short c)) }
 
 returns-3 : tie.Need-returns-3
-returns-3 c = λ h.
-    let w = c .before .before in
-    let a = w .before .before .before .before in
-    known _ _ (a .before .args .n) (c .before .packed-name .result) (c .before .packed-name .ensures) (a .shared-slice-known .given) (a .before .pre) (omega arith)
-    (c .if3 .taken ∙ rw (w .low .ensures, w .before .eight .ensures))
-
-returns-4 : tie.Need-returns-4
-returns-4 c = λ h. absurd (omega arith)
+returns-3 c h =
+    let g = hashed c in
+    let s = start g in
+    let r = c .before .before .slot-of in
+    known _ _ (s .args .n) (r .result) (r .ensures) (entered (measured g) .shared-slice-known .given) (s .pre) (short g) (omega (arith, cut g))
 
 pub fast-lookup-spec : {M : Type 1} → statement M
 fast-lookup-spec =
     tie.close
     (tie.spec
-    returns
-    returns-2
-    eight-requires
-    low-requires
-    mul-v
-    add-v
-    add-f
-    mul-packed-name
-    packed-name-requires
+    (λ c h. absurd (omega arith))
+    (λ c h. absurd (omega arith))
+    (λ c κs. search needs)
+    (λ c κs. search needs)
+    (λ c. search needs)
+    (λ c. omega (arith, small c, short c))
+    (λ c. search needs)
+    mul-hash
+    (λ c κs. search needs)
     returns-3
-    returns-4)
+    (λ c h. absurd (omega arith)))

@@ -9,22 +9,9 @@ use Rattle.op.proofs.Table.{entry}
 use borrow.Author.Needs.{needs}
 use Rattle.op.proofs.name_byte.Statement.{statement}
 use Rattle.op.proofs.name_byte.Tie as tie
-use Rattle.op.proofs.name_byte.Reads as reads
-use Rattle.op.proofs.name_byte.Lts as lts
 
 rule : ℕ → ℕ
 rule i = getD (getD names (i / 6) []) (i % 6) 0
-
--- END
-
-mul-result : tie.Need-mul-result
-mul-result c = search needs
-
-add-result : tie.Need-add-result
-add-result c = search needs
-
-array-read-result : tie.Need-array-read-result
-array-read-result c = search needs
 
 returns : tie.Need-returns
 unfolding names rule
@@ -35,4 +22,4 @@ returns c =
     entry rule 294 (a .k * 6 + a .j) (omega arith) ∙ ap₂ (λ x y. getD (getD names x []) y 0) q r
 
 pub name-byte-spec : {M : Type 1} → statement M
-name-byte-spec = tie.close (tie.spec mul-result add-result array-read-result returns)
+name-byte-spec = tie.close (tie.spec (λ c. search needs) (λ c. search needs) (λ c. search needs) returns)

@@ -1,7 +1,7 @@
 -- Whether bytes are an operation's name. The loop keeps that the bytes passed are equal.
 use mathlib.Core.List.{List, []}
 use Rattle.op.proofs.Same.{same-yes, same-no, short}
-use mathlib.Core.Path.{_≡_, sym, _∙_, ap}
+use mathlib.Core.Path.{_≡_, sym, ap}
 use Prim.Native.Nat.{ℕ, _≤_, _<_, _-_}
 use native.Mathlib.Omega.{arith}
 use lib.ListN.{length, getD}
@@ -11,10 +11,6 @@ use Rattle.op.specs.Ops.{names}
 use borrow.Author.Needs.{needs}
 use Rattle.op.proofs.name_is.Statement.{statement}
 use Rattle.op.proofs.name_is.Tie as tie
-use Rattle.op.proofs.name_is.Reads as reads
-use Rattle.op.proofs.name_is.Lts as lts
-use Rattle.op.proofs.name_byte.Reads as name-byte-reads
-use Rattle.op.proofs.name_len.Reads as name-len-reads
 
 abbrev Inv-loop : tie.InvT-loop
 Inv-loop w k n j₀ j = (j ≤ n) × ((i : ℕ) → i < j → getD w i 0 ≡ getD (getD names k []) i 0)
@@ -22,36 +18,30 @@ Inv-loop w k n j₀ j = (j ≤ n) × ((i : ℕ) → i < j → getD w i 0 ≡ get
 abbrev μ-loop : tie.MeasureT-loop
 μ-loop w k n j₀ j = n - j
 
-name-len-requires : tie.Need-name-len-requires Inv-loop μ-loop
-name-len-requires c κs = search needs
+-- the way through the code, each place from the next
+abbrev start : tie.At-loop Inv-loop μ-loop → tie.Start Inv-loop μ-loop
+start c = c .before .before .before .before
+
+abbrev turn : tie.After-shared-slice-known2 Inv-loop μ-loop → tie.At-loop Inv-loop μ-loop
+turn c = c .before .before
+
+abbrev at-byte : tie.After-name-byte Inv-loop μ-loop → tie.At-loop Inv-loop μ-loop
+at-byte c = turn (c .before)
 
 returns : tie.Need-returns Inv-loop μ-loop
-returns c = sym (same-no _ _ (λ e. c .if1 .taken (ap length e ∙ sym (c .before .name-len .ensures))))
-
-loop-holds : tie.Need-loop-holds Inv-loop μ-loop
-loop-holds c = search needs
-
-shared-slice-read-if2 : tie.Need-shared-slice-read-if2 Inv-loop μ-loop
-shared-slice-read-if2 c = search needs
+returns c = sym (same-no _ _ (λ e. omega (arith, ap length e)))
 
 name-byte-requires : tie.Need-name-byte-requires Inv-loop μ-loop
-name-byte-requires c κs = omega (arith, short (c .before .before .before .before .before .before .args .k))
+name-byte-requires c κs = omega (arith, short (start (turn c) .args .k))
 
 returns-2 : tie.Need-returns-2 Inv-loop μ-loop
-returns-2 c = sym (same-no _ _ (λ e. c .if2 .taken (ap (λ (l : List ℕ). getD l (c .before .before .before .before .loop .j) 0) e ∙ sym (c .before .name-byte .ensures))))
-
-add-j : tie.Need-add-j Inv-loop μ-loop
-add-j c = search needs
-
-loop-less : tie.Need-loop-less Inv-loop μ-loop
-loop-less c = search needs
+returns-2 c = sym (same-no _ _ (λ e. omega (arith, ap (λ (l : List ℕ). getD l (at-byte (c .before) .loop .j) 0) e)))
 
 loop-again : tie.Need-loop-again Inv-loop μ-loop
-loop-again c = (omega arith, below-more _ _ (c .before .before .before .before .loop .inv .1) (c .if2 .left ∙ c .before .name-byte .ensures))
+loop-again c = (omega arith, below-more _ _ (at-byte (c .before) .loop .inv .1) (omega arith))
 
 returns-3 : tie.Need-returns-3 Inv-loop μ-loop
-returns-3 c =
-    sym (same-yes _ _ (ext-getD 0 _ _ (omega arith) (λ i h. c .before .loop .inv .1 i (omega arith))))
+returns-3 c = let l = c .before .loop in sym (same-yes _ _ (ext-getD 0 _ _ (omega arith) (λ i h. l .inv .1 i (omega arith))))
 
 pub name-is-spec : {M : Type 1} → statement M
 name-is-spec =
@@ -59,13 +49,13 @@ name-is-spec =
     (tie.spec
     Inv-loop
     μ-loop
-    name-len-requires
+    (λ c κs. search needs)
     returns
-    loop-holds
-    shared-slice-read-if2
+    (λ c. search needs)
+    (λ c. search needs)
     name-byte-requires
     returns-2
-    add-j
-    loop-less
+    (λ c. search needs)
+    (λ c. search needs)
     loop-again
     returns-3)

@@ -3,28 +3,18 @@ use Prim.Native.Nat.{ℕ}
 use mathlib.Core.List.{[]}
 use native.Mathlib.Omega.{arith}
 use lib.ListN.{length, getD}
-use Rattle.op.specs.Ops.{names, counts}
+use Rattle.op.specs.Ops.{names}
 use Rattle.op.proofs.Table.{entry}
 use borrow.Author.Needs.{needs}
 use Rattle.op.proofs.name_len.Statement.{statement}
 use Rattle.op.proofs.name_len.Tie as tie
-use Rattle.op.proofs.name_len.Reads as reads
-use Rattle.op.proofs.name_len.Lts as lts
 
 rule : ℕ → ℕ
 rule i = length (getD names i [])
 
--- END
-
-mul-result : tie.Need-mul-result
-mul-result c = search needs
-
-array-read-result : tie.Need-array-read-result
-array-read-result c = search needs
-
 returns : tie.Need-returns
-unfolding names counts rule
+unfolding names rule
 returns c = entry rule 49 (c .args .k) (omega arith)
 
 pub name-len-spec : {M : Type 1} → statement M
-name-len-spec = tie.close (tie.spec mul-result array-read-result returns)
+name-len-spec = tie.close (tie.spec (λ c. search needs) (λ c. search needs) returns)

@@ -1,4 +1,5 @@
 -- The test of 11 is on the size of the written form; then the calls leave that form, zeros after it and a journal of zeros.
+-- Assumes nothing.
 use native.Mathlib.Omega.{arith}
 use mathlib.Core.Path.{_∙_}
 use Rattle.opening.proofs.Openings.{no-room, in-place}
@@ -6,49 +7,48 @@ use borrow.Author.Needs.{needs}
 use Rattle.opening.proofs.fill.Statement.{statement}
 use Rattle.opening.proofs.fill.Tie as tie
 
-refused-requires : tie.Need-refused-requires
-refused-requires c κs = search needs
+-- The way through the code, each place from the next.
+abbrev known : tie.Else1 → tie.After-shared-slice-known
+known c = c .before .before .before
+
+abbrev fitting : tie.After-put-written → tie.Else1
+fitting c = c .before .before
+
+abbrev putting : tie.After-clear → tie.After-put-written
+putting c = c .before .before .before .before
+
+abbrev clearing : tie.After-clear2 → tie.After-clear
+clearing c = c .before .before .before .before
 
 returns : tie.Need-returns
 returns c =
-    let known = c .before .before .before .before in
-    let start = known .before in
-    λ x e. c .refused .ensures _ _ (omega arith) ∙ no-room (start .args .exact) (start .args .file .now) (known .shared-slice-known .given) (start .args .n) x e (start .args .image .now) (start .args .journal .now) (c .before .if1 .taken)
-
-put-written-requires : tie.Need-put-written-requires
-put-written-requires c κs = search needs
-
-clear-requires : tie.Need-clear-requires
-clear-requires c κs = search needs
-
-clear-requires-2 : tie.Need-clear-requires-2
-clear-requires-2 c κs = search needs
-
-same-length : tie.Need-same-length
-same-length c = search needs
-
-same-length-2 : tie.Need-same-length-2
-same-length-2 c = search needs
+    let k = c .before .before .before .before in
+    let a = k .before .args in
+    λ x e q. c .refuse-opening .ensures _ _ (omega arith)
+    ∙ no-room (a .file .now) (k .shared-slice-known .given) (a .n) x e (a .image .now) (a .journal .now) (omega (arith, c .before .if1 .taken))
 
 returns-2 : tie.Need-returns-2
 returns-2 c =
-    let clear2 = c .before .before in
-    let clear = clear2 .before .before .before .before in
-    let call = clear .before .before .before .before in
-    let fits = call .before .before in
-    let known = fits .before .before .before in
-    let start = known .before in
-    λ x e. in-place (start .args .exact) (start .args .file .now) (known .shared-slice-known .given) (start .args .n) x e (start .args .image .now) (start .args .journal .now) (fits .if1 .left) _ _ _ (call .put-written .ensures x e) (clear .clear .ensures) (clear2 .clear2 .ensures)
+    let cleared = c .before .before .before in
+    let first = clearing cleared in
+    let put = putting first in
+    let fits = fitting put in
+    let k = known fits in
+    let a = k .before .args in
+    λ x e q. c .accept .ensures _ _
+    ∙ in-place (a .file .now) (k .shared-slice-known .given) (a .n) x e (a .image .now) (a .journal .now) (omega (arith, fits .if1 .left)) _ _ _
+    (put .put-written .ensures x e q) (first .clear .ensures) (cleared .clear2 .ensures)
 
 pub fill-spec : {M : Type 1} → statement M
 fill-spec =
     tie.close
     (tie.spec
-    refused-requires
+    (λ c κs. search needs)
     returns
-    put-written-requires
-    clear-requires
-    clear-requires-2
-    same-length
-    same-length-2
+    (λ c κs. search needs)
+    (λ c κs. search needs)
+    (λ c κs. search needs)
+    (λ c κs. search needs)
+    (λ c. search needs)
+    (λ c. search needs)
     returns-2)

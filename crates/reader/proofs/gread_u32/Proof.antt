@@ -20,7 +20,8 @@ use ghost.Atoms.{Atoms, sem}
 use contract.Lifetimes.{AllOutlive}
 use contract.Monad.{Fun, fact}
 use contract.Running.{givenOf, tables, tablesOf}
-use types.Kit.{Given, ‵, raw, given, _⊛_, ⋆, some, later, _$_, _∵_, !, qed, by, move, keep, drop, use1, use2, split, join, learn, pick, rewrite, fsplit, fsplit3, fjoin, fjoin3, feqI, suffices, frame, await, done}
+use types.Kit.{Given, ‵, raw, given, _⊛_, ⋆, some, later, _$_, _∵_, !, qed, by, move, keep, drop}
+use types.Kit.{use1, use2, split, join, learn, pick, rewrite, fsplit, fsplit3, fjoin, fjoin3, feqI, suffices, frame, await, done}
 use types.Part.{whole, sub, look-in, store-in}
 use types.Run.{look, init, forget, stop, hop, fld, from, load, of-opd, and-then, no-more, assigns, land, returns, enter, alloc1, alloc0, params1, pass1, pass0, free1, free0}
 use types.SemTy.{Body}
@@ -91,7 +92,8 @@ module _ {M : Type 1} (𝓤 : URA M) (H : Heap 𝓤) (A : Atoms 𝓤) (mem : Mem
   abbrev U32Past : Contract 𝓤
   U32Past = tripleOf 𝓤 H A u32-past.signature (u32-past.spec 𝓤 H A mem run)
 
-module _ {M : Type 1} (𝓤 : URA M) (H : Heap 𝓤) (A : Atoms 𝓤) (W : Given 𝓤 H A) (at-mem : Memory → SProp 𝓤) (run : Routine → Fun 𝓤) (κ κ′ : Lft) (q q′ : Share) (bounds : AllOutlive 2 (gread-u32.signature .outlives) (κ, (κ′, tt))) (b o : ℕ) (γ : GName) (h : Reader) where
+module _ {M : Type 1} (𝓤 : URA M) (H : Heap 𝓤) (A : Atoms 𝓤) (W : Given 𝓤 H A) (at-mem : Memory → SProp 𝓤) (run : Routine → Fun 𝓤)
+    (κ κ′ : Lft) (q q′ : Share) (bounds : AllOutlive 2 (gread-u32.signature .outlives) (κ, (κ′, tt))) (b o : ℕ) (γ : GName) (h : Reader) where
   abbrev x : RefT Reader × Unit {0}
   x = (record { ptr = (b, o); name = γ; now = h }, tt)
 
@@ -146,11 +148,14 @@ module _ {M : Type 1} (𝓤 : URA M) (H : Heap 𝓤) (A : Atoms 𝓤) (W : Given
   to-past = (((κ′, tt), (q′, tt), tt, (h .src, (h .at, tt)), passed), tt)
 
   -- what the struct owns gives what a callee owns of its arguments, and is kept
-  apart : h .at < 2 ^ 64 → ent 𝓤 (⋆ 𝓤 H A ((‵ (flft κ′ q′) ⊛ ‵ ftrue) ∷ ‵ Own ∷ [])) (sep 𝓤 (⋆ 𝓤 H A ((‵ (flft κ′ q′) ⊛ ‵ ftrue) ∷ ‵ (owns (ShrSlice (named 0) κ′ u8 ∷ usize ∷ []) (h .src, (h .at, tt)) passed) ∷ [])) (sem 𝓤 H A Own))
+  apart : h .at < 2 ^ 64
+      → ent 𝓤 (⋆ 𝓤 H A ((‵ (flft κ′ q′) ⊛ ‵ ftrue) ∷ ‵ Own ∷ []))
+      (sep 𝓤 (⋆ 𝓤 H A ((‵ (flft κ′ q′) ⊛ ‵ ftrue) ∷ ‵ (owns (ShrSlice (named 0) κ′ u8 ∷ usize ∷ []) (h .src, (h .at, tt)) passed) ∷ [])) (sem 𝓤 H A Own))
   apart fits =
       qed W ((‵ (flft κ′ q′) ⊛ ‵ ftrue) ∷ ‵ Own ∷ []) ∵
       move ! (1 ∷ []) $ use1 W (‵ Own ⊛ ‵ Own) (LL.copy D (T′.the-copy (α κ′)) 𝓤 H A W .twice h (mach ∷ [])) $ split ! $
-      use1 W (given (mach ∷ [] ≡ mach ∷ []) (‵ (all-own (D .parts) L vh))) (own-open 𝓤 H A W D L vh mach) $ learn ! (λ _. use1 W (‵ (ownAt (D .parts) L 0 (h .src)) ⊛ ‵ (rest (D .parts) L 0 vh)) (own-out 𝓤 H A W (D .parts) L 0 vh) $ split ! $
+      use1 W (given (mach ∷ [] ≡ mach ∷ []) (‵ (all-own (D .parts) L vh))) (own-open 𝓤 H A W D L vh mach) $
+      learn ! (λ _. use1 W (‵ (ownAt (D .parts) L 0 (h .src)) ⊛ ‵ (rest (D .parts) L 0 vh)) (own-out 𝓤 H A W (D .parts) L 0 vh) $ split ! $
       -- [what src owns; what at owns; what the struct owns; the token]
       move ! (1 ∷ []) $ drop ! $ nothing ! $ owned ! usize (Is usize) (uint-makes 𝓤 H A W w64) (h .at) _ (refl, fits) $ fjoin ! $ move ! (1 ∷ 0 ∷ []) $ fjoin ! $
       move ! (2 ∷ 0 ∷ []) $ join ! $ frame ! $ done !)
@@ -181,7 +186,8 @@ module _ {M : Type 1} (𝓤 : URA M) (H : Heap 𝓤) (A : Atoms 𝓤) (W : Given
       -- [obs; the borrow; the result]
       feqI ! (List Val) (vptr b o ∷ []) (vptr b o ∷ []) refl $ fjoin3 ! $ nothing ! $ move ! (1 ∷ 0 ∷ []) $ fjoin ! $ done !
 
-  module _ (C : Calls 𝓤 H) (Λ : Loops 𝓤 H) (fm : FmC 𝓤 H (W .laws) C) (known-at : Triple 𝓤 (C #fields·u32-at) (U32At 𝓤 H A at-mem run)) (known-past : Triple 𝓤 (C #reader·u32-past) (U32Past 𝓤 H A at-mem run)) where
+  module _ (C : Calls 𝓤 H) (Λ : Loops 𝓤 H) (fm : FmC 𝓤 H (W .laws) C) (known-at : Triple 𝓤 (C #fields·u32-at) (U32At 𝓤 H A at-mem run))
+      (known-past : Triple 𝓤 (C #reader·u32-past) (U32Past 𝓤 H A at-mem run)) where
     walk : ent 𝓤 (onEntry 𝓤 H A gread-u32.signature (κ, (κ′, tt)) (q, (q′, tt)) x at) (WpFn 𝓤 H C Λ code.function (vptr b o ∷ []) Post)
     walk =
         qed W ((‵ (flft κ q) ⊛ ‵ (flft κ′ q′) ⊛ ‵ ftrue) ∷ ‵ (owns (MutRef (named 0) κ (B κ′) ∷ []) x at) ∷ []) ∵ enter ! C Λ code.function (vptr b o ∷ []) _ $
@@ -194,23 +200,30 @@ module _ {M : Type 1} (𝓤 : URA M) (H : Heap 𝓤) (A : Atoms 𝓤) (W : Given
         -- [the struct's cell; what a Reader owns; the open borrow; obs; auth; 'a's token; …; room for _5; …; room for _4; …; room for _3; …; room for _2; …; _1; …; room for _0; …]
         assigns ! (of-opd ! (load ! (from ! (hop ! (look ! 15 refl) (fld ! refl (stop !)))) (look-in ! 0 (sub ! 0 refl (whole !))))) (from ! (stop !)) (init ! 11 refl (tt, typed was .1 .0)) $
         assigns ! (of-opd ! (load ! (from ! (hop ! (look ! 15 refl) (fld ! refl (stop !)))) (look-in ! 0 (sub ! 1 refl (whole !))))) (from ! (stop !)) (init ! 9 refl (tt, typed was .1 .1 .0)) $
-        move ! (5 ∷ 1 ∷ []) $ use2 W (((‵ (flft κ′ q′) ⊛ ‵ ftrue) ⊛ ‵ (owns (ShrSlice (named 0) κ′ u8 ∷ usize ∷ []) (h .src, (h .at, tt)) passed)) ⊛ ‵ Own) (apart (typed was .1 .1 .0 .fits)) $ split ! $ use1 W (raw (U32At 𝓤 H A at-mem run .pre to-at)) asked-at $
+        move ! (5 ∷ 1 ∷ []) $
+        use2 W (((‵ (flft κ′ q′) ⊛ ‵ ftrue) ⊛ ‵ (owns (ShrSlice (named 0) κ′ u8 ∷ usize ∷ []) (h .src, (h .at, tt)) passed)) ⊛ ‵ Own) (apart (typed was .1 .1 .0 .fits)) $
+        split ! $ use1 W (raw (U32At 𝓤 H A at-mem run .pre to-at)) asked-at $
         calls-at ! fm (U32At 𝓤 H A at-mem run) known-at to-at (and-then ! (load ! (from ! (stop !)) (look ! 11 refl)) (and-then ! (load ! (from ! (stop !)) (look ! 9 refl)) (no-more !))) (λ u.
-        use1 W (later (some (λ (r : U32Read). ((‵ (flft κ′ q′) ⊛ ‵ ftrue) ⊛ ‵ (S.the-row .own r (u ∷ []))) ⊛ raw (ensured 𝓤 H A u32-at.ended (u32-at.clauses 𝓤 H A at-mem run) (κ′, tt) (h .src, (h .at, tt)) tt r)))) (id⊢ 𝓤 _) $ await ! tt $ pick ! (λ r.
+        use1 W (later (some (λ (r : U32Read). ((‵ (flft κ′ q′) ⊛ ‵ ftrue) ⊛ ‵ (S.the-row .own r (u ∷ [])))
+        ⊛ raw (ensured 𝓤 H A u32-at.ended (u32-at.clauses 𝓤 H A at-mem run) (κ′, tt) (h .src, (h .at, tt)) tt r)))) (id⊢ 𝓤 _) $ await ! tt $ pick ! (λ r.
         split ! $ move ! (1 ∷ []) $ use1 W (raw (fact 𝓤 (of-u32 r ≡ found))) (at-said r) $ heard ! (of-u32 r ≡ found) (λ e. split ! $ move ! (1 ∷ []) $
         -- [the result; 'a's token; what a Reader owns; the struct's cell; the open borrow; obs; auth; …; room for _5; …; _4; …; _3; …; room for _2; …; _1; …; room for _0; …]
         peeks ! S.the-row (Is S.the-row) (shows 𝓤 H A S.the-row) r (u ∷ []) (λ is.
         land ! (from ! (stop !)) (init ! 14 refl (EL.lawful S.the-type S′.the-laws 𝓤 H A W tt .typed r _ is .0)) $ forget ! 10 refl $ forget ! 12 refl $
         assigns ! (of-opd ! (load ! (from ! (hop ! (look ! 16 refl) (fld ! refl (stop !)))) (look-in ! 3 (sub ! 0 refl (whole !))))) (from ! (stop !)) (init ! 12 refl (tt, typed was .1 .0)) $
         assigns ! (of-opd ! (load ! (from ! (hop ! (look ! 16 refl) (fld ! refl (stop !)))) (look-in ! 3 (sub ! 1 refl (whole !))))) (from ! (stop !)) (init ! 8 refl (tt, typed was .1 .1 .0)) $
-        move ! (1 ∷ 2 ∷ []) $ use2 W (((‵ (flft κ′ q′) ⊛ ‵ ftrue) ⊛ ‵ (owns (ShrSlice (named 0) κ′ u8 ∷ usize ∷ []) (h .src, (h .at, tt)) passed)) ⊛ ‵ Own) (apart (typed was .1 .1 .0 .fits)) $ split ! $ use1 W (raw (U32Past 𝓤 H A at-mem run .pre to-past)) asked-past $
+        move ! (1 ∷ 2 ∷ []) $
+        use2 W (((‵ (flft κ′ q′) ⊛ ‵ ftrue) ⊛ ‵ (owns (ShrSlice (named 0) κ′ u8 ∷ usize ∷ []) (h .src, (h .at, tt)) passed)) ⊛ ‵ Own) (apart (typed was .1 .1 .0 .fits)) $
+        split ! $ use1 W (raw (U32Past 𝓤 H A at-mem run .pre to-past)) asked-past $
         calls-at ! fm (U32Past 𝓤 H A at-mem run) known-past to-past (and-then ! (load ! (from ! (stop !)) (look ! 12 refl)) (and-then ! (load ! (from ! (stop !)) (look ! 8 refl)) (no-more !))) (λ w.
-        use1 W (later (some (λ (n : ℕ). ((‵ (flft κ′ q′) ⊛ ‵ ftrue) ⊛ ‵ (usize .own n (w ∷ []))) ⊛ raw (ensured 𝓤 H A u32-past.ended (u32-past.clauses 𝓤 H A at-mem run) (κ′, tt) (h .src, (h .at, tt)) tt n)))) (id⊢ 𝓤 _) $ await ! tt $ pick ! (λ n.
+        use1 W (later (some (λ (n : ℕ). ((‵ (flft κ′ q′) ⊛ ‵ ftrue) ⊛ ‵ (usize .own n (w ∷ [])))
+        ⊛ raw (ensured 𝓤 H A u32-past.ended (u32-past.clauses 𝓤 H A at-mem run) (κ′, tt) (h .src, (h .at, tt)) tt n)))) (id⊢ 𝓤 _) $ await ! tt $ pick ! (λ n.
         split ! $ move ! (1 ∷ []) $ use1 W (raw (fact 𝓤 (n ≡ past (h .at) found))) (past-said n) $ heard ! (n ≡ past (h .at) found) (λ e′. split ! $ move ! (1 ∷ []) $
         -- [what n owns; 'a's token; what a Reader owns; the result; the struct's cell; the open borrow; obs; auth; …; _5; …; room for _4; …; _3; …; _2; …; _1; …; room for _0; …]
         peeks ! usize (Is usize) (shows 𝓤 H A usize) n (w ∷ []) (λ is′.
         land ! (from ! (stop !)) (init ! 11 refl (uint-lawful 𝓤 H A W w64 .typed n _ is′ .0)) $ rewrite ! 11 (λ (y : Val). ‵ (fat fullShare (tyInt w64) l₄ 0 y)) (ap only (is′ .0)) refl $
-        assigns ! (of-opd ! (load ! (from ! (stop !)) (look ! 11 refl))) (from ! (hop ! (look ! 17 refl) (fld ! refl (stop !)))) (store-in ! 4 (sub ! 1 refl (whole !)) (tt, record { fits = is′ .1 })) $
+        assigns ! (of-opd ! (load ! (from ! (stop !)) (look ! 11 refl))) (from ! (hop ! (look ! 17 refl) (fld ! refl (stop !))))
+        (store-in ! 4 (sub ! 1 refl (whole !)) (tt, record { fits = is′ .1 })) $
         assigns ! (of-opd ! (load ! (from ! (stop !)) (look ! 15 refl))) (from ! (stop !)) (init ! 19 refl (EL.lawful S.the-type S′.the-laws 𝓤 H A W tt .typed r _ is .0)) $
         -- the struct is put together again, at the new offset, and the borrow is closed
         drop ! $ move ! (1 ∷ []) $ use1 W (‵ (B κ′ .own (moved n) (T′.lowered (moved n) ∷ []))) (again n (is′ .1)) $
@@ -218,19 +231,23 @@ module _ {M : Type 1} (𝓤 : URA M) (H : Heap 𝓤) (A : Atoms 𝓤) (W : Given
         move ! (0 ∷ 1 ∷ 4 ∷ 5 ∷ 6 ∷ []) $ closes ! tt (B κ′) (moved n) (T′.lowered (moved n) ∷ []) b o $
         -- [obs; the borrow; the token; 'a's token; the result; …; _5; …; _4; …; _3; …; _2; …; _1; …; _0; …]
         returns ! (look ! 16 refl) $ forget ! 6 refl $ forget ! 8 refl $ forget ! 10 refl $ forget ! 12 refl $ forget ! 14 refl $ forget ! 16 refl $
-        move ! (16 ∷ 17 ∷ []) $ free1 ! $ move ! (14 ∷ 15 ∷ []) $ free1 ! $ move ! (12 ∷ 13 ∷ []) $ free1 ! $ move ! (10 ∷ 11 ∷ []) $ free1 ! $ move ! (8 ∷ 9 ∷ []) $ free1 ! $ move ! (6 ∷ 7 ∷ []) $ free1 ! $ free0 ! $
+        move ! (16 ∷ 17 ∷ []) $ free1 ! $ move ! (14 ∷ 15 ∷ []) $ free1 ! $ move ! (12 ∷ 13 ∷ []) $ free1 ! $ move ! (10 ∷ 11 ∷ []) $
+        free1 ! $ move ! (8 ∷ 9 ∷ []) $ free1 ! $ move ! (6 ∷ 7 ∷ []) $ free1 ! $ free0 ! $
         keep ! (0 ∷ 1 ∷ 2 ∷ 3 ∷ 4 ∷ []) $ by ! (exits r u n e e′)))))))))))))))))
 
 module _ {M : Type 1} (𝓤 : URA M) (H : Heap 𝓤) (A : Atoms 𝓤) (W : Given 𝓤 H A) (mem : Memory → SProp 𝓤) (run : Routine → Fun 𝓤) where
   gread-u32-walks : (C : Calls 𝓤 H) (Λ : Loops 𝓤 H) → FmC 𝓤 H (W .laws) C → Triple 𝓤 (C #fields·u32-at) (U32At 𝓤 H A mem run) → Triple 𝓤 (C #reader·u32-past) (U32Past 𝓤 H A mem run)
       → Walks 𝓤 H A gread-u32.ended stayed (WpFn 𝓤 H C Λ code.function) (gread-u32.clauses 𝓤 H A mem run)
-  gread-u32-walks C Λ fm known-at known-past = walked 𝓤 H A gread-u32.ended stayed (gread-u32.clauses 𝓤 H A mem run) (WpFn 𝓤 H C Λ code.function) (λ κs. (ptr-vals, tt)) (λ κs. (mut-tells (named 0) (κs .0) (B (κs .1 .0)), tt))
-      (λ κs qs bounds a g are. via 𝓤 _ (fst∗ 𝓤 _ (emp 𝓤)) (walk 𝓤 H A W mem run (κs .0) (κs .1 .0) (qs .0) (qs .1 .0) bounds (a .0 .ptr .0) (a .0 .ptr .1) (a .0 .name) (a .0 .now) C Λ fm known-at known-past))
+  gread-u32-walks C Λ fm known-at known-past = walked 𝓤 H A gread-u32.ended stayed (gread-u32.clauses 𝓤 H A mem run)
+      (WpFn 𝓤 H C Λ code.function) (λ κs. (ptr-vals, tt)) (λ κs. (mut-tells (named 0) (κs .0) (B (κs .1 .0)), tt))
+      (λ κs qs bounds a g are. via 𝓤 _ (fst∗ 𝓤 _ (emp 𝓤))
+      (walk 𝓤 H A W mem run (κs .0) (κs .1 .0) (qs .0) (qs .1 .0) bounds (a .0 .ptr .0) (a .0 .ptr .1) (a .0 .name) (a .0 .now) C Λ fm known-at known-past))
 
 gread-u32-meets : {M : Type 1} (𝓤 : URA M) (H : Heap 𝓤) (A : Atoms 𝓤) (W : Given 𝓤 H A) (mem : Memory → SProp 𝓤) (run : Routine → Fun 𝓤) (𝓣 : Tables 𝓤 H)
     → Triple 𝓤 (𝓣 .C #fields·u32-at) (U32At 𝓤 H A mem run) → Triple 𝓤 (𝓣 .C #reader·u32-past) (U32Past 𝓤 H A mem run)
     → Meets 𝓤 H A gread-u32.signature (WpFn 𝓤 H (𝓣 .C) (𝓣 .Λ) code.function) (gread-u32.spec 𝓤 H A mem run)
-gread-u32-meets 𝓤 H A W mem run 𝓣 known-at known-past = walk-meets 𝓤 H A gread-u32.ended stayed W (goes-ref 𝓤 H A W 2 0 tt behind, tt) (gread-u32.clauses 𝓤 H A mem run) (WpFn 𝓤 H (𝓣 .C) (𝓣 .Λ) code.function) (WpFn-mono 𝓤 H (W .laws) 𝓣 code.function)
+gread-u32-meets 𝓤 H A W mem run 𝓣 known-at known-past = walk-meets 𝓤 H A gread-u32.ended stayed W (goes-ref 𝓤 H A W 2 0 tt behind, tt)
+    (gread-u32.clauses 𝓤 H A mem run) (WpFn 𝓤 H (𝓣 .C) (𝓣 .Λ) code.function) (WpFn-mono 𝓤 H (W .laws) 𝓣 code.function)
     (gread-u32-walks 𝓤 H A W mem run (𝓣 .C) (𝓣 .Λ) (fmOf 𝓤 H (W .laws) 𝓣) known-at known-past)
 
 pub gread-u32-spec : {M : Type 1} → stated.statement M

@@ -56,7 +56,8 @@ module _ {M : Type 1} (𝓤 : URA M) (H : Heap 𝓤) (A : Atoms 𝓤) (W : Given
   exits : d .at < 2 ^ 64 → ent 𝓤 (onEntry 𝓤 H A position.signature (κ, tt) (q, tt) (d, tt) (mach ∷ [], tt)) (Post (vint w64 (d .at)))
   exits g =
       qed W ((‵ (flft κ q) ⊛ ‵ ftrue) ∷ ‵ (owns (B (κ, tt) ∷ []) (d, tt) (mach ∷ [], tt)) ∷ []) ∵
-      suffices ! _ (ends-at 𝓤 H A position.ended stayed (position.clauses 𝓤 H A mem run) W (((κ, tt), (q, tt), tt, (d, tt), (mach ∷ [], tt)), tt) (vint w64 (d .at)) (d .at) (tt, tt) (tt, tt)) $ says ! refl $
+      suffices ! _ (ends-at 𝓤 H A position.ended stayed (position.clauses 𝓤 H A mem run) W (((κ, tt), (q, tt), tt, (d, tt), (mach ∷ [], tt)), tt)
+      (vint w64 (d .at)) (d .at) (tt, tt) (tt, tt)) $ says ! refl $
       frame ! $ frame ! $ owned ! usize (Is usize) (uint-makes 𝓤 H A W w64) (d .at) _ (refl, g) $ done !
 
   module _ (C : Calls 𝓤 H) (Λ : Loops 𝓤 H) where
@@ -70,12 +71,14 @@ module _ {M : Type 1} (𝓤 : URA M) (H : Heap 𝓤) (A : Atoms 𝓤) (W : Given
 
 module _ {M : Type 1} (𝓤 : URA M) (H : Heap 𝓤) (A : Atoms 𝓤) (W : Given 𝓤 H A) (mem : Memory → SProp 𝓤) (run : Routine → Fun 𝓤) where
   position-walks : (C : Calls 𝓤 H) (Λ : Loops 𝓤 H) → Walks 𝓤 H A position.ended stayed (WpFn 𝓤 H C Λ code.function) (position.clauses 𝓤 H A mem run)
-  position-walks C Λ = walked 𝓤 H A position.ended stayed (position.clauses 𝓤 H A mem run) (WpFn 𝓤 H C Λ code.function) (λ κs. (LL.vals (T.the-type (namedLft 1 0 tt κs)) (T′.the-laws (namedLft 1 0 tt κs)), tt)) (λ κs. (LL.tells (T.the-type (namedLft 1 0 tt κs)) (T′.the-laws (namedLft 1 0 tt κs)), tt))
+  position-walks C Λ = walked 𝓤 H A position.ended stayed (position.clauses 𝓤 H A mem run) (WpFn 𝓤 H C Λ code.function)
+      (λ κs. (LL.vals (T.the-type (namedLft 1 0 tt κs)) (T′.the-laws (namedLft 1 0 tt κs)), tt)) (λ κs. (LL.tells (T.the-type (namedLft 1 0 tt κs)) (T′.the-laws (namedLft 1 0 tt κs)), tt))
       (λ κs qs bounds a g are. via 𝓤 _ (fst∗ 𝓤 _ (emp 𝓤)) (walk 𝓤 H A W mem run (κs .0) (qs .0) (a .0) C Λ (are .0)))
 
 position-meets : {M : Type 1} (𝓤 : URA M) (H : Heap 𝓤) (A : Atoms 𝓤) → Given 𝓤 H A → (mem : Memory → SProp 𝓤) (run : Routine → Fun 𝓤) (𝓣 : Tables 𝓤 H)
     → Meets 𝓤 H A position.signature (WpFn 𝓤 H (𝓣 .C) (𝓣 .Λ) code.function) (position.spec 𝓤 H A mem run)
-position-meets 𝓤 H A W mem run 𝓣 = walk-meets 𝓤 H A position.ended stayed W (goes-none 𝓤 H A W 1 B yes (λ κs x f. refl), tt) (position.clauses 𝓤 H A mem run) (WpFn 𝓤 H (𝓣 .C) (𝓣 .Λ) code.function) (WpFn-mono 𝓤 H (W .laws) 𝓣 code.function) (position-walks 𝓤 H A W mem run (𝓣 .C) (𝓣 .Λ))
+position-meets 𝓤 H A W mem run 𝓣 = walk-meets 𝓤 H A position.ended stayed W (goes-none 𝓤 H A W 1 B yes (λ κs x f. refl), tt)
+    (position.clauses 𝓤 H A mem run) (WpFn 𝓤 H (𝓣 .C) (𝓣 .Λ) code.function) (WpFn-mono 𝓤 H (W .laws) 𝓣 code.function) (position-walks 𝓤 H A W mem run (𝓣 .C) (𝓣 .Λ))
 
 pub position-spec : {M : Type 1} → stated.statement M
 unfolding code.routine tablesOf

@@ -9,9 +9,6 @@ use Rattle.reader.specs.Past.{past}
 use borrow.Author.Needs.{needs}
 use Rattle.reader.proofs.u32_past.Statement.{statement}
 use Rattle.reader.proofs.u32_past.Tie as tie
-use Rattle.reader.proofs.u32_past.Reads as reads
-use Rattle.reader.proofs.u32_past.Lts as lts
-use Rattle.fields.proofs.within.Reads as within-reads
 
 within-requires : tie.Need-within-requires
 within-requires c κs = search needs

@@ -1,195 +1,189 @@
--- `remove::remove_block` meets its contract: the state holds a routine, the search says whether and where its block stands, and each return is what
+-- `remove::remove_block` meets its contract: the state holds a routine, the search says whether and where its block stands, and each answer is what
 -- the step of a removal is at the tests made so far.
 -- Assumes nothing.
-use mathlib.Core.Path.{_≡_, _∙_}
-use Prim.Native.Nat.{ℕ, _+_, _≤_, _<_}
+use mathlib.Core.Path.{_≡_, sym, ap₂, _∙_}
+use mathlib.Core.List.{_++_}
+use Prim.Native.Nat.{ℕ, _+_, _-_, _≤_, _<_}
 use native.Mathlib.Omega.{arith}
 use lib.ListN.{length}
-use Rattle.pod.specs.Values.{Routine, BasicBlock}
-use Rattle.machine.specs.Edits.{place, block-at}
-use Rattle.machine.specs.Machine.{size}
+use Rattle.fields.specs.Bytes.{put}
+use Rattle.pod.specs.Values.{Routine}
+use Rattle.machine.specs.Edits.{place, block-at, size}
 use Rattle.machine.specs.Book.{State}
+use Rattle.machine.specs.Trailer.{trailer-with, trailer-bytes}
 use Rattle.machine.proofs.Keeps.{weight}
 use Rattle.book.specs.Says.{state}
 use Rattle.book.specs.Holding.{Holding}
 use Rattle.image.specs.Places.{Finds}
 use Rattle.remove.specs.Removable.{Removable}
 use Rattle.image.proofs.Inspects.{sound-holding}
-use Rattle.edits.proofs.Stands as B
+use Rattle.image.proofs.Here as B
 use Rattle.remove.proofs.Steps as K
 use borrow.Author.Needs.{needs}
 use Rattle.remove.proofs.remove_block.Statement.{statement}
 use Rattle.remove.proofs.remove_block.Tie as tie
 
-abbrev L : tie.Start → State
-L s = state (s .args .image .now) (s .args .journal .now) (s .args .book)
+-- the state at entry, the routine that it holds, the place of the vip, and the block there
+abbrev S : tie.Start → State
+S s = state (s .args .image .now) (s .args .journal .now) (s .args .book)
 
 abbrev R : tie.Start → Routine
 R s = s .pre .r
 
--- the place of the vip, and the block there
 abbrev P : tie.Start → ℕ
 P s = place (s .args .vip .0) (R s .explored-blocks)
 
-abbrev b : tie.Start → BasicBlock
-b s = block-at (P s) (R s .explored-blocks)
+abbrev W : tie.Start → ℕ
+W s = weight (block-at (P s) (R s .explored-blocks))
 
 holding : (s : tie.Start) → Holding (s .args .image .now) (R s)
 holding s = sound-holding (s .pre .sound)
 
+lent : (s : tie.Start) → (size (R s) ≤ 16777216) × (s .args .book .used ≤ 16777216)
+lent s = let g = s .pre .sound in (omega (arith, g .room, g .image-lent), omega (arith, g .used, g .journal-lent))
+
+-- The way through the code, each place from the next: every distance is counted here.
 abbrev start : tie.After-find → tie.Start
 start c = c .before .before .before .before
 
+abbrev finding : tie.Else1 → tie.After-find
+finding c = c .before .before
+
+abbrev being-there : tie.After-block-end → tie.Else1
+being-there c = c .before .before
+
+abbrev ending : tie.After-admit → tie.After-block-end
+ending c = c .before
+
+-- here every test is passed
+abbrev Passed : Type 0
+Passed = tie.Else2
+
+abbrev testing : Passed → tie.After-admit
+testing c = c .before
+
+abbrev passing : tie.After-put-entry → Passed
+passing c = c .before .before .before .before
+
+abbrev entering : tie.After-swap-remove → tie.After-put-entry
+entering c = c .before .before .before .before
+
+abbrev removing : tie.After-accept → tie.After-swap-remove
+removing c = c .before .before .before
+
+-- What is known at them.
 finds : (c : tie.After-find) → Finds (R (start c)) (start c .args .vip .0) (c .find .result)
 finds c = c .find .ensures (R (start c)) (holding (start c))
 
-abbrev found : tie.Else1 → tie.After-find
-found c = c .before .before
+there : (c : tie.Else1) → (let s = start (finding c) in P s < length (R s .explored-blocks))
+there c = let f = finding c in omega (arith, c .if1 .left, finds f .place, finds f .count)
 
-there : (c : tie.Else1) → P (start (found c)) < length (R (start (found c)) .explored-blocks)
-there c = let f = found c in omega (arith, c .if1 .left, finds f .place, finds f .count)
+-- at the end of the block, which stands in the routine
+module _ (c : tie.After-block-end) where
+  abbrev f : tie.After-find
+  f = finding (being-there c)
 
-abbrev passed : tie.After-block-end → tie.Else1
-passed c = c .before .before
+  abbrev s : tie.Start
+  s = start f
 
--- the block ends where the walk says, and the routine not before it
-ends : (c : tie.After-block-end) → c .block-end .result ≡ found (passed c) .find .result .at + weight (b (start (found (passed c))))
-ends c =
-    let e = passed c in
-    let s = start (found e) in
-    c .block-end .ensures ∙ B.end-here (R s) (P s) (there e) (s .args .image .now) (holding s) _ (finds (found e) .at)
+  ends : c .block-end .result ≡ f .find .result .at + W s
+  ends = c .block-end .ensures ∙ B.end-here (R s) (P s) (there (being-there c)) (s .args .image .now) (holding s) _ (finds f .at)
 
-whole : (c : tie.After-block-end) → c .block-end .result ≤ size (R (start (found (passed c))))
-whole c = let e = passed c in let s = start (found e) in omega (arith, ends c, finds (found e) .at, B.tail-size (R s) (P s) (there e))
+  whole : c .block-end .result ≤ size (R s)
+  whole = omega (arith, ends, finds f .at, B.tail-size (R s) (P s) (there (being-there c)))
 
-in-image : (c : tie.After-block-end) → c .block-end .result ≤ start (found (passed c)) .args .book .written
-in-image c = let s = start (found (passed c)) in omega (arith, whole c, s .pre .sound .written)
+  removable : Removable (R s) (P s) (s .args .image .now) (f .find .result .at) (c .block-end .result) (s .args .book .written)
+  removable =
+      let g = s .pre .sound in
+      record {
+        holds = g .holds;
+        is = g .image;
+        whole = g .written;
+        room = g .room;
+        lent = g .image-lent;
+        within = there (being-there c);
+        start = finds f .at;
+        stop = ends;
+      }
 
-lent : (c : tie.After-block-end) → start (found (passed c)) .args .book .written ≤ length (start (found (passed c)) .args .image .now)
-lent c = let s = start (found (passed c)) in omega (arith, s .pre .sound .written, s .pre .sound .room)
+  -- what will be written and used
+  abbrev size-of : ℕ
+  size-of = c .block-end .result - f .find .result .at
 
-removable : (c : tie.After-block-end)
-    → (let s = start (found (passed c)) in Removable (R s) (P s) (s .args .image .now) (found (passed c) .find .result .at) (c .block-end .result) (s .args .book .written))
-removable c =
-    let e = passed c in
-    let s = start (found e) in
-    let g = s .pre .sound in
-    record { holds = g .holds; is = g .image; whole = g .written; room = g .room; lent = g .image-lent; within = there e; start = finds (found e) .at; stop = ends c }
+  is-left : s .args .book .written - size-of + W s ≡ size (R s)
+  is-left = omega (arith, ends, whole, s .pre .sound .written)
 
-find-requires : tie.Need-find-requires
-find-requires c κs = search needs
+  is-spent : s .args .book .used + size-of + 20 ≡ s .args .book .used + W s + 20
+  is-spent = omega (arith, ends)
 
-cast-if1 : tie.Need-cast-if1
-cast-if1 c = search needs
+no-refusal : (c : Passed) → testing c .admit .result ≡ 0
+no-refusal c = omega (arith, c .if2 .left)
 
-same-length : tie.Need-same-length
-same-length c = search needs
+room : (c : Passed) → (let e = ending (testing c) in s e .args .book .used + size-of e + 20 ≤ length (s e .args .journal .now))
+room c =
+    let e = ending (testing c) in
+    K.room (S (s e)) (R (s e)) (s e .pre .sound) _ (there (being-there e)) _ _ (is-left e) (is-spent e) (testing c .admit .ensures) (no-refusal c) .1
 
-returns : tie.Need-returns
-returns c = let f = c .before .before in let s = start f in K.no-block _ _ _ (R s) (s .pre .sound) _ (omega (arith, c .if1 .taken, finds f .place, finds f .count))
+refused-15 : tie.Need-returns
+refused-15 c =
+    let f = c .before .before .before in
+    let s = start f in
+    c .refuse .ensures _ _ (omega arith)
+    ∙ sym (K.no-block (S s) (R s) (s .pre .sound) _ (omega (arith, c .before .if1 .taken, finds f .place, finds f .count)))
 
-block-end-requires : tie.Need-block-end-requires
-block-end-requires c κs = search needs
+not-admitted : tie.Need-returns-2
+not-admitted c =
+    let t = c .before .before in
+    let e = ending t in
+    c .refuse2 .ensures _ _ (omega (arith, c .before .if2 .taken))
+    ∙ sym (K.not-admitted (S (s e)) (R (s e)) (s e .pre .sound) _ (there (being-there e)) _ _ (is-left e) (is-spent e) (t .admit .ensures) (λ z. omega (arith, z, c .before .if2 .taken)))
 
-sub-size : tie.Need-sub-size
-sub-size c = omega (arith, ends c)
-
-sub-if2 : tie.Need-sub-if2
-sub-if2 c = search needs
-
-add-if2 : tie.Need-add-if2
-add-if2 c = omega (arith, whole c, in-image c, lent c, start (found (passed c)) .pre .sound .image-lent)
-
-same-length-2 : tie.Need-same-length-2
-same-length-2 c = search needs
-
-returns-2 : tie.Need-returns-2
-returns-2 c =
-    let u = c .before in
-    let e = passed u in
-    let s = start (found e) in
-    K.no-room _ _ _ (R s) (s .pre .sound) _ (there e) (omega (arith, c .if2 .taken, ends u))
-
-sub-copy-at : tie.Need-sub-copy-at
-sub-copy-at c = omega (arith, ends (c .before .before))
-
-part-copy-at-start : tie.Need-part-copy-at-start
-part-copy-at-start c = omega (arith, in-image (c .before .before .before), lent (c .before .before .before), ends (c .before .before .before))
-
-part-copy-at-end : tie.Need-part-copy-at-end
-part-copy-at-end c = omega (arith, in-image (c .before .before .before), lent (c .before .before .before), ends (c .before .before .before))
-
-copy-at-requires : tie.Need-copy-at-requires
-copy-at-requires c κs = search needs
-
-add-put-trailer : tie.Need-add-put-trailer
-add-put-trailer c = search needs
-
-cast-put-trailer : tie.Need-cast-put-trailer
-cast-put-trailer c = search needs
-
-cast-put-trailer-2 : tie.Need-cast-put-trailer-2
-cast-put-trailer-2 c = search needs
-
-put-trailer-requires : tie.Need-put-trailer-requires
-put-trailer-requires c κs = search needs
+put-entry-requires : tie.Need-put-entry-requires
+put-entry-requires c κs = let a = c .before .before .before in (omega (arith, room a), omega (arith, s (ending (testing a)) .pre .sound .journal-lent))
 
 swap-remove-requires : tie.Need-swap-remove-requires
-swap-remove-requires c κs = let u = c .before .before .before .before .before .before .before .before .before .before .before .before in let s = start (found (passed u)) in record { r = R s; i = P s; removable = removable u }
+swap-remove-requires c κs =
+    let e = ending (testing (passing (c .before .before .before))) in
+    record { r = R (s e); i = P (s e); removable = removable e }
 
-sub-t14 : tie.Need-sub-t14
-sub-t14 c = omega (arith, ends (c .before .before .before .before .before .before .before .before .before .before .before .before .before .before .before), in-image (c .before .before .before .before .before .before .before .before .before .before .before .before .before .before .before))
-
-add-t19 : tie.Need-add-t19
-add-t19 c = search needs
-
-add-t18 : tie.Need-add-t18
-add-t18 c = search needs
-
-same-length-3 : tie.Need-same-length-3
-same-length-3 c = search needs
-
-same-length-4 : tie.Need-same-length-4
-same-length-4 c = search needs
-
-returns-3 : tie.Need-returns-3
-returns-3 c =
-    let u = c .before .before .before .before .before .before .before .before .before .before .before .before .before .before .before in
-    let e = passed u in
-    let f = found e in
-    let s = start f in
-    K.removed _ _ _ (R s) (s .pre .sound) _ (there e) _ _ _ (finds f .at) (ends u) (finds f .place) (omega (arith, c .before .before .before .before .before .before .before .before .before .before .before .before .before .before .if2 .left)) _ _ _ _
-    (B.part-here (R s) (P s) (there e) (s .args .image .now) (holding s) _ _ (finds f .at) (ends u))
-    (c .before .before .before .before .before .before .before .before .before .before .copy-at .ensures)
-    (c .before .before .before .before .before .before .put-trailer .ensures)
-    (c .before .before .swap-remove .ensures (R s) (P s) (removable u))
+removed : tie.Need-returns-3
+removed c =
+    let w = removing c in
+    let n = entering w in
+    let a = passing n in
+    let e = ending (testing a) in
+    let s = s e in
+    let x = B.part-here (R s) (P s) (there (being-there e)) (s .args .image .now) (holding s) _ _ (finds (f e) .at) (ends e) in
+    c .accept .ensures _ _
+    ∙ K.removed (S s) (R s) (s .pre .sound) _ (there (being-there e)) _ _ (is-left e) (is-spent e) (testing a .admit .ensures) (no-refusal a) _ _
+    (w .swap-remove .ensures (R s) (P s) (removable e))
+    (n .put-entry .ensures ∙ ap₂ (λ i x. put (s .args .book .used) (x ++ trailer-bytes (trailer-with (s .args .vip .0) i (length x) 2)) (s .args .journal .now)) (finds (f e) .place) x)
 
 pub remove-block-spec : {M : Type 1} → statement M
 remove-block-spec =
     tie.close
     (tie.spec
-    find-requires
-    cast-if1
-    same-length
-    returns
-    block-end-requires
-    sub-size
-    sub-if2
-    add-if2
-    same-length-2
-    returns-2
-    sub-copy-at
-    part-copy-at-start
-    part-copy-at-end
-    copy-at-requires
-    add-put-trailer
-    cast-put-trailer
-    cast-put-trailer-2
-    put-trailer-requires
+    (λ c κs. search needs)
+    (λ c. search needs)
+    (λ c κs. search needs)
+    (λ c. search needs)
+    refused-15
+    (λ c κs. search needs)
+    (λ c. omega (arith, ends c))
+    (λ c. omega (arith, ends c, whole c, s c .pre .sound .written))
+    (λ c. omega (arith, ends c, whole c, lent (s c)))
+    (λ c. omega (arith, ends c, whole c, lent (s c)))
+    (λ c κs. search needs)
+    (λ c κs. search needs)
+    (λ c. search needs)
+    not-admitted
+    (λ c. omega (arith, ends (ending (testing (c .before)))))
+    (λ c. let e = ending (testing (c .before .before)) in omega (arith, ends e, whole e, s e .pre .sound .room))
+    (λ c. let e = ending (testing (c .before .before)) in omega (arith, ends e, whole e, s e .pre .sound .room))
+    (λ c. search needs)
+    put-entry-requires
     swap-remove-requires
-    sub-t14
-    add-t19
-    add-t18
-    same-length-3
-    same-length-4
-    returns-3)
+    (λ c κs. search needs)
+    (λ c. search needs)
+    (λ c. search needs)
+    removed)

@@ -1,90 +1,77 @@
--- A run of blocks passed over. The loop keeps that what is left is read as the whole run is, and that the vips of all blocks rise from 0 if those left
--- rise from the floor.
-use mathlib.Core.Path.{_≡_, refl, sym, ap, _∙_}
+-- A run of blocks walked over. The loop keeps that what was seen so far and what is left to see make what is seen of the whole run, and that the vips
+-- of all blocks rise from 0 if those left rise from the floor.
+use mathlib.Core.Path.{_≡_, sym, ap, _∙_}
 use native.Mathlib.Omega.{arith}
 use borrow.Author.Tests.{ltb-true}
 use Prim.Native.Nat.{_<_}
-use Rattle.fields.specs.Parse.{many, span}
-use Rattle.fields.specs.Answers.{of-skip}
-use Rattle.fields.proofs.Many.{run-end, skip-next, skip-stop}
+use Rattle.fields.specs.Parse.{ok, many}
+use Rattle.fields.specs.Answers.{of-walked}
+use Rattle.fields.proofs.Steps.{handed}
 use Rattle.pod.specs.Layout.{block}
+use Rattle.pod.specs.Written.{many-bytes, block-bytes, walked, both}
+use Rattle.laws.proofs.Layouts.{block-layout}
+use Rattle.laws.proofs.Walks.{Fills, fills, walked-past, walk-start, walk-end, walk-next, walk-stop}
 use Rattle.sorting.specs.Buffer.{TOP}
 use Rattle.sorting.proofs.Order.{false-true}
 use Rattle.routine.proofs.Rising.{RisesFrom, rises-more, rises-end, all-different}
-use Rattle.fields.proofs.Steps.{handed}
 use borrow.Author.Needs.{needs}
 use Rattle.routine.proofs.blocks_run.Statement.{statement}
 use Rattle.routine.proofs.blocks_run.Tie as tie
-use Rattle.routine.proofs.blocks_run.Reads as reads
-use Rattle.routine.proofs.blocks_run.Lts as lts
-use Rattle.block.proofs.block_skip.Reads as block-skip-reads
-use Rattle.fields.proofs.skip_refusal.Reads as skip-refusal-reads
-use Rattle.routine.proofs.floor_after.Reads as floor-after-reads
-use Rattle.ends.proofs.word64.Reads as word64-reads
 
 abbrev Inv-loop : tie.InvT-loop
-Inv-loop s at count exact left₀ o₀ floor₀ left o floor =
-    (span (many (block exact) left s o) ≡ span (many (block exact) count s at))
-    × (floor < TOP → RisesFrom exact s left o floor → RisesFrom exact s count at 0)
+Inv-loop s at count left₀ o₀ floor₀ written₀ left o floor written =
+    (both (ok written o) (walked (many block left) (many-bytes block-bytes) s) ≡ walked (many block count) (many-bytes block-bytes) s at)
+    × (floor < TOP → RisesFrom s left o floor → RisesFrom s count at 0)
 
 abbrev μ-loop : tie.MeasureT-loop
-μ-loop s at count exact left₀ o₀ floor₀ left o floor = left
+μ-loop s at count left₀ o₀ floor₀ written₀ left o floor written = left
+
+abbrev start : tie.At-loop Inv-loop μ-loop → tie.After-shared-slice-known Inv-loop μ-loop
+start c = c .before
+
+abbrev test : tie.After-block-skip Inv-loop μ-loop → tie.In-loop Inv-loop μ-loop
+test c = c .before
+
+all : (c : tie.After-shared-slice-known Inv-loop μ-loop) → Fills block block-bytes (c .before .args .s .now)
+all c = fills block-layout (c .shared-slice-known .given)
 
 loop-holds : tie.Need-loop-holds Inv-loop μ-loop
-loop-holds c = (refl, λ l r. r)
-
-block-skip-requires : tie.Need-block-skip-requires Inv-loop μ-loop
-block-skip-requires c κs = search needs
-
-enum-known-far : tie.Need-enum-known-far Inv-loop μ-loop
-enum-known-far c = search needs
-
-word64-requires : tie.Need-word64-requires Inv-loop μ-loop
-word64-requires c κs = search needs
-
-floor-after-requires : tie.Need-floor-after-requires Inv-loop μ-loop
-floor-after-requires c κs = search needs
-
-enum-told : tie.Need-enum-told Inv-loop μ-loop
-enum-told c = search needs
-
-skip-refusal-requires : tie.Need-skip-refusal-requires Inv-loop μ-loop
-skip-refusal-requires c κs = search needs
+loop-holds c = (walk-start block block-bytes (all c) _ _, λ l r. r)
 
 returns : tie.Need-returns Inv-loop μ-loop
 returns c =
-    let d = c .before .before .before in (
-      skip-stop (block _) _ _ _ (d .before .before .loop .inv .0) (d .before .loop-test .taken)
-          (handed (ap of-skip (c .before .enum-told .given .1)) (d .block-skip .ensures) (c .skip-refusal .ensures)),
+    let told = c .before in
+    let call = told .before .before in
+    let loop = test call .before in (
+      walk-stop block block-bytes (all (start loop)) _ _ _ (loop .loop .inv .0) (test call .loop-test .taken)
+          (sym (handed (ap of-walked (told .enum-told .given .1)) (call .block-skip .ensures) (c .walked-refusal .ensures))),
       λ w. false-true w,
     )
 
-sub-left : tie.Need-sub-left Inv-loop μ-loop
-sub-left c = search needs
-
-loop-less : tie.Need-loop-less Inv-loop μ-loop
-loop-less c = search needs
-
 loop-again : tie.Need-loop-again Inv-loop μ-loop
 loop-again c =
-    let v = c .before in
-    let k = v .before in
-    let d = k .before .before .before in
-    let i = d .before .before .loop .inv in
-    let h = d .before .loop-test .taken in
-    let past = sym (ap of-skip (k .before .far .given .1)) ∙ d .block-skip .ensures in (
-      skip-next (block _) _ _ _ (i .0) h past,
+    let vip = c .before in
+    let far = vip .before .before in
+    let call = far .before .before in
+    let loop = test call .before in
+    let i = loop .loop .inv in
+    let h = test call .loop-test .taken in
+    let past = sym (call .block-skip .ensures) ∙ ap of-walked (far .far .given .1) in (
+      walk-next block block-bytes (all (start loop)) _ _ _ (i .0) h past,
       λ l r. let f = c .floor-after .ensures l in
-          i .1 (omega (arith, f .0, f .1)) (rises-more _ _ _ _ _ _ _ h past (v .word64 .ensures) (f .0) (rw (f .1) at r)),
+          i .1 (omega (arith, f .0, f .1)) (rises-more _ _ _ _ _ _ h (walked-past block block-bytes _ _ past) (vip .word64 .ensures) (f .0) (rw (f .1) at r)),
     )
 
 returns-2 : tie.Need-returns-2 Inv-loop μ-loop
 returns-2 c =
     let i = c .before .loop .inv in
     let none = c .loop-test .left in (
-      run-end (block _) _ _ _ (i .0) none,
-      λ w. all-different _ _ _ _ (i .1 (ltb-true _ _ w) (rises-end _ _ _ _ _ none)),
+      walk-end block block-bytes (all (start (c .before))) _ _ _ (i .0) none,
+      λ w. all-different _ _ _ (i .1 (ltb-true _ _ w) (rises-end _ _ _ _ none)),
     )
+
+walked-refusal-requires : tie.Need-walked-refusal-requires Inv-loop μ-loop
+walked-refusal-requires c κs = search needs
 
 pub blocks-run-spec : {M : Type 1} → statement M
 blocks-run-spec =
@@ -93,14 +80,14 @@ blocks-run-spec =
     Inv-loop
     μ-loop
     loop-holds
-    block-skip-requires
-    enum-known-far
-    word64-requires
-    floor-after-requires
-    enum-told
-    skip-refusal-requires
+    (λ c κs. search needs)
+    (λ c. search needs)
+    (λ c κs. search needs)
+    (λ c κs. search needs)
+    (λ c. search needs)
+    walked-refusal-requires
     returns
-    sub-left
-    loop-less
+    (λ c. search needs)
+    (λ c. search needs)
     loop-again
     returns-2)

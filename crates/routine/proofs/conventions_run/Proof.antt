@@ -1,53 +1,52 @@
--- A run of conventions passed over. The loop keeps that what is left is read as the whole run is.
-use mathlib.Core.Path.{_≡_, _∙_, sym, ap}
-use Rattle.fields.specs.Parse.{many, span}
-use Rattle.fields.specs.Answers.{of-skip}
-use Rattle.fields.proofs.Many.{run-end, skip-next, skip-stop}
+-- A run of conventions walked over. The loop keeps that what was seen so far and what is left to see make what is seen of the whole run.
+use mathlib.Core.Path.{_≡_, sym, ap, _∙_}
+use Rattle.fields.specs.Parse.{ok, many}
+use Rattle.fields.specs.Answers.{of-walked}
 use Rattle.pod.specs.Layout.{convention}
+use Rattle.pod.specs.Written.{many-bytes, convention-bytes, walked, both}
+use Rattle.laws.proofs.Layouts.{convention-layout}
+use Rattle.laws.proofs.Walks.{Fills, fills, walk-start, walk-end, walk-next, walk-stop}
 use borrow.Author.Needs.{needs}
 use Rattle.routine.proofs.conventions_run.Statement.{statement}
 use Rattle.routine.proofs.conventions_run.Tie as tie
-use Rattle.routine.proofs.conventions_run.Reads as reads
-use Rattle.routine.proofs.conventions_run.Lts as lts
-use Rattle.convention.proofs.convention_skip.Reads as convention-skip-reads
 
 abbrev Inv-loop : tie.InvT-loop
-Inv-loop s at count exact left₀ o₀ left o = span (many (convention exact) left s o) ≡ span (many (convention exact) count s at)
+Inv-loop s at count left₀ o₀ written₀ left o written =
+    both (ok written o) (walked (many convention left) (many-bytes convention-bytes) s) ≡ walked (many convention count) (many-bytes convention-bytes) s at
 
 abbrev μ-loop : tie.MeasureT-loop
-μ-loop s at count exact left₀ o₀ left o = left
+μ-loop s at count left₀ o₀ written₀ left o written = left
+
+abbrev start : tie.At-loop Inv-loop μ-loop → tie.After-shared-slice-known Inv-loop μ-loop
+start c = c .before
+
+abbrev test : tie.After-convention-skip Inv-loop μ-loop → tie.In-loop Inv-loop μ-loop
+test c = c .before
+
+all : (c : tie.After-shared-slice-known Inv-loop μ-loop) → Fills convention convention-bytes (c .before .args .s .now)
+all c = fills convention-layout (c .shared-slice-known .given)
 
 loop-holds : tie.Need-loop-holds Inv-loop μ-loop
-loop-holds c = search needs
-
-convention-skip-requires : tie.Need-convention-skip-requires Inv-loop μ-loop
-convention-skip-requires c κs = search needs
-
-enum-known-far : tie.Need-enum-known-far Inv-loop μ-loop
-enum-known-far c = search needs
-
-enum-told : tie.Need-enum-told Inv-loop μ-loop
-enum-told c = search needs
+loop-holds c = walk-start convention convention-bytes (all c) _ _
 
 returns : tie.Need-returns Inv-loop μ-loop
 returns c =
-    let d = c .before .before in
     let far = c .enum-told .given .1 in
-    ap of-skip far ∙ skip-stop (convention _) _ _ _ (d .before .before .loop .inv) (d .before .loop-test .taken) (sym (ap of-skip far) ∙ d .convention-skip .ensures)
-
-sub-left : tie.Need-sub-left Inv-loop μ-loop
-sub-left c = search needs
-
-loop-less : tie.Need-loop-less Inv-loop μ-loop
-loop-less c = search needs
+    let call = c .before .before in
+    let loop = test call .before in
+    ap of-walked far
+    ∙ walk-stop convention convention-bytes (all (start loop)) _ _ _ (loop .loop .inv) (test call .loop-test .taken) (sym (call .convention-skip .ensures) ∙ ap of-walked far)
 
 loop-again : tie.Need-loop-again Inv-loop μ-loop
 loop-again c =
-    let d = c .before .before .before in
-    skip-next (convention _) _ _ _ (d .before .before .loop .inv) (d .before .loop-test .taken) (sym (ap of-skip (c .before .far .given .1)) ∙ d .convention-skip .ensures)
+    let far = c .before in
+    let call = far .before .before in
+    let loop = test call .before in
+    walk-next convention convention-bytes (all (start loop)) _ _ _ (loop .loop .inv) (test call .loop-test .taken)
+    (sym (call .convention-skip .ensures) ∙ ap of-walked (far .far .given .1))
 
 returns-2 : tie.Need-returns-2 Inv-loop μ-loop
-returns-2 c = run-end (convention _) _ _ _ (c .before .loop .inv) (c .loop-test .left)
+returns-2 c = walk-end convention convention-bytes (all (start (c .before))) _ _ _ (c .before .loop .inv) (c .loop-test .left)
 
 pub conventions-run-spec : {M : Type 1} → statement M
 conventions-run-spec =
@@ -56,11 +55,11 @@ conventions-run-spec =
     Inv-loop
     μ-loop
     loop-holds
-    convention-skip-requires
-    enum-known-far
-    enum-told
+    (λ c κs. search needs)
+    (λ c. search needs)
+    (λ c. search needs)
     returns
-    sub-left
-    loop-less
+    (λ c. search needs)
+    (λ c. search needs)
     loop-again
     returns-2)

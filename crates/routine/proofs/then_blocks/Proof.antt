@@ -1,27 +1,25 @@
--- The blocks passed over after what was passed over so far.
-use Rattle.fields.proofs.Chain.{far-past, far-refused}
+-- The blocks walked over after what was walked over so far: what is seen is seen of both.
+use Rattle.fields.proofs.Chain.{seen-past, seen-refused}
+use Rattle.pod.specs.Written.{both}
 use borrow.Author.Needs.{needs}
 use Rattle.routine.proofs.then_blocks.Statement.{statement}
 use Rattle.routine.proofs.then_blocks.Tie as tie
-use Rattle.routine.proofs.then_blocks.Reads as reads
-use Rattle.routine.proofs.then_blocks.Lts as lts
-use Rattle.routine.proofs.blocks_skip.Reads as blocks-skip-reads
-
-enum-known-far : tie.Need-enum-known-far
-enum-known-far c = search needs
-
-blocks-skip-requires : tie.Need-blocks-skip-requires
-blocks-skip-requires c κs = search needs
-
-enum-told : tie.Need-enum-told
-enum-told c = search needs
 
 returns : tie.Need-returns
-returns c = far-past _ (c .before .before .far .given .1) (c .blocks-skip .ensures)
+unfolding both
+returns c = let call = c .before in seen-past _ (call .before .before .far .given .1) (rw (← call .blocks-skip .ensures) (c .seen-both .ensures))
 
 returns-2 : tie.Need-returns-2
-returns-2 c = far-refused _ (c .enum-told .given .1)
+unfolding both
+returns-2 c = seen-refused _ (c .enum-told .given .1)
 
 pub then-blocks-spec : {M : Type 1} → statement M
 then-blocks-spec =
-    tie.close (tie.spec enum-known-far blocks-skip-requires enum-told returns returns-2)
+    tie.close
+    (tie.spec
+    (λ c. search needs)
+    (λ c κs. search needs)
+    (λ c κs. search needs)
+    (λ c. search needs)
+    returns
+    returns-2)

@@ -1,27 +1,25 @@
--- A convention passed over after what was passed over so far.
-use Rattle.fields.proofs.Chain.{far-past, far-refused}
+-- A convention walked over after what was walked over so far: what is seen is seen of both.
+use Rattle.fields.proofs.Chain.{seen-past, seen-refused}
+use Rattle.pod.specs.Written.{both}
 use borrow.Author.Needs.{needs}
 use Rattle.routine.proofs.then_convention.Statement.{statement}
 use Rattle.routine.proofs.then_convention.Tie as tie
-use Rattle.routine.proofs.then_convention.Reads as reads
-use Rattle.routine.proofs.then_convention.Lts as lts
-use Rattle.convention.proofs.convention_skip.Reads as convention-skip-reads
-
-enum-known-far : tie.Need-enum-known-far
-enum-known-far c = search needs
-
-convention-skip-requires : tie.Need-convention-skip-requires
-convention-skip-requires c κs = search needs
-
-enum-told : tie.Need-enum-told
-enum-told c = search needs
 
 returns : tie.Need-returns
-returns c = far-past _ (c .before .before .far .given .1) (c .convention-skip .ensures)
+unfolding both
+returns c = let call = c .before in seen-past _ (call .before .before .far .given .1) (rw (← call .convention-skip .ensures) (c .seen-both .ensures))
 
 returns-2 : tie.Need-returns-2
-returns-2 c = far-refused _ (c .enum-told .given .1)
+unfolding both
+returns-2 c = seen-refused _ (c .enum-told .given .1)
 
 pub then-convention-spec : {M : Type 1} → statement M
 then-convention-spec =
-    tie.close (tie.spec enum-known-far convention-skip-requires enum-told returns returns-2)
+    tie.close
+    (tie.spec
+    (λ c. search needs)
+    (λ c κs. search needs)
+    (λ c κs. search needs)
+    (λ c. search needs)
+    returns
+    returns-2)

@@ -1,56 +1,25 @@
--- A list of conventions passed over: its count, and then the run.
-use Rattle.fields.proofs.Chain.{far-past, far-refused}
-use Rattle.fields.proofs.Steps.{skips}
+-- The list of conventions walked over after what was walked over so far: what is seen is seen of both.
+use Rattle.fields.proofs.Chain.{seen-past, seen-refused}
+use Rattle.pod.specs.Written.{both}
 use borrow.Author.Needs.{needs}
 use Rattle.routine.proofs.then_conventions.Statement.{statement}
 use Rattle.routine.proofs.then_conventions.Tie as tie
-use Rattle.routine.proofs.then_conventions.Reads as reads
-use Rattle.routine.proofs.then_conventions.Lts as lts
-use Rattle.fields.proofs.u32_at.Reads as u32-at-reads
-use Rattle.routine.proofs.conventions_run.Reads as conventions-run-reads
-use Rattle.fields.proofs.u32_refusal.Reads as u32-refusal-reads
-
-enum-known-far : tie.Need-enum-known-far
-enum-known-far c = search needs
-
-u32-at-requires : tie.Need-u32-at-requires
-u32-at-requires c κs = search needs
-
-enum-known-count : tie.Need-enum-known-count
-enum-known-count c = search needs
-
-conventions-run-requires : tie.Need-conventions-run-requires
-conventions-run-requires c κs = search needs
-
-enum-told : tie.Need-enum-told
-enum-told c = search needs
-
-u32-refusal-requires : tie.Need-u32-refusal-requires
-u32-refusal-requires c κs = search needs
-
-enum-told-2 : tie.Need-enum-told-2
-enum-told-2 c = search needs
 
 returns : tie.Need-returns
-returns c = search (needs, skips, far-past)
+unfolding both
+returns c = let call = c .before in seen-past _ (call .before .before .far .given .1) (rw (← call .conventions-skip .ensures) (c .seen-both .ensures))
 
 returns-2 : tie.Need-returns-2
-returns-2 c = search (needs, skips, far-past)
-
-returns-3 : tie.Need-returns-3
-returns-3 c = search (needs, far-refused)
+unfolding both
+returns-2 c = seen-refused _ (c .enum-told .given .1)
 
 pub then-conventions-spec : {M : Type 1} → statement M
 then-conventions-spec =
     tie.close
     (tie.spec
-    enum-known-far
-    u32-at-requires
-    enum-known-count
-    conventions-run-requires
-    enum-told
-    u32-refusal-requires
-    enum-told-2
+    (λ c. search needs)
+    (λ c κs. search needs)
+    (λ c κs. search needs)
+    (λ c. search needs)
     returns
-    returns-2
-    returns-3)
+    returns-2)

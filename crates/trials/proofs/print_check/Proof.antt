@@ -4,12 +4,6 @@ use native.Mathlib.Omega.{arith}
 use borrow.Author.Needs.{needs}
 use Rattle.trials.proofs.print_check.Statement.{statement}
 use Rattle.trials.proofs.print_check.Tie as tie
-use Rattle.trials.proofs.print_check.Reads as reads
-use Rattle.trials.proofs.print_check.Lts as lts
-use Rattle.io.proofs.print_decimal.Reads as print-decimal-reads
-use Rattle.io.proofs.write_all.Reads as write-all-reads
-use Rattle.trials.proofs.refusal_of.Reads as refusal-of-reads
-use Rattle.vtil.proofs.vtil_check.Reads as vtil-check-reads
 
 slice-aggregate-start : tie.Need-slice-aggregate-start
 slice-aggregate-start c = simp length-take (omega arith)

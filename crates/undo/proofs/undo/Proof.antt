@@ -1,116 +1,136 @@
--- `undo::undo` meets its contract: the state holds a routine, and each return is what taking back is at the tests made so far and the kind read.
+-- `undo::undo` meets its contract: the state holds a routine, and each answer is what taking back is at the tests made so far and the kind read.
 -- Assumes nothing.
 use mathlib.Core.Path.{_≡_, _∙_}
+use native.Mathlib.Omega.{arith}
+use Prim.Native.Nat.{_≤_, _<_}
 use Rattle.fields.specs.Outcome.{accepted}
 use Rattle.pod.specs.Values.{Routine}
 use Rattle.machine.specs.Book.{State, held}
+use Rattle.machine.proofs.Held.{sound-held}
 use Rattle.book.specs.Says.{state}
 use Rattle.book.specs.Holding.{Sound}
-use Rattle.image.proofs.Inspects.{sound-held}
+use Rattle.journal.specs.Says.{trailer-of}
 use Rattle.undo.proofs.Entry as K
 use borrow.Author.Needs.{needs}
 use Rattle.undo.proofs.undo.Statement.{statement}
 use Rattle.undo.proofs.undo.Tie as tie
 
-abbrev L : tie.Start → State
-L s = state (s .args .image .now) (s .args .journal .now) (s .args .book)
+-- the state at entry, and the routine that it holds
+module _ (s : tie.Start) where
+  abbrev S : State
+  S = state (s .args .image .now) (s .args .journal .now) (s .args .book)
 
-abbrev R : tie.Start → Routine
-R s = s .pre .r
+  abbrev R : Routine
+  R = s .pre .r
 
-sound : (s : tie.Start) → Sound (L s) (R s)
-sound s = s .pre .sound
+  sound : Sound S R
+  sound = s .pre .sound
 
-holds : (s : tie.Start) → held (L s) ≡ accepted (R s)
-holds s = sound-held (sound s)
+  holds : held S ≡ accepted R
+  holds = sound-held sound
 
-abbrev start : tie.After-read-trailer → tie.Start
-start c = c .before .before .before .before .before .before
+-- The way through the code, each place from the next.
+abbrev start : tie.Else1 → tie.Start
+start c = c .before .before .before
+
+abbrev spending : tie.Else2 → tie.Else1
+spending c = c .before
+
+abbrev reading : tie.After-read-trailer → tie.Else2
+reading c = c .before .before
+
+abbrev created : tie.After-undo-create → tie.Then3
+created c = c .before .before .before
+
+abbrev not-created : tie.Else4 → tie.Else3
+not-created c = c .before
+
+abbrev removed : tie.After-undo-remove → tie.Then4
+removed c = c .before .before .before
+
+abbrev appended : tie.After-undo-append → tie.Then5
+appended c = c .before .before .before
+
+-- What is known at them.
+some : (c : tie.Else1) → 0 < start c .args .book .used
+some c = omega (arith, c .if1 .left)
+
+abbrev start₂ : tie.Else2 → tie.Start
+start₂ c = start (spending c)
+
+enough : (c : tie.Else2) → 20 ≤ start₂ c .args .book .used
+enough c = omega (arith, c .if2 .left)
+
+-- the trailer that was read is the last of the used part
+abbrev start₃ : tie.After-read-trailer → tie.Start
+start₃ c = start₂ (reading c)
+
+last : (c : tie.After-read-trailer) → let s = start₃ c in K.Last (S s) (R s) (trailer-of (c .read-trailer .result))
+last c = record { sound = sound (start₃ c); enough = enough (reading c); is = c .read-trailer .ensures }
 
 returns : tie.Need-returns
-returns c = let s = c .before .before .before in K.nothing _ _ _ (R s) (sound s) (c .if1 .taken)
+returns c = let t = c .before in let s = t .before .before .before in c .refuse .ensures _ _ (omega arith) ∙ K.nothing (S s) (R s) (sound s) (omega (arith, t .if1 .taken))
 
 returns-2 : tie.Need-returns-2
-returns-2 c = let s = c .before .before .before .before in K.too-little _ _ _ (R s) (sound s) (c .before .if1 .left) (c .if2 .taken)
-
-read-trailer-requires : tie.Need-read-trailer-requires
-read-trailer-requires c κs = search needs
-
-undo-create-requires : tie.Need-undo-create-requires
-undo-create-requires c κs = search needs
-
-same-length : tie.Need-same-length
-same-length c = search needs
-
-same-length-2 : tie.Need-same-length-2
-same-length-2 c = search needs
+returns-2 c =
+    let t = c .before in
+    let e = t .before in
+    let s = start e in
+    c .refuse2 .ensures _ _ (omega arith) ∙ K.too-little (S s) (R s) (sound s) (some e) (omega (arith, t .if2 .taken))
 
 returns-3 : tie.Need-returns-3
 returns-3 c =
-    let t = c .before .before .before .before .before .before .before .before in
-    let s = start t in
-    c .before .before .before .before .undo-create .ensures (R s) (holds s)
-    ∙ K.was-created _ _ _ (R s) (sound s) (t .before .before .before .if1 .left) (t .before .before .if2 .left) _ (t .read-trailer .ensures) (c .before .before .before .before .before .before .before .if3 .taken)
-
-undo-remove-requires : tie.Need-undo-remove-requires
-undo-remove-requires c κs = search needs
-
-same-length-3 : tie.Need-same-length-3
-same-length-3 c = search needs
-
-same-length-4 : tie.Need-same-length-4
-same-length-4 c = search needs
+    let u = c .before .before .before .before in
+    let k = created u in
+    let t = k .before in
+    let s = start₃ t in
+    u .undo-create .ensures (R s) (holds s) ∙ K.was-created (last t) (omega (arith, k .if3 .taken))
 
 returns-4 : tie.Need-returns-4
 returns-4 c =
-    let t = c .before .before .before .before .before .before .before .before .before in
-    let s = start t in
-    c .before .before .before .before .undo-remove .ensures (R s) (holds s)
-    ∙ K.was-removed _ _ _ (R s) (sound s) (t .before .before .before .if1 .left) (t .before .before .if2 .left) _ (t .read-trailer .ensures) (c .before .before .before .before .before .before .before .if4 .taken)
-
-undo-append-requires : tie.Need-undo-append-requires
-undo-append-requires c κs = search needs
-
-same-length-5 : tie.Need-same-length-5
-same-length-5 c = search needs
-
-same-length-6 : tie.Need-same-length-6
-same-length-6 c = search needs
+    let u = c .before .before .before .before in
+    let k = removed u in
+    let t = k .before .before in
+    let s = start₃ t in
+    u .undo-remove .ensures (R s) (holds s) ∙ K.was-removed (last t) (omega (arith, k .if4 .taken))
 
 returns-5 : tie.Need-returns-5
 returns-5 c =
-    let t = c .before .before .before .before .before .before .before .before .before .before in
-    let s = start t in
-    c .before .before .before .before .undo-append .ensures (R s) (holds s)
-    ∙ K.was-appended _ _ _ (R s) (sound s) (t .before .before .before .if1 .left) (t .before .before .if2 .left) _ (t .read-trailer .ensures) (c .before .before .before .before .before .before .before .if5 .taken)
-
-same-length-7 : tie.Need-same-length-7
-same-length-7 c = search needs
+    let u = c .before .before .before .before in
+    let k = appended u in
+    let t = not-created (k .before) .before in
+    let s = start₃ t in
+    u .undo-append .ensures (R s) (holds s) ∙ K.was-appended (last t) (omega (arith, k .if5 .taken))
 
 returns-6 : tie.Need-returns-6
 returns-6 c =
-    let t = c .before .before .before in
-    let s = start t in
-    K.other-kind _ _ _ (R s) (sound s) (t .before .before .before .if1 .left) (t .before .before .if2 .left) _ (t .read-trailer .ensures) (c .before .before .if3 .left) (c .before .if4 .left) (c .if5 .left)
+    let e₅ = c .before in
+    let e₄ = e₅ .before in
+    let e₃ = not-created e₄ in
+    c .refuse3 .ensures _ _ (omega arith)
+    ∙ K.other-kind (last (e₃ .before)) (λ k. omega (arith, e₃ .if3 .left)) (λ k. omega (arith, e₄ .if4 .left)) (λ k. omega (arith, e₅ .if5 .left))
 
 pub undo-spec : {M : Type 1} → statement M
 undo-spec =
     tie.close
     (tie.spec
+    (λ c κs. search needs)
     returns
+    (λ c κs. search needs)
     returns-2
-    read-trailer-requires
-    undo-create-requires
-    same-length
-    same-length-2
+    (λ c κs. search needs)
+    (λ c κs. search needs)
+    (λ c. search needs)
+    (λ c. search needs)
     returns-3
-    undo-remove-requires
-    same-length-3
-    same-length-4
+    (λ c κs. search needs)
+    (λ c. search needs)
+    (λ c. search needs)
     returns-4
-    undo-append-requires
-    same-length-5
-    same-length-6
+    (λ c κs. search needs)
+    (λ c. search needs)
+    (λ c. search needs)
     returns-5
-    same-length-7
+    (λ c κs. search needs)
+    (λ c. search needs)
     returns-6)

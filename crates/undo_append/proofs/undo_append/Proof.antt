@@ -1,267 +1,223 @@
--- `undo_append::undo_append` meets its contract: each answer is one law of taking back an append, with what the image's readers tell of the routine held.
+-- `undo_append::undo_append` meets its contract: at each place of the code, what is left of the definition's tests, with what the image's readers tell of
+-- the routine held.
 -- Assumes nothing.
-use mathlib.Core.Path.{_≡_, sym, ap, ap₂, _∙_}
+use mathlib.Core.Path.{_≡_, sym, _∙_}
 use native.Mathlib.Omega.{arith}
-use Prim.Native.Nat.{_+_, _-_, _≤_, _<_}
-use lib.ListN.{length, take}
-use lib.Seq.{take-length}
-use Rattle.fields.specs.Outcome.{accepted}
-use Rattle.fields.specs.Lists.{choose}
+use Prim.Native.Nat.{_<_}
+use lib.ListN.{length}
+use borrow.Author.Tests.{eq-eqb, ne-eqb, lt-ltb, le-ltb, not-true, not-false}
+use Rattle.fields.specs.Outcome.{refused, accepted}
+use Rattle.fields.proofs.Outcomes.{unless-on, unless-off}
 use Rattle.pod.specs.Values.{BasicBlock, Routine}
-use Rattle.pod.specs.Written.{instruction-bytes}
-use Rattle.ends.specs.Ends.{word}
 use Rattle.machine.specs.Machine.{Answer}
-use Rattle.machine.specs.Journal.{Trailer, undo-append}
-use Rattle.machine.specs.Book.{State, held, restored}
-use Rattle.book.specs.Says.{state}
-use Rattle.book.specs.Holding.{block-start}
+use Rattle.machine.specs.Journal.{last-size-is, undo-append}
+use Rattle.machine.specs.Book.{State, held}
+use Rattle.machine.specs.Trailer.{Trailer}
+use Rattle.book.specs.Says.{state, taking-back}
+use Rattle.book.specs.Holding.{Holding, Sound}
+use Rattle.book.proofs.Restored.{spoiled, restored-to}
 use Rattle.journal.specs.Says.{trailer-of}
 use Rattle.image.proofs.Inspects.{of-held, sound-holding}
 use Rattle.image.proofs.Stands.{block-holds, block-word}
 use Rattle.image.proofs.Parts.{stands-here}
-use Rattle.edits.proofs.Cuts.{the-block, behind, code-of, ends-within, count-read}
-use Rattle.undo_append.proofs.Unappends.{front, final, code-sum}
+use Rattle.undo_append.specs.Last.{Block-in, Last-in, shortened}
+use Rattle.undo_append.proofs.Unappends.{inside, longer, shortened-size}
 use Rattle.undo_append.proofs.Unappends as U
 use borrow.Author.Needs.{needs}
 use Rattle.undo_append.proofs.undo_append.Statement.{statement}
 use Rattle.undo_append.proofs.undo_append.Tie as tie
 
--- the state at entry, the routine that it holds, the trailer, and the block at its place
-abbrev S : tie.Start → State
-S s = state (s .args .image .now) (s .args .journal .now) (s .args .book)
+-- the state at entry, the routine that it holds, the trailer and the block at its place
+module _ (s : tie.Start) where
+  abbrev S : State
+  S = state (s .args .image .now) (s .args .journal .now) (s .args .book)
 
-abbrev R : tie.Start → Routine
-R s = s .pre .0 .r
+  abbrev R : Routine
+  R = s .pre .0 .r
 
-abbrev T : tie.Start → Trailer
-T s = trailer-of (s .args .last)
+  abbrev T : Trailer
+  T = trailer-of (s .args .last)
 
-abbrev B : tie.Start → BasicBlock
-B s = the-block (R s) (T s .place)
+  abbrev B : BasicBlock
+  B = U.there R T
 
--- of every routine that is held
-over : (s : tie.Start) (x : Answer × State) → x ≡ restored (S s) (undo-append (R s) (T s)) → (r : Routine) → held (S s) ≡ accepted r → x ≡ restored (S s) (undo-append r (T s))
-over s x = of-held (λ q. restored (S s) (undo-append q (T s))) (s .pre .0 .sound)
+  sound : Sound S R
+  sound = s .pre .0 .sound
 
-lent : (s : tie.Start) → (s .args .book .written ≤ length (s .args .image .now)) × (length (s .args .image .now) ≤ 16777216)
-lent s = let o = s .pre .0 .sound in (omega (arith, o .written, o .room), o .image-lent)
+  holding : Holding (s .args .image .now) R
+  holding = sound-holding sound
 
+  -- an answer that is right of that routine is right of every routine that is held
+  over : (x : Answer × State) → x ≡ taking-back S (undo-append R T) → (r : Routine) → held S ≡ accepted r → x ≡ taking-back S (undo-append r T)
+  over x = of-held (λ q. taking-back S (undo-append q T)) sound
+
+  refuses : {x : Answer × State} → x ≡ (refused 13, S) → undo-append R T ≡ refused 13 → (r : Routine) → held S ≡ accepted r → x ≡ taking-back S (undo-append r T)
+  refuses e q = over _ (e ∙ spoiled S q)
+
+-- The way through the code, each place from the next.
 abbrev start : tie.After-blocks-of → tie.Start
-start c = (c .before .before .before .before .before)
+start c = c .before .before .before .before
 
+abbrev counting : tie.Else1 → tie.After-blocks-of
+counting c = c .before .before
+
+abbrev placing : tie.After-block-offset → tie.Else1
+placing c = c .before .before
+
+abbrev at-vip : tie.After-word64 → tie.After-block-offset
+at-vip c = c .before .before
+
+abbrev comparing : tie.Else2 → tie.After-word64
+comparing c = c .before .before
+
+abbrev at-last : tie.After-last-size-is → tie.Else2
+at-last c = c .before .before .before
+
+abbrev looking : tie.Else3 → tie.After-last-size-is
+looking c = c .before
+
+abbrev dropping : tie.After-drop-instruction → tie.Else3
+dropping c = c .before .before
+
+abbrev clearing : tie.After-clear-trailer → tie.After-drop-instruction
+clearing c = c .before .before .before .before
+
+-- What is known at them.
 counted : (c : tie.After-blocks-of) → c .blocks-of .result .count ≡ length (R (start c) .explored-blocks)
-counted c = let s = start c in c .blocks-of .ensures (R s) (sound-holding (s .pre .0 .sound)) .1
+counted c = let s = start c in c .blocks-of .ensures (R s) (holding s) .1
 
--- the place is that of a block, which is within the written length
-abbrev start₁ : tie.Else1 → tie.Start
-start₁ c = start (c .before .before)
+-- the place is that of a block
+abbrev start₂ : tie.Else1 → tie.Start
+start₂ c = start (counting c)
 
-within : (c : tie.Else1) → T (start₁ c) .place < length (R (start₁ c) .explored-blocks)
-within c = omega (arith, c .if1 .left, counted (c .before .before))
+within : (c : tie.Else1) → T (start₂ c) .place < length (R (start₂ c) .explored-blocks)
+within c = omega (arith, c .if1 .left, counted (counting c))
 
-abbrev start₂ : tie.After-block-offset → tie.Start
-start₂ c = start₁ (c .before .before)
+placed : (c : tie.Else1) → let s = start₂ c in undo-append (R s) (T s) ≡ U.if-there (R s) (T s)
+placed c = U.tests _ _ ∙ unless-on 13 _ (lt-ltb _ _ (within c))
 
-placed : (c : tie.After-block-offset) → c .block-offset .result ≡ block-start (R (start₂ c)) (T (start₂ c) .place)
-placed c = let s = start₂ c in c .block-offset .ensures (R s) (sound-holding (s .pre .0 .sound)) (omega (arith, within (c .before .before)))
+abbrev start₃ : tie.After-block-offset → tie.Start
+start₃ c = start₂ (placing c)
 
-ends : (c : tie.After-block-offset)
-    → c .block-offset .result + 28 + length (code-of (B (start₂ c) .instructions)) + length (behind (R (start₂ c)) (T (start₂ c) .place)) ≡ start₂ c .args .book .written
-ends c = let s = start₂ c in omega (arith, placed c, ends-within (S s) (R s) (s .pre .0 .sound) (T s .place) (within (c .before .before)))
-
-vip-read : (c : tie.After-word64) → c .word64 .result ≡ B (start₂ (c .before .before)) .vip
-vip-read c =
-    let s = start₂ (c .before .before) in
-    let h = sound-holding (s .pre .0 .sound) in
-    let l = within (c .before .before .before .before) in
-    c .word64 .ensures ∙ block-word _ (B s) (block-holds h (T s .place) l) (stands-here (R s) (T s .place) h l (placed (c .before .before)))
-
--- its vip is that of the entry, and it has instructions
-abbrev start₃ : tie.After-word32 → tie.Start
-start₃ c = start₂ (c .before .before .before .before .before .before)
-
-vip-is : (c : tie.After-word32) → B (start₃ c) .vip ≡ T (start₃ c) .vip
-vip-is c = sym (vip-read (c .before .before .before .before)) ∙ c .before .before .if2 .left
-
-instructions : (c : tie.After-word32) → c .word32 .result ≡ length (B (start₃ c) .instructions)
-instructions c =
+here : (c : tie.After-block-offset) → let s = start₃ c in Block-in (s .args .image .now) (R s) (T s .place) (c .block-offset .result)
+here c =
     let s = start₃ c in
-    c .word32 .ensures ∙ ap (λ a. word 4 (s .args .image .now) (a + 24)) (placed (c .before .before .before .before .before .before))
-    ∙ count-read (S s) (R s) (s .pre .0 .sound) (T s .place) (within (c .before .before .before .before .before .before .before .before))
+    record {
+      holding = holding s;
+      within = within (placing c);
+      at-is = c .block-offset .ensures (R s) (holding s) (omega (arith, within (placing c)));
+    }
 
-some : (c : tie.Else3) → 0 < length (B (start₃ (c .before)) .instructions)
-some c = omega (arith, c .if3 .left, instructions (c .before))
+-- its vip is that of the entry
+vip-read : (c : tie.After-word64) → c .word64 .result ≡ B (start₃ (at-vip c)) .vip
+vip-read c =
+    let s = start₃ (at-vip c) in
+    let o = here (at-vip c) in
+    c .word64 .ensures ∙ block-word _ (B s) (block-holds (holding s) (T s .place) (o .within)) (stands-here (R s) (T s .place) (holding s) (o .within) (o .at-is))
 
--- the last of them, from and to
-begins : (c : tie.After-instruction-offset) → c .instruction-offset .result ≡ c .before .before .before .before .before .before .before .before .before .block-offset .result + 28 + length (code-of (front (B (start₃ (c .before .before .before)))))
-begins c =
-    let s = start₃ (c .before .before .before) in
-    let n = instructions (c .before .before .before) in
-    let at = placed (c .before .before .before .before .before .before .before .before .before) in
-    c .instruction-offset .ensures (R s) (T s .place) (sound-holding (s .pre .0 .sound)) (within (c .before .before .before .before .before .before .before .before .before .before .before)) at (omega (arith, n))
-    ∙ ap₂ (λ a k. a + 28 + length (code-of (take (k - 1) (B s .instructions)))) (sym at) n
+abbrev offset : tie.Else2 → tie.After-block-offset
+offset c = at-vip (comparing c)
 
-stops : (c : tie.After-instructions-end) → c .instructions-end .result ≡ c .before .before .before .before .before .before .before .before .before .before .before .block-offset .result + 28 + length (code-of (B (start₃ (c .before .before .before .before .before)) .instructions))
-stops c =
-    let s = start₃ (c .before .before .before .before .before) in
-    let at = placed (c .before .before .before .before .before .before .before .before .before .before .before) in
-    c .instructions-end .ensures (R s) (T s .place) (sound-holding (s .pre .0 .sound)) (within (c .before .before .before .before .before .before .before .before .before .before .before .before .before)) at
-    ∙ ap₂ (λ a is. a + 28 + length (code-of is)) (sym at) (take-length (B s .instructions))
+abbrev start₄ : tie.Else2 → tie.Start
+start₄ c = start₃ (offset c)
 
-abbrev start₄ : tie.After-instructions-end → tie.Start
-start₄ c = start₃ (c .before .before .before .before .before)
+same-vip : (c : tie.Else2) → let s = start₄ c in undo-append (R s) (T s) ≡ U.if-last (R s) (T s)
+same-vip c =
+    let s = start₄ c in
+    placed (placing (offset c)) ∙ unless-on 13 _ (eq-eqb (B s .vip) (T s .vip) (omega (arith, c .if2 .left, vip-read (comparing c))))
 
-sized : (c : tie.After-instructions-end) → c .instructions-end .result ≡ c .before .before .instruction-offset .result + length (instruction-bytes (final (B (start₄ c))))
-sized c = omega (arith, stops c, begins (c .before .before), code-sum (B (start₄ c)) (some (c .before .before .before .before)))
+-- and its last instruction has the entry's size
+abbrev start₅ : tie.After-last-size-is → tie.Start
+start₅ c = start₄ (at-last c)
 
--- and the entry has its size
-size-is : (c : tie.Else4) → length (instruction-bytes (final (B (start₄ (c .before))))) ≡ T (start₄ (c .before)) .length
-size-is c = omega (arith, c .if4 .left, sized (c .before))
+last-read : (c : tie.After-last-size-is) → let s = start₅ c in c .last-size-is .result ≡ last-size-is (T s .len) (B s .instructions)
+last-read c = let s = start₅ c in c .last-size-is .ensures (R s) (T s .place) (here (offset (at-last c)))
 
--- so that it all lies within the written length
-inside : (c : tie.Else4)
-    → c .before .instructions-end .result + length (behind (R (start₄ (c .before))) (T (start₄ (c .before)) .place)) ≡ start₄ (c .before) .args .book .written
-inside c = omega (arith, stops (c .before), ends (c .before .before .before .before .before .before .before .before .before .before .before .before))
+abbrev start₆ : tie.Else3 → tie.Start
+start₆ c = start₅ (looking c)
 
-spans : (c : tie.Else4) → c .before .instructions-end .result ≡ c .before .before .before .instruction-offset .result + T (start₄ (c .before)) .length
-spans c = sized (c .before) ∙ ap (λ k. c .before .before .before .instruction-offset .result + k) (size-is c)
+abbrev block : tie.Else3 → tie.After-block-offset
+block c = offset (at-last (looking c))
 
-cast-size : tie.Need-cast-size
-cast-size c = search needs
+last-in : (c : tie.Else3) → let s = start₆ c in
+    Last-in (s .args .image .now) (R s) (T s .place) (block c .block-offset .result) (T s .len) (s .args .book .written)
+last-in c =
+    let s = start₆ c in
+    record {
+      block = here (block c);
+      is = sound s .image;
+      written-is = sound s .written;
+      last = sym (last-read (looking c)) ∙ not-false _ (c .if3 .left);
+    }
 
-blocks-of-requires : tie.Need-blocks-of-requires
-blocks-of-requires c κs = search needs
-
-same-length : tie.Need-same-length
-same-length c = search needs
+passed : (c : tie.Else3) → let s = start₆ c in undo-append (R s) (T s) ≡ U.done (R s) (T s)
+passed c = same-vip (at-last (looking c)) ∙ unless-on 13 _ (last-in c .last)
 
 returns : tie.Need-returns
-unfolding choose
-returns c = let s = (c .before .before .before .before .before .before .before) in over s _ (U.append-place (S s) (R s) (s .pre .0 .sound) (T s) (omega (arith, c .if1 .taken, counted (c .before .before))))
-
-cast-block-offset : tie.Need-cast-block-offset
-cast-block-offset c = search needs
-
-block-offset-requires : tie.Need-block-offset-requires
-block-offset-requires c κs = search needs
-
-word64-requires : tie.Need-word64-requires
-word64-requires c κs = search needs
-
-same-length-2 : tie.Need-same-length-2
-same-length-2 c = search needs
+returns c =
+    let t = c .before in
+    let b = t .before .before in
+    let s = start b in
+    refuses s (c .refuse .ensures _ _ (omega arith))
+    (U.tests _ _ ∙ unless-off 13 _ (le-ltb (T s .place) (length (R s .explored-blocks)) (omega (arith, t .if1 .taken, counted b))))
 
 returns-2 : tie.Need-returns-2
-unfolding choose
-returns-2 c = let s = (c .before .before .before .before .before .before .before .before .before .before .before .before .before) in over s _ (U.append-vip (S s) (R s) (s .pre .0 .sound) (T s) (within (c .before .before .before .before .before .before)) (λ e. c .if2 .taken (vip-read (c .before .before) ∙ e)))
+returns-2 c =
+    let t = c .before in
+    let w = t .before .before in
+    let s = start₃ (at-vip w) in
+    refuses s (c .refuse2 .ensures _ _ (omega arith))
+    (placed (placing (at-vip w)) ∙ unless-off 13 _ (ne-eqb (B s .vip) (T s .vip) (λ e. omega (arith, t .if2 .taken, vip-read w))))
 
-add-word32 : tie.Need-add-word32
-add-word32 c = let s = (c .before .before .before .before .before .before .before .before .before .before .before .before .before .before) in omega (arith, ends (c .before .before .before .before .before), lent s .0, lent s .1)
-
-word32-requires : tie.Need-word32-requires
-word32-requires c κs = search needs
-
-same-length-3 : tie.Need-same-length-3
-same-length-3 c = search needs
+last-size-is-requires : tie.Need-last-size-is-requires
+last-size-is-requires c κs = let e = c .before .before in let s = start₄ e in record { r = R s; i = T s .place; block = here (offset e) }
 
 returns-3 : tie.Need-returns-3
-unfolding choose
-returns-3 c = let s = (c .before .before .before .before .before .before .before .before .before .before .before .before .before .before .before .before) in over s _ (U.append-none (S s) (R s) (s .pre .0 .sound) (T s) (within (c .before .before .before .before .before .before .before .before .before)) (vip-is (c .before)) (sym (instructions (c .before)) ∙ c .if3 .taken))
+returns-3 c =
+    let t = c .before in
+    let l = t .before in
+    refuses (start₅ l) (c .refuse3 .ensures _ _ (omega arith)) (same-vip (at-last l) ∙ unless-off 13 _ (sym (last-read l) ∙ not-true _ (t .if3 .taken)))
 
-sub-instruction-offset : tie.Need-sub-instruction-offset
-sub-instruction-offset c = search needs
+sub-left : tie.Need-sub-left
+sub-left c = omega (arith, inside (last-in c), longer (last-in c))
 
-instruction-offset-requires : tie.Need-instruction-offset-requires
-instruction-offset-requires c κs = search needs
-
-instructions-end-requires : tie.Need-instructions-end-requires
-instructions-end-requires c κs = search needs
-
-sub-if4 : tie.Need-sub-if4
-sub-if4 c = omega (arith, sized c)
-
-same-length-4 : tie.Need-same-length-4
-same-length-4 c = search needs
+drop-instruction-requires : tie.Need-drop-instruction-requires
+drop-instruction-requires c κs = let e = c .before in let s = start₆ e in record { r = R s; i = T s .place; last-in = last-in e }
 
 returns-4 : tie.Need-returns-4
-unfolding choose
 returns-4 c =
-    let s = (c .before .before .before .before .before .before .before .before .before .before .before .before .before .before .before .before .before .before .before .before .before) in
-    over s _ (U.append-size (S s) (R s) (s .pre .0 .sound) (T s) (within (c .before .before .before .before .before .before .before .before .before .before .before .before .before .before)) (vip-is (c .before .before .before .before .before .before)) (some (c .before .before .before .before .before)) (λ e. c .if4 .taken (omega (arith, sized (c .before)))))
-
-sub-move-within : tie.Need-sub-move-within
-sub-move-within c = omega (arith, inside (c .before))
-
-move-within-requires : tie.Need-move-within-requires
-move-within-requires c κs = let s = (c .before .before .before .before .before .before .before .before .before .before .before .before .before .before .before .before .before .before .before .before .before .before) in (omega (arith, inside (c .before), lent s .0), omega (arith, inside (c .before), spans (c .before), lent s .0))
-
-sub-clear : tie.Need-sub-clear
-sub-clear c = omega (arith, inside (c .before .before .before .before .before), spans (c .before .before .before .before .before))
-
-clear-requires : tie.Need-clear-requires
-clear-requires c κs = let s = (c .before .before .before .before .before .before .before .before .before .before .before .before .before .before .before .before .before .before .before .before .before .before .before .before .before .before) in (omega arith, omega (arith, lent s .0, c .before .before .before .move-within .kept .0))
-
-add-put-u32 : tie.Need-add-put-u32
-add-put-u32 c = let s = (c .before .before .before .before .before .before .before .before .before .before .before .before .before .before .before .before .before .before .before .before .before .before .before .before .before .before .before .before .before .before) in omega (arith, ends (c .before .before .before .before .before .before .before .before .before .before .before .before .before .before .before .before .before .before .before .before .before), lent s .0, lent s .1)
-
-sub-put-u32 : tie.Need-sub-put-u32
-sub-put-u32 c = search needs
-
-put-u32-requires : tie.Need-put-u32-requires
-put-u32-requires c κs = let s = (c .before .before .before .before .before .before .before .before .before .before .before .before .before .before .before .before .before .before .before .before .before .before .before .before .before .before .before .before .before .before) in omega (arith, ends (c .before .before .before .before .before .before .before .before .before .before .before .before .before .before .before .before .before .before .before .before .before), lent s .0, c .before .before .before .before .before .before .before .move-within .kept .0, c .before .before .before .clear .kept .0)
-
-clear-trailer-requires : tie.Need-clear-trailer-requires
-clear-trailer-requires c κs = let s = (c .before .before .before .before .before .before .before .before .before .before .before .before .before .before .before .before .before .before .before .before .before .before .before .before .before .before .before .before .before .before .before .before .before .before) in (s .pre .1, s .pre .0 .sound .used)
-
-sub-t20 : tie.Need-sub-t20
-sub-t20 c = omega (arith, inside (c .before .before .before .before .before .before .before .before .before .before .before .before .before .before .before .before), spans (c .before .before .before .before .before .before .before .before .before .before .before .before .before .before .before .before))
-
-same-length-5 : tie.Need-same-length-5
-same-length-5 c = search needs
-
-same-length-6 : tie.Need-same-length-6
-same-length-6 c = search needs
-
-returns-5 : tie.Need-returns-5
-unfolding choose
-returns-5 c =
-    let s = (c .before .before .before .before .before .before .before .before .before .before .before .before .before .before .before .before .before .before .before .before .before .before .before .before .before .before .before .before .before .before .before .before .before .before .before .before .before) in
-    over s _ (U.append-final (S s) (R s) (s .pre .0 .sound) (T s) (within (c .before .before .before .before .before .before .before .before .before .before .before .before .before .before .before .before .before .before .before .before .before .before .before .before .before .before .before .before .before .before)) (vip-is (c .before .before .before .before .before .before .before .before .before .before .before .before .before .before .before .before .before .before .before .before .before .before)) (some (c .before .before .before .before .before .before .before .before .before .before .before .before .before .before .before .before .before .before .before .before .before)) (size-is (c .before .before .before .before .before .before .before .before .before .before .before .before .before .before .before .before))
-    _ _ _ _ _ _ _ _ _ (placed (c .before .before .before .before .before .before .before .before .before .before .before .before .before .before .before .before .before .before .before .before .before .before .before .before .before .before .before .before)) (instructions (c .before .before .before .before .before .before .before .before .before .before .before .before .before .before .before .before .before .before .before .before .before .before)) (begins (c .before .before .before .before .before .before .before .before .before .before .before .before .before .before .before .before .before .before .before)) (stops (c .before .before .before .before .before .before .before .before .before .before .before .before .before .before .before .before .before)) (c .before .before .clear-trailer .ensures .0)
-    (c .before .before .before .before .before .before .before .before .before .before .before .before .before .before .move-within .ensures) (c .before .before .before .before .before .before .before .before .before .before .clear .ensures) (c .before .before .before .before .before .before .put-u32 .ensures) (c .before .before .clear-trailer .ensures .1))
+    let t = c .before .before .before in
+    let d = clearing t in
+    let e = dropping d in
+    let s = start₆ e in
+    over s _
+    (c .accept .ensures _ _
+    ∙ restored-to (S s) (shortened (R s) (T s .place)) (passed e) _ _ _ _ (sym (shortened-size (last-in e)))
+    (t .clear-trailer .ensures .0) (d .drop-instruction .ensures (R s) (T s .place) (last-in e)) (t .clear-trailer .ensures .1))
 
 pub undo-append-spec : {M : Type 1} → statement M
 undo-append-spec =
     tie.close
     (tie.spec
-    cast-size
-    blocks-of-requires
-    same-length
+    (λ c κs. search needs)
+    (λ c κs. search needs)
+    (λ c. search needs)
     returns
-    cast-block-offset
-    block-offset-requires
-    word64-requires
-    same-length-2
+    (λ c. search needs)
+    (λ c κs. search needs)
+    (λ c κs. search needs)
+    (λ c κs. search needs)
+    (λ c. search needs)
     returns-2
-    add-word32
-    word32-requires
-    same-length-3
+    (λ c. search needs)
+    last-size-is-requires
+    (λ c κs. search needs)
+    (λ c. search needs)
     returns-3
-    sub-instruction-offset
-    instruction-offset-requires
-    instructions-end-requires
-    sub-if4
-    same-length-4
-    returns-4
-    sub-move-within
-    move-within-requires
-    sub-clear
-    clear-requires
-    add-put-u32
-    sub-put-u32
-    put-u32-requires
-    clear-trailer-requires
-    sub-t20
-    same-length-5
-    same-length-6
-    returns-5)
+    sub-left
+    drop-instruction-requires
+    (λ c κs. search needs)
+    (λ c κs. search needs)
+    (λ c. search needs)
+    (λ c. search needs)
+    returns-4)

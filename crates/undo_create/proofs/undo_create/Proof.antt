@@ -1,198 +1,254 @@
--- `undo_create::undo_create` meets its contract: each answer is one law of taking back a create, with what the image's readers tell of the routine held.
+-- `undo_create::undo_create` meets its contract: at each place of the code, what is left of the definition's tests, with what the image's readers tell of
+-- the routine held.
 -- Assumes nothing.
 use mathlib.Core.Path.{_≡_, sym, _∙_}
 use native.Mathlib.Omega.{arith}
 use Prim.Native.Nat.{_+_, _≤_, _<_}
 use lib.ListN.{length}
-use borrow.Author.Tests.{not-true, not-false}
-use Rattle.fields.specs.Outcome.{accepted}
-use Rattle.fields.specs.Lists.{choose}
+use borrow.Author.Tests.{eq-eqb, ne-eqb, not-true, not-false}
+use Rattle.fields.specs.Outcome.{refused, accepted}
+use Rattle.fields.proofs.Outcomes.{unless-on, unless-off}
 use Rattle.pod.specs.Values.{BasicBlock, Routine}
-use Rattle.machine.specs.Edits.{block-at}
 use Rattle.machine.specs.Machine.{Answer}
-use Rattle.machine.specs.Journal.{Trailer, is-fresh, undo-create}
-use Rattle.machine.specs.Book.{State, held, restored}
-use Rattle.laws.proofs.Sizes.{routine-size}
-use Rattle.book.specs.Says.{state}
-use Rattle.book.specs.Holding.{blocks-start, block-start}
+use Rattle.machine.specs.Journal.{is-fresh, undo-create}
+use Rattle.machine.specs.Book.{State, held}
+use Rattle.machine.specs.Trailer.{Trailer}
+use Rattle.book.specs.Says.{state, taking-back}
+use Rattle.book.specs.Holding.{Holding, Sound, blocks-start, block-start}
+use Rattle.book.proofs.Restored.{spoiled, restored-to}
 use Rattle.journal.specs.Says.{trailer-of}
 use Rattle.image.proofs.Inspects.{of-held, sound-holding}
 use Rattle.image.proofs.Stands.{block-holds, block-word}
 use Rattle.image.proofs.Parts.{stands-here}
-use Rattle.edits.proofs.Restored.{block-fits}
+use Rattle.image.proofs.Cuts.{block-fits}
+use Rattle.undo_create.specs.Last.{Ends-with, up-to}
+use Rattle.undo_create.proofs.Uncreates.{up-to-size}
 use Rattle.undo_create.proofs.Uncreates as U
 use borrow.Author.Needs.{needs}
 use Rattle.undo_create.proofs.undo_create.Statement.{statement}
 use Rattle.undo_create.proofs.undo_create.Tie as tie
 
--- the state at entry, the routine that it holds, and the trailer
-abbrev S : tie.Start → State
-S s = state (s .args .image .now) (s .args .journal .now) (s .args .book)
+-- the state at entry, the routine that it holds, the trailer and the block at its place
+module _ (s : tie.Start) where
+  abbrev S : State
+  S = state (s .args .image .now) (s .args .journal .now) (s .args .book)
 
-abbrev R : tie.Start → Routine
-R s = s .pre .0 .r
+  abbrev R : Routine
+  R = s .pre .0 .r
 
-abbrev T : tie.Start → Trailer
-T s = trailer-of (s .args .last)
+  abbrev T : Trailer
+  T = trailer-of (s .args .last)
 
-abbrev B : tie.Start → BasicBlock
-B s = block-at (s .args .last .place) (R s .explored-blocks)
+  abbrev B : BasicBlock
+  B = U.there R T
 
--- of every routine that is held
-over : (s : tie.Start) (x : Answer × State) → x ≡ restored (S s) (undo-create (R s) (T s)) → (r : Routine) → held (S s) ≡ accepted r → x ≡ restored (S s) (undo-create r (T s))
-over s x = of-held (λ q. restored (S s) (undo-create q (T s))) (s .pre .0 .sound)
+  sound : Sound S R
+  sound = s .pre .0 .sound
 
-lent : (s : tie.Start) → s .args .book .written ≤ length (s .args .image .now)
-lent s = let o = s .pre .0 .sound in omega (arith, o .written, o .room)
+  holding : Holding (s .args .image .now) R
+  holding = sound-holding sound
 
-abbrev start : tie.After-blocks-of → tie.Start
-start c = c .before .before .before .before .before .before
+  -- an answer that is right of that routine is right of every routine that is held
+  over : (x : Answer × State) → x ≡ taking-back S (undo-create R T) → (r : Routine) → held S ≡ accepted r → x ≡ taking-back S (undo-create r T)
+  over x = of-held (λ q. taking-back S (undo-create q T)) sound
 
-counted : (c : tie.After-blocks-of) → c .blocks-of .result .count ≡ length (R (start c) .explored-blocks)
-counted c = c .blocks-of .ensures (R (start c)) (sound-holding (start c .pre .0 .sound)) .1
+  refuses : {x : Answer × State} → x ≡ (refused 13, S) → undo-create R T ≡ refused 13 → (r : Routine) → held S ≡ accepted r → x ≡ taking-back S (undo-create r T)
+  refuses e q = over _ (e ∙ spoiled S q)
 
-begins : (c : tie.After-blocks-of) → c .blocks-of .result .start ≡ blocks-start (R (start c))
-begins c = c .blocks-of .ensures (R (start c)) (sound-holding (start c .pre .0 .sound)) .0
+-- The way through the code, each place from the next.
+abbrev entering : tie.After-struct-known → tie.Start
+entering c = c .before .before .before
+
+abbrev measuring : tie.Else1 → tie.After-struct-known
+measuring c = c .before
+
+abbrev at-blocks : tie.After-blocks-of → tie.Else1
+at-blocks c = c .before .before
+
+abbrev counting : tie.Else2 → tie.After-blocks-of
+counting c = c .before .before
+
+abbrev placing : tie.After-block-offset → tie.Else2
+placing c = c .before .before
+
+abbrev at-vip : tie.After-word64 → tie.After-block-offset
+at-vip c = c .before .before
+
+abbrev comparing : tie.Else3 → tie.After-word64
+comparing c = c .before .before
+
+abbrev at-fresh : tie.After-is-fresh → tie.Else3
+at-fresh c = c .before .before
+
+abbrev looking : tie.Else4 → tie.After-is-fresh
+looking c = c .before
+
+abbrev dropping : tie.After-drop-block → tie.Else4
+dropping c = c .before .before
+
+abbrev clearing : tie.After-clear-trailer → tie.After-drop-block
+clearing c = c .before .before .before .before
+
+-- What is known at them.
+abbrev start₁ : tie.Else1 → tie.Start
+start₁ c = entering (measuring c)
+
+empty : (c : tie.Else1) → let s = start₁ c in undo-create (R s) (T s) ≡ U.if-last (R s) (T s)
+empty c = U.tests _ _ ∙ unless-on 13 _ (eq-eqb _ 0 (c .if1 .left))
+
+abbrev start₂ : tie.After-blocks-of → tie.Start
+start₂ c = start₁ (at-blocks c)
+
+counted : (c : tie.After-blocks-of) → c .blocks-of .result .count ≡ length (R (start₂ c) .explored-blocks)
+counted c = let s = start₂ c in c .blocks-of .ensures (R s) (holding s) .1
+
+begins : (c : tie.After-blocks-of) → c .blocks-of .result .start ≡ blocks-start (R (start₂ c))
+begins c = let s = start₂ c in c .blocks-of .ensures (R s) (holding s) .0
 
 -- the place is the last
-abbrev start₁ : tie.Else2 → tie.Start
-start₁ c = start (c .before .before)
+abbrev start₃ : tie.Else2 → tie.Start
+start₃ c = start₂ (counting c)
 
-last-place : (c : tie.Else2) → start₁ c .args .last .place + 1 ≡ length (R (start₁ c) .explored-blocks)
-last-place c = omega (arith, c .if2 .left, counted (c .before .before))
+last-place : (c : tie.Else2) → T (start₃ c) .place + 1 ≡ length (R (start₃ c) .explored-blocks)
+last-place c = omega (arith, c .if2 .left, counted (counting c))
 
-within : (c : tie.Else2) → start₁ c .args .last .place < length (R (start₁ c) .explored-blocks)
+last : (c : tie.Else2) → let s = start₃ c in undo-create (R s) (T s) ≡ U.if-there (R s) (T s)
+last c = empty (at-blocks (counting c)) ∙ unless-on 13 _ (eq-eqb _ _ (last-place c))
+
+within : (c : tie.Else2) → T (start₃ c) .place < length (R (start₃ c) .explored-blocks)
 within c = omega (arith, last-place c)
 
-abbrev start₂ : tie.After-block-offset → tie.Start
-start₂ c = start₁ (c .before .before)
-
-placed : (c : tie.After-block-offset) → c .block-offset .result ≡ block-start (R (start₂ c)) (start₂ c .args .last .place)
-placed c = c .block-offset .ensures (R (start₂ c)) (sound-holding (start₂ c .pre .0 .sound)) (omega (arith, within (c .before .before)))
-
 -- the block there ends within the written length
-ends : (c : tie.After-block-offset) → c .block-offset .result + 36 ≤ start₂ c .args .book .written
-ends c = let s = start₂ c in omega (arith, placed c, block-fits (S s) (R s) (s .pre .0 .sound) (s .args .last .place) (within (c .before .before)))
+abbrev start₄ : tie.After-block-offset → tie.Start
+start₄ c = start₃ (placing c)
 
-abbrev start₃ : tie.After-word64 → tie.Start
-start₃ c = start₂ (c .before .before)
+placed : (c : tie.After-block-offset) → c .block-offset .result ≡ block-start (R (start₄ c)) (T (start₄ c) .place)
+placed c = let s = start₄ c in c .block-offset .ensures (R s) (holding s) (omega (arith, within (placing c)))
 
-vip-read : (c : tie.After-word64) → c .word64 .result ≡ B (start₃ c) .vip
+ends : (c : tie.After-block-offset) → c .block-offset .result + 36 ≤ start₄ c .args .book .written
+ends c = let s = start₄ c in omega (arith, placed c, block-fits (S s) (R s) (sound s) (T s .place) (within (placing c)))
+
+vip-read : (c : tie.After-word64) → c .word64 .result ≡ B (start₄ (at-vip c)) .vip
 vip-read c =
-    let s = start₃ c in
-    let h = sound-holding (s .pre .0 .sound) in
-    let l = within (c .before .before .before .before) in
-    c .word64 .ensures ∙ block-word _ (B s) (block-holds h (s .args .last .place) l) (stands-here (R s) (s .args .last .place) h l (placed (c .before .before)))
+    let s = start₄ (at-vip c) in
+    let l = within (placing (at-vip c)) in
+    c .word64 .ensures ∙ block-word _ (B s) (block-holds (holding s) (T s .place) l) (stands-here (R s) (T s .place) (holding s) l (placed (at-vip c)))
 
-abbrev start₄ : tie.After-is-fresh → tie.Start
-start₄ c = start₃ (c .before .before .before .before)
+abbrev start₅ : tie.Else3 → tie.Start
+start₅ c = start₄ (at-vip (comparing c))
 
-fresh : (c : tie.After-is-fresh) → c .is-fresh .result ≡ is-fresh (B (start₄ c))
+same-vip : (c : tie.Else3) → let s = start₅ c in undo-create (R s) (T s) ≡ U.if-fresh (R s) (T s)
+same-vip c =
+    let s = start₅ c in
+    last (placing (at-vip (comparing c))) ∙ unless-on 13 _ (eq-eqb (B s .vip) (T s .vip) (omega (arith, c .if3 .left, vip-read (comparing c))))
+
+-- and is fresh
+abbrev start₆ : tie.After-is-fresh → tie.Start
+start₆ c = start₅ (at-fresh c)
+
+fresh : (c : tie.After-is-fresh) → c .is-fresh .result ≡ is-fresh (B (start₆ c))
 fresh c =
-    let s = start₄ c in
-    let h = sound-holding (s .pre .0 .sound) in
-    let l = within (c .before .before .before .before .before .before .before .before) in
-    c .is-fresh .ensures (B s) (block-holds h (s .args .last .place) l) (stands-here (R s) (s .args .last .place) h l (placed (c .before .before .before .before .before .before)))
+    let s = start₆ c in
+    let a = at-vip (comparing (at-fresh c)) in
+    let l = within (placing a) in
+    c .is-fresh .ensures (B s) (block-holds (holding s) (T s .place) l) (stands-here (R s) (T s .place) (holding s) l (placed a))
+
+abbrev start₇ : tie.Else4 → tie.Start
+start₇ c = start₆ (looking c)
+
+abbrev offset : tie.Else4 → tie.After-block-offset
+offset c = at-vip (comparing (at-fresh (looking c)))
+
+passed : (c : tie.Else4) → let s = start₇ c in undo-create (R s) (T s) ≡ U.done (R s) (T s)
+passed c = same-vip (at-fresh (looking c)) ∙ unless-on 13 _ (sym (fresh (looking c)) ∙ not-false _ (c .if4 .left))
+
+-- The block, as what drops it asks for it
+ends-with : (c : tie.Else4) → let s = start₇ c in
+    Ends-with (s .args .image .now) (R s) (counting (placing (offset c)) .blocks-of .result .start) (offset c .block-offset .result) (s .args .book .written) (T s .place)
+ends-with c =
+    let s = start₇ c in
+    record {
+      is = sound s .image;
+      start-is = begins (counting (placing (offset c)));
+      at-is = placed (offset c);
+      written-is = sound s .written;
+      last = last-place (placing (offset c));
+    }
 
 returns : tie.Need-returns
-unfolding choose
-returns c = let s = (c .before .before .before .before) in over s _ (U.create-length (S s) (R s) (s .pre .0 .sound) (T s) (c .if1 .taken))
-
-blocks-of-requires : tie.Need-blocks-of-requires
-blocks-of-requires c κs = search needs
-
-cast-if2 : tie.Need-cast-if2
-cast-if2 c = search needs
-
-add-if2 : tie.Need-add-if2
-add-if2 c = search needs
-
-cast-if2-2 : tie.Need-cast-if2-2
-cast-if2-2 c = search needs
-
-same-length : tie.Need-same-length
-same-length c = search needs
+returns c = let t = c .before in refuses (entering (t .before)) (c .refuse .ensures _ _ (omega arith)) (U.tests _ _ ∙ unless-off 13 _ (ne-eqb _ 0 (t .if1 .taken)))
 
 returns-2 : tie.Need-returns-2
-unfolding choose
-returns-2 c = let s = (c .before .before .before .before .before .before .before .before) in over s _ (U.create-place (S s) (R s) (s .pre .0 .sound) (T s) (c .before .before .before .before .if1 .left) (λ e. c .if2 .taken (e ∙ sym (counted (c .before .before)))))
-
-cast-block-offset : tie.Need-cast-block-offset
-cast-block-offset c = search needs
-
-block-offset-requires : tie.Need-block-offset-requires
-block-offset-requires c κs = search needs
-
-word64-requires : tie.Need-word64-requires
-word64-requires c κs = search needs
-
-same-length-2 : tie.Need-same-length-2
-same-length-2 c = search needs
+returns-2 c =
+    let t = c .before in
+    let b = t .before .before in
+    let s = start₂ b in
+    refuses s (c .refuse2 .ensures _ _ (omega arith))
+    (empty (at-blocks b) ∙ unless-off 13 _ (ne-eqb (T s .place + 1) (length (R s .explored-blocks)) (λ e. omega (arith, t .if2 .taken, counted b))))
 
 returns-3 : tie.Need-returns-3
-unfolding choose
-returns-3 c = let s = (c .before .before .before .before .before .before .before .before .before .before .before .before .before .before) in over s _ (U.create-vip (S s) (R s) (s .pre .0 .sound) (T s) (c .before .before .before .before .before .before .before .before .before .before .if1 .left) (last-place (c .before .before .before .before .before .before)) (λ e. c .if3 .taken (vip-read (c .before .before) ∙ e)))
+returns-3 c =
+    let t = c .before in
+    let w = t .before .before in
+    let s = start₄ (at-vip w) in
+    refuses s (c .refuse3 .ensures _ _ (omega arith))
+    (last (placing (at-vip w)) ∙ unless-off 13 _ (ne-eqb (B s .vip) (T s .vip) (λ e. omega (arith, t .if3 .taken, vip-read w))))
 
 is-fresh-requires : tie.Need-is-fresh-requires
-is-fresh-requires c κs = omega (arith, ends (c .before .before .before .before .before), lent (c .before .before .before .before .before .before .before .before .before .before .before .before .before .before .before))
-
-same-length-3 : tie.Need-same-length-3
-same-length-3 c = search needs
+is-fresh-requires c κs = let a = at-vip (comparing (c .before)) in let o = sound (start₄ a) in omega (arith, ends a, o .written, o .room)
 
 returns-4 : tie.Need-returns-4
-unfolding choose
 returns-4 c =
-    let s = (c .before .before .before .before .before .before .before .before .before .before .before .before .before .before .before .before .before) in
-    over s _ (U.create-changed (S s) (R s) (s .pre .0 .sound) (T s) (c .before .before .before .before .before .before .before .before .before .before .before .before .before .if1 .left) (last-place (c .before .before .before .before .before .before .before .before .before)) (sym (vip-read (c .before .before .before .before .before)) ∙ c .before .before .before .if3 .left) (sym (fresh (c .before)) ∙ not-true _ (c .if4 .taken)))
+    let t = c .before in
+    let f = t .before in
+    refuses (start₆ f) (c .refuse4 .ensures _ _ (omega arith)) (same-vip (at-fresh f) ∙ unless-off 13 _ (sym (fresh f) ∙ not-true _ (t .if4 .taken)))
 
-clear-requires : tie.Need-clear-requires
-clear-requires c κs = let s = (c .before .before .before .before .before .before .before .before .before .before .before .before .before .before .before .before .before .before) in (omega (arith, ends (c .before .before .before .before .before .before .before .before)), omega (arith, lent s))
-
-sub-put-u32 : tie.Need-sub-put-u32
-sub-put-u32 c = omega (arith, begins (c .before .before .before .before .before .before .before .before .before .before .before .before .before .before .before .before))
-
-put-u32-requires : tie.Need-put-u32-requires
-put-u32-requires c κs = let s = (c .before .before .before .before .before .before .before .before .before .before .before .before .before .before .before .before .before .before .before .before .before .before) in omega (arith, begins (c .before .before .before .before .before .before .before .before .before .before .before .before .before .before .before .before), routine-size (R s), s .pre .0 .sound .room, c .before .before .before .clear .kept .0)
-
-clear-trailer-requires : tie.Need-clear-trailer-requires
-clear-trailer-requires c κs = let s = (c .before .before .before .before .before .before .before .before .before .before .before .before .before .before .before .before .before .before .before .before .before .before .before .before .before .before) in (s .pre .1, s .pre .0 .sound .used)
-
-same-length-4 : tie.Need-same-length-4
-same-length-4 c = search needs
-
-same-length-5 : tie.Need-same-length-5
-same-length-5 c = search needs
+drop-block-requires : tie.Need-drop-block-requires
+drop-block-requires c κs =
+    let e = c .before in
+    let o = sound (start₇ e) in
+    let a = offset e in
+    let b = counting (placing a) in
+    (omega (arith, begins b), (omega (arith, begins b, placed a), (omega (arith, ends a), omega (arith, o .written, o .room))))
 
 returns-5 : tie.Need-returns-5
-unfolding choose
 returns-5 c =
-    let s = (c .before .before .before .before .before .before .before .before .before .before .before .before .before .before .before .before .before .before .before .before .before .before .before .before .before .before .before .before .before) in
-    over s _ (U.create-final (S s) (R s) (s .pre .0 .sound) (T s) (c .before .before .before .before .before .before .before .before .before .before .before .before .before .before .before .before .before .before .before .before .before .before .before .before .before .if1 .left) (last-place (c .before .before .before .before .before .before .before .before .before .before .before .before .before .before .before .before .before .before .before .before .before)) (sym (vip-read (c .before .before .before .before .before .before .before .before .before .before .before .before .before .before .before .before .before)) ∙ c .before .before .before .before .before .before .before .before .before .before .before .before .before .before .before .if3 .left) (sym (fresh (c .before .before .before .before .before .before .before .before .before .before .before .before .before)) ∙ not-false _ (c .before .before .before .before .before .before .before .before .before .before .before .before .if4 .left))
-    _ _ _ _ _ _ (placed (c .before .before .before .before .before .before .before .before .before .before .before .before .before .before .before .before .before .before .before)) (begins (c .before .before .before .before .before .before .before .before .before .before .before .before .before .before .before .before .before .before .before .before .before .before .before)) (c .before .before .clear-trailer .ensures .0) (c .before .before .before .before .before .before .before .before .before .before .clear .ensures) (c .before .before .before .before .before .before .put-u32 .ensures) (c .before .before .clear-trailer .ensures .1))
+    let t = c .before .before .before in
+    let d = clearing t in
+    let e = dropping d in
+    let s = start₇ e in
+    let a = offset e in
+    over s _
+    (c .accept .ensures _ _
+    ∙ restored-to (S s) (up-to (R s) (T s .place)) (passed e) _ _ _ _ (placed a ∙ sym (up-to-size (R s) (T s .place) (omega (arith, within (placing a)))))
+    (t .clear-trailer .ensures .0) (d .drop-block .ensures (R s) (ends-with e)) (t .clear-trailer .ensures .1))
 
 pub undo-create-spec : {M : Type 1} → statement M
 undo-create-spec =
     tie.close
     (tie.spec
+    (λ c κs. search needs)
     returns
-    blocks-of-requires
-    cast-if2
-    add-if2
-    cast-if2-2
-    same-length
+    (λ c κs. search needs)
+    (λ c. search needs)
+    (λ c. search needs)
+    (λ c. search needs)
+    (λ c κs. search needs)
+    (λ c. search needs)
     returns-2
-    cast-block-offset
-    block-offset-requires
-    word64-requires
-    same-length-2
+    (λ c. search needs)
+    (λ c κs. search needs)
+    (λ c κs. search needs)
+    (λ c κs. search needs)
+    (λ c. search needs)
     returns-3
     is-fresh-requires
-    same-length-3
+    (λ c κs. search needs)
+    (λ c. search needs)
     returns-4
-    clear-requires
-    sub-put-u32
-    put-u32-requires
-    clear-trailer-requires
-    same-length-4
-    same-length-5
+    drop-block-requires
+    (λ c κs. search needs)
+    (λ c κs. search needs)
+    (λ c. search needs)
+    (λ c. search needs)
     returns-5)

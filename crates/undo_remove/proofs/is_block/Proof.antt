@@ -1,48 +1,42 @@
--- `undo_remove::is_block` meets its contract: the exact walk says where a block ends, and eight bytes its vip.
+-- `undo_remove::is_block` meets its contract: the walk says where a block ends and whether it is in written form, and eight bytes its vip.
 -- Assumes nothing.
 use mathlib.Core.Path.{_≡_, sym, ap, _∙_}
 use native.Mathlib.Omega.{arith}
-use Rattle.fields.specs.Answers.{of-skip}
-use Rattle.fields.specs.Parse.{ok, span}
-use Rattle.pod.specs.Layout.{block, as-written}
+use Rattle.fields.specs.Bytes.{Bytes}
+use Rattle.fields.specs.Answers.{of-walked}
+use Rattle.fields.specs.Parse.{ok}
+use Rattle.pod.specs.Layout.{block}
+use Rattle.pod.specs.Written.{block-bytes, walked}
 use Rattle.undo_remove.proofs.Whole as W
 use borrow.Author.Needs.{needs}
 use Rattle.undo_remove.proofs.is_block.Statement.{statement}
 use Rattle.undo_remove.proofs.is_block.Tie as tie
 
--- what the walk said
-ends : (c : tie.After-known-told) → ok tt (c .before .end .given .0 .0) ≡ span (block as-written (c .before .before .before .before .before .args .s .now) 0)
-ends c = sym (ap of-skip (c .before .end .given .1)) ∙ c .before .before .before .block-skip .ensures
+-- The way through the code, each place from the next.
+abbrev start : tie.After-block-skip → tie.Start
+start c = c .before .before
 
-block-skip-requires : tie.Need-block-skip-requires
-block-skip-requires c κs = search needs
+abbrev walking : tie.After-known-told → tie.After-block-skip
+walking c = c .before .before .before
 
-enum-known-end : tie.Need-enum-known-end
-enum-known-end c = search needs
+-- What is known at them.
+octets : (c : tie.After-block-skip) → Bytes (start c .args .s .now)
+octets c = c .before .shared-slice-known .given
+
+ends : (c : tie.After-known-told) → walked block block-bytes (start (walking c) .args .s .now) 0 ≡ ok (c .before .end .given .0 .1 .0) (c .before .end .given .0 .0)
+ends c = sym (walking c .block-skip .ensures) ∙ ap of-walked (c .before .end .given .1)
 
 eight-requires : tie.Need-eight-requires
-eight-requires c κs = let k = c .before in omega (arith, W.long-enough 0 _ (k .before .before .before .before .shared-slice-known .given) (ends k) (c .if1 .taken))
+eight-requires c κs = let k = c .before in omega (arith, W.long-enough 0 _ (octets (walking k)) (ends k) (c .if1 .taken))
 
-enum-told : tie.Need-enum-told
-enum-told c = search needs
+by-vip : tie.Need-returns
+by-vip c = let e = c .before in let k = e .before .before in W.by-vip _ _ (octets (walking k)) (ends k) (e .before .if1 .taken) _ (e .eight .ensures)
 
-returns : tie.Need-returns
-returns c = let e = c .before in let k = e .before .before in W.by-vip _ _ (k .before .before .before .before .shared-slice-known .given) (ends k) (e .before .if1 .taken) _ (e .eight .ensures)
+not-all : tie.Need-returns-2
+not-all c = let k = c .before in W.not-all _ _ (octets (walking k)) (ends k) (c .if1 .left)
 
-returns-2 : tie.Need-returns-2
-returns-2 c = W.not-all _ _ (ends (c .before)) (c .if1 .left)
-
-returns-3 : tie.Need-returns-3
-returns-3 c = W.not-read _ _ (sym (ap of-skip (c .enum-told .given .1)) ∙ c .before .before .block-skip .ensures)
+not-read : tie.Need-returns-3
+not-read c = let w = c .before .before in W.not-read _ _ (octets w) (sym (w .block-skip .ensures) ∙ ap of-walked (c .enum-told .given .1))
 
 pub is-block-spec : {M : Type 1} → statement M
-is-block-spec =
-    tie.close
-    (tie.spec
-    block-skip-requires
-    enum-known-end
-    eight-requires
-    enum-told
-    returns
-    returns-2
-    returns-3)
+is-block-spec = tie.close (tie.spec (λ c κs. search needs) (λ c. search needs) eight-requires (λ c. search needs) by-vip not-all not-read)

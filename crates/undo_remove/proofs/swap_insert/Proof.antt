@@ -9,19 +9,42 @@ use Rattle.pod.specs.Values.{Routine}
 use Rattle.machine.specs.Edits.{block-at}
 use Rattle.machine.proofs.Keeps.{weight}
 use Rattle.book.specs.Holding.{blocks-start, block-start}
-use Rattle.edits.proofs.Stands as B
+use Rattle.image.proofs.Here as B
 use Rattle.undo_remove.specs.Insertable.{Insertable}
 use Rattle.undo_remove.proofs.Entered as E
 use borrow.Author.Needs.{needs}
 use Rattle.undo_remove.proofs.swap_insert.Statement.{statement}
 use Rattle.undo_remove.proofs.swap_insert.Tie as tie
 
-abbrev start : tie.After-blocks-of → tie.Start
-start c = c .before .before .before .before
-
 abbrev Comes : tie.Start → Routine → Type 0
 Comes s r = Insertable r (s .args .image .now) (s .args .place) (s .args .written) (s .args .block .now)
 
+-- The way through the code, each place from the next: first where the block goes last, then where another stands at its place.
+abbrev start : tie.After-blocks-of → tie.Start
+start c = c .before .before .before .before
+
+abbrev counting-last : tie.After-copy-at → tie.After-blocks-of
+counting-last c = c .before .before .before .before
+
+abbrev storing : tie.After-put-u32 → tie.After-copy-at
+storing c = c .before .before .before .before
+
+abbrev finding : tie.After-block-end → tie.After-block-offset
+finding c = c .before .before
+
+abbrev counting-mid : tie.After-block-offset → tie.After-blocks-of
+counting-mid c = c .before .before .before .before
+
+abbrev ending : tie.After-copy-at2 → tie.After-block-end
+ending c = c .before .before
+
+abbrev copying : tie.After-exchange → tie.After-copy-at2
+copying c = c .before .before .before .before
+
+abbrev exchanging : tie.After-put-u322 → tie.After-exchange
+exchanging c = c .before .before .before .before
+
+-- What is known at them.
 counted : (c : tie.After-blocks-of) (r : Routine) → Comes (start c) r
     → (c .blocks-of .result .start ≡ blocks-start r) × (c .blocks-of .result .count ≡ length (r .explored-blocks))
 counted c r l = c .blocks-of .ensures r (E.holding r _ _ _ _ l)
@@ -38,104 +61,70 @@ room : (s : tie.Start) → s .args .written + length (s .args .block .now) ≤ l
 room s = E.room (s .pre .r) _ _ _ _ (s .pre .insertable)
 
 -- the place is that of a block, which stands from `at` to `next`
-abbrev counts : tie.After-block-end → tie.After-blocks-of
-counts c = c .before .before .before .before .before
+module _ (c : tie.After-block-end) where
+  abbrev o : tie.After-block-offset
+  o = finding c
 
-there : (c : tie.After-block-end) (r : Routine) → Comes (start (counts c)) r → start (counts c) .args .place < length (r .explored-blocks)
-there c r l = omega (arith, c .before .before .before .before .if1 .left, counted (counts c) r l .1)
+  abbrev k : tie.After-blocks-of
+  k = counting-mid o
 
-at-is : (c : tie.After-block-end) (r : Routine) → Comes (start (counts c)) r → c .before .before .block-offset .result ≡ block-start r (start (counts c) .args .place)
-at-is c r l = c .before .before .block-offset .ensures r (E.holding r _ _ _ _ l) (omega (arith, there c r l))
+  abbrev s : tie.Start
+  s = start k
 
-next-is : (c : tie.After-block-end) (r : Routine) → Comes (start (counts c)) r
-    → c .block-end .result ≡ c .before .before .block-offset .result + weight (block-at (start (counts c) .args .place) (r .explored-blocks))
-next-is c r l = c .block-end .ensures ∙ B.end-here r _ (there c r l) _ (E.holding r _ _ _ _ l) _ (at-is c r l)
+  module _ (r : Routine) (l : Comes s r) where
+    there : s .args .place < length (r .explored-blocks)
+    there = omega (arith, o .before .before .if1 .left, counted k r l .1)
 
-blocks-of-requires : tie.Need-blocks-of-requires
-blocks-of-requires c κs = search needs
+    at-is : o .block-offset .result ≡ block-start r (s .args .place)
+    at-is = o .block-offset .ensures r (E.holding r _ _ _ _ l) (omega (arith, there))
 
-cast-if1 : tie.Need-cast-if1
-cast-if1 c = search needs
+    next-is : c .block-end .result ≡ o .block-offset .result + weight (block-at (s .args .place) (r .explored-blocks))
+    next-is = c .block-end .ensures ∙ B.end-here r _ there _ (E.holding r _ _ _ _ l) _ at-is
 
-copy-at-requires : tie.Need-copy-at-requires
-copy-at-requires c κs = room (start (c .before .before))
+    before-end : c .block-end .result ≤ s .args .written
+    before-end = omega (arith, next-is, at-is, B.tail-size r _ there, l .whole)
 
-sub-put-u32 : tie.Need-sub-put-u32
-sub-put-u32 c = omega (arith, sure (c .before .before .before .before .before .before))
-
-add-put-u32 : tie.Need-add-put-u32
-add-put-u32 c = omega (arith, sure (c .before .before .before .before .before .before))
-
-put-u32-requires : tie.Need-put-u32-requires
-put-u32-requires c κs = omega (arith, sure (c .before .before .before .before .before .before))
-
-same-length : tie.Need-same-length
-same-length c = search needs
-
-returns : tie.Need-returns
-returns c = λ r b l e.
-    let u = c .before .before .before .before .before .before .before .before .before in
-    let k = counted u r l in
-    E.in-last r _ _ _ _ l b e _ _ (k .0) (k .1) (omega (arith, c .before .before .before .before .before .before .before .before .if1 .taken, k .1)) _ _ (c .before .before .before .before .before .before .copy-at .ensures) (c .before .before .put-u32 .ensures)
-
-block-offset-requires : tie.Need-block-offset-requires
-block-offset-requires c κs = search needs
-
-block-end-requires : tie.Need-block-end-requires
-block-end-requires c κs = search needs
-
-copy-at-requires-2 : tie.Need-copy-at-requires-2
-copy-at-requires-2 c κs = room (start (c .before .before .before .before .before .before))
-
-add-exchange : tie.Need-add-exchange
-add-exchange c = omega (arith, room (start (c .before .before .before .before .before .before .before .before .before .before)))
+-- the block goes last
+goes-last : tie.Need-returns
+goes-last c = λ r b l e.
+    let p = c .before .before in
+    let y = storing p in
+    let n = counted (counting-last y) r l in
+    E.in-last r _ _ _ _ l b e _ _ (n .0) (n .1) (omega (arith, y .before .before .if1 .taken, n .1)) _ _ (y .copy-at .ensures) (p .put-u32 .ensures)
 
 exchange-requires : tie.Need-exchange-requires
 exchange-requires c κs =
-    let u = c .before .before .before .before .before in
-    let s = start (counts u) in
-    let p = s .pre in
-    let n = next-is u (p .r) (p .insertable) in
-    let t = B.tail-size (p .r) _ (there u (p .r) (p .insertable)) in
-    (omega (arith, n), (omega (arith, n, at-is u (p .r) (p .insertable), t, p .insertable .whole), (omega arith, omega (arith, room s))))
+    let u = ending (c .before .before .before) in
+    let p = s u .pre in
+    (omega (arith, next-is u (p .r) (p .insertable)), (before-end u (p .r) (p .insertable), (omega arith, omega (arith, room (s u)))))
 
-sub-put-u32-2 : tie.Need-sub-put-u32-2
-sub-put-u32-2 c = omega (arith, sure (c .before .before .before .before .before .before .before .before .before .before .before .before .before .before))
-
-add-put-u32-2 : tie.Need-add-put-u32-2
-add-put-u32-2 c = omega (arith, sure (c .before .before .before .before .before .before .before .before .before .before .before .before .before .before))
-
-put-u32-requires-2 : tie.Need-put-u32-requires-2
-put-u32-requires-2 c κs = omega (arith, sure (c .before .before .before .before .before .before .before .before .before .before .before .before .before .before))
-
-same-length-2 : tie.Need-same-length-2
-same-length-2 c = search needs
-
-returns-2 : tie.Need-returns-2
-returns-2 c = λ r b l e.
-    let v = c .before .before .before .before .before .before .before .before .before .before .before .before in
-    let k = counted (counts v) r l in
-    E.in-mid r _ _ _ _ l b e _ _ (k .0) (k .1) (there v r l) _ _ (at-is v r l) (next-is v r l) _ _ _ (c .before .before .before .before .before .before .before .before .before .before .copy-at2 .ensures) (c .before .before .before .before .before .before .exchange .ensures) (c .before .before .put-u322 .ensures)
+-- it goes to the place of another, which goes last
+goes-mid : tie.Need-returns-2
+goes-mid c = λ r b l e.
+    let p = c .before .before in
+    let x = exchanging p in
+    let y = copying x in
+    let u = ending y in
+    let n = counted (k u) r l in
+    E.in-mid r _ _ _ _ l b e _ _ (n .0) (n .1) (there u r l) _ _ (at-is u r l) (next-is u r l) _ _ _ (y .copy-at2 .ensures) (x .exchange .ensures) (p .put-u322 .ensures)
 
 pub swap-insert-spec : {M : Type 1} → statement M
 swap-insert-spec =
     tie.close
     (tie.spec
-    blocks-of-requires
-    cast-if1
-    copy-at-requires
-    sub-put-u32
-    add-put-u32
-    put-u32-requires
-    same-length
-    returns
-    block-offset-requires
-    block-end-requires
-    copy-at-requires-2
-    add-exchange
+    (λ c κs. search needs)
+    (λ c. omega (arith, sure (c .before)))
+    (λ c. omega (arith, sure (c .before)))
+    (λ c. omega (arith, room (start (c .before))))
+    (λ c. search needs)
+    (λ c κs. room (start (c .before .before .before)))
+    (λ c κs. omega (arith, sure (counting-last (c .before .before .before))))
+    (λ c. search needs)
+    goes-last
+    (λ c κs. search needs)
+    (λ c κs. search needs)
+    (λ c κs. room (s (c .before)))
     exchange-requires
-    sub-put-u32-2
-    add-put-u32-2
-    put-u32-requires-2
-    same-length-2
-    returns-2)
+    (λ c κs. omega (arith, sure (k (ending (copying (c .before .before .before))))))
+    (λ c. search needs)
+    goes-mid)

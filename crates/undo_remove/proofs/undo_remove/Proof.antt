@@ -1,175 +1,143 @@
--- `undo_remove::undo_remove` meets its contract: each return is what taking back a removal is at the tests made so far. A state holds one routine, so
+-- `undo_remove::undo_remove` meets its contract: each answer is what taking back a removal is at the tests made so far. A state holds one routine, so
 -- that of `requires` is every one that it holds.
 -- Assumes nothing.
-use mathlib.Core.Path.{_≡_, sym, _∙_}
-use mathlib.Core.Bool.{true}
+use mathlib.Core.Path.{_≡_, _∙_}
 use mathlib.Core.List.{List}
 use Prim.Native.Nat.{ℕ, _-_, _≤_}
 use native.Mathlib.Omega.{arith}
 use lib.ListN.{length, take}
-use borrow.Author.Tests.{not-true, not-false}
-use Rattle.fields.specs.Outcome.{accepted}
-use Rattle.pod.specs.Values.{BasicBlock, Routine}
+use Rattle.fields.specs.Outcome.{Outcome, accepted}
+use Rattle.pod.specs.Values.{Routine}
 use Rattle.machine.specs.Machine.{Answer}
-use Rattle.machine.specs.Book.{State, held, restored}
+use Rattle.machine.specs.Book.{State, held}
 use Rattle.machine.specs.Journal as journal
-use Rattle.book.specs.Says.{state}
+use Rattle.machine.specs.Trailer.{Trailer}
+use Rattle.book.specs.Says.{state, taking-back, refusal-of}
 use Rattle.book.specs.Holding.{Sound}
+use Rattle.book.proofs.Answers.{refused-by}
+use Rattle.book.proofs.Restored.{spoiled}
 use Rattle.image.proofs.Inspects.{of-held, sound-holding}
 use Rattle.journal.specs.Says.{trailer-of}
-use Rattle.undo_remove.specs.Blocks.{entry-fits}
 use Rattle.undo_remove.specs.Insertable.{Insertable}
 use Rattle.undo_remove.proofs.Entries as K
 use borrow.Author.Needs.{needs}
 use Rattle.undo_remove.proofs.undo_remove.Statement.{statement}
 use Rattle.undo_remove.proofs.undo_remove.Tie as tie
 
-abbrev L : tie.Start → State
-L s = state (s .args .image .now) (s .args .journal .now) (s .args .book)
+-- the state at entry, the routine that it holds, the trailer, and the journal's used part before it
+abbrev S : tie.Start → State
+S s = state (s .args .image .now) (s .args .journal .now) (s .args .book)
 
 abbrev R : tie.Start → Routine
 R s = s .pre .0 .r
 
-sound : (s : tie.Start) → Sound (L s) (R s)
+sound : (s : tie.Start) → Sound (S s) (R s)
 sound s = s .pre .0 .sound
 
-abbrev T : tie.Start → journal.Trailer
+abbrev T : tie.Start → Trailer
 T s = trailer-of (s .args .last)
 
-abbrev gives : tie.Start → Routine → Answer × State
-gives s r = restored (L s) (journal.undo-remove (length (s .args .image .now)) r (take (s .args .book .used - 20) (s .args .journal .now)) (T s))
+abbrev before : tie.Start → List ℕ
+before s = take (s .args .book .used - 20) (s .args .journal .now)
 
-over : (s : tie.Start) (x : Answer × State) → x ≡ gives s (R s) → (r : Routine) → held (L s) ≡ accepted r → x ≡ gives s r
-over s x = of-held (gives s) (sound s)
+abbrev back : tie.Start → Routine → Outcome (Routine × ℕ)
+back s r = journal.undo-remove (length (s .args .image .now)) r (before s) (T s)
 
-abbrev start : tie.Else1 → tie.Start
-start c = c .before .before .before .before
+over : (s : tie.Start) (x : Answer × State) → x ≡ taking-back (S s) (back s (R s)) → (r : Routine) → held (S s) ≡ accepted r → x ≡ taking-back (S s) (back s r)
+over s x = of-held (λ r. taking-back (S s) (back s r)) (sound s)
 
--- the entry is no longer than the used part
-whole : (c : tie.Else1) → T (start c) .length ≤ start c .args .book .used - 20
-whole c = c .if1 .left
+-- The way through the code, each place from the next.
+abbrev start : tie.After-entry-refusal → tie.Start
+start c = c .before .before .before .before .before
 
-abbrev entry : tie.Else1 → List ℕ
-entry c = let s = start c in K.entry _ _ _ (R s) (sound s) (T s) (s .pre .1) (whole c)
+abbrev testing : tie.Else1 → tie.After-entry-refusal
+testing c = c .before
 
--- what `entry_fits` said
-tested : (c : tie.After-entry-fits)
-    → (let s = start (c .before .before .before .before) in c .entry-fits .result ≡ entry-fits (length (s .args .image .now)) (R s) (T s .vip) (T s .place) (entry (c .before .before .before .before)))
-tested c = let s = start (c .before .before .before .before) in c .entry-fits .ensures (R s) (sound-holding (sound s)) (sound s .written)
+abbrev passing : tie.After-swap-insert → tie.Else1
+passing c = c .before .before .before .before .before .before
 
-enters : (c : tie.Else2)
-    → (let s = start (c .before .before .before .before .before) in entry-fits (length (s .args .image .now)) (R s) (T s .vip) (T s .place) (entry (c .before .before .before .before .before)) ≡ true)
-enters c = sym (tested (c .before)) ∙ not-false _ (c .if2 .left)
+abbrev inserting : tie.After-clear → tie.After-swap-insert
+inserting c = c .before .before .before .before
 
-abbrev back : tie.Else2 → BasicBlock
-back c = let s = start (c .before .before .before .before .before) in K.back _ _ _ (R s) (sound s) (T s) (s .pre .1) (whole (c .before .before .before .before .before)) (enters c)
+abbrev clearing : tie.After-accept → tie.After-clear
+clearing c = c .before .before .before
 
-insertable : (c : tie.Else2)
-    → (let s = start (c .before .before .before .before .before) in Insertable (R s) (s .args .image .now) (T s .place) (s .args .book .written) (entry (c .before .before .before .before .before)))
-insertable c =
-    let e = c .before .before .before .before .before in
-    let s = start e in
-    let g = sound s in
-    let n = K.entry-size _ _ _ (R s) g (T s) (s .pre .1) (whole e) in
-    record {
-      holds = g .holds;
-      is = g .image;
-      whole = g .written;
-      room = omega (arith, n, K.room _ (R s) (T s) _ n (enters c));
-      lent = g .image-lent;
-      within = K.placed _ (R s) (T s) _ n (enters c);
-    }
+-- What is known at them.
+tested : (c : tie.After-entry-refusal) → c .entry-refusal .result ≡ refusal-of (back (start c) (R (start c)))
+tested c = let s = start c in c .entry-refusal .ensures (R s) (sound-holding (sound s)) (sound s .written)
 
-sub-before : tie.Need-sub-before
-sub-before c = search needs
+module _ (c : tie.Else1) where
+  abbrev s : tie.Start
+  s = start (testing c)
 
-cast-size : tie.Need-cast-size
-cast-size c = search needs
+  fitting : K.Fitting (length (s .args .image .now)) (R s) (before s) (T s)
+  fitting = K.fitting _ (R s) (before s) (T s) (tested (testing c)) (omega (arith, c .if1 .left))
 
-returns : tie.Need-returns
-returns c = let s = c .before .before .before .before in over s _ (K.long _ _ _ (R s) (sound s) (T s) (s .pre .1) (c .if1 .taken))
+  enough : T s .len ≤ s .args .book .used - 20
+  enough = K.enough (S s) (R s) (sound s) (T s) (s .pre .1) fitting
 
-sub-entry-fits : tie.Need-sub-entry-fits
-sub-entry-fits c = search needs
+  abbrev entry : List ℕ
+  entry = K.entry (S s) (R s) (sound s) (T s) (s .pre .1) fitting
 
-part-entry-fits-start : tie.Need-part-entry-fits-start
-part-entry-fits-start c = search needs
+  insertable : Insertable (R s) (s .args .image .now) (T s .place) (s .args .book .written) entry
+  insertable =
+      let g = sound s in
+      record {
+        holds = g .holds;
+        is = g .image;
+        whole = g .written;
+        room = omega (arith, fitting .room, K.entry-size (S s) (R s) g (T s) (s .pre .1) fitting);
+        lent = g .image-lent;
+        within = fitting .placed;
+      }
 
-part-entry-fits-end : tie.Need-part-entry-fits-end
-part-entry-fits-end c = search needs
+slice-aggregate-entry-refusal : tie.Need-slice-aggregate-entry-refusal
+slice-aggregate-entry-refusal c = let s = c .before .before .before .before in omega (arith, K.used-size (S s) (R s) (sound s) (T s) (s .pre .1))
 
-entry-fits-requires : tie.Need-entry-fits-requires
-entry-fits-requires c κs = search needs
-
-same-length : tie.Need-same-length
-same-length c = search needs
-
-same-length-2 : tie.Need-same-length-2
-same-length-2 c = search needs
-
-returns-2 : tie.Need-returns-2
-returns-2 c =
-    let e = c .before .before .before .before .before in
-    let s = start e in
-    over s _ (K.misfit _ _ _ (R s) (sound s) (T s) (s .pre .1) (whole e) (sym (tested (c .before)) ∙ not-true _ (c .if2 .taken)))
-
-cast-swap-insert : tie.Need-cast-swap-insert
-cast-swap-insert c = search needs
-
-sub-swap-insert : tie.Need-sub-swap-insert
-sub-swap-insert c = search needs
-
-part-swap-insert-start : tie.Need-part-swap-insert-start
-part-swap-insert-start c = search needs
-
-part-swap-insert-end : tie.Need-part-swap-insert-end
-part-swap-insert-end c = search needs
+refused-13 : tie.Need-returns
+refused-13 c =
+    let t = c .before .before in
+    let s = start t in
+    over s _ (c .refuse .ensures _ _ (omega (arith, c .before .if1 .taken)) ∙ spoiled (S s) (refused-by (back s (R s)) (tested t) (λ z. omega (arith, z, c .before .if1 .taken))))
 
 swap-insert-requires : tie.Need-swap-insert-requires
-swap-insert-requires c κs = let u = c .before .before .before in record { r = R (start (u .before .before .before .before .before)); insertable = insertable u }
+swap-insert-requires c κs = let p = c .before .before .before .before .before in record { r = R (s p); insertable = insertable p }
 
-clear-requires : tie.Need-clear-requires
-clear-requires c κs = search needs
-
-add-t23 : tie.Need-add-t23
-add-t23 c = search needs
-
-same-length-3 : tie.Need-same-length-3
-same-length-3 c = search needs
-
-same-length-4 : tie.Need-same-length-4
-same-length-4 c = search needs
-
-returns-3 : tie.Need-returns-3
-returns-3 c =
-    let u = c .before .before .before .before .before .before .before .before .before .before in
-    let e = u .before .before .before .before .before in
-    let s = start e in
-    let y = c .before .before .before .before .before .before .before .before .before .before .before .before .before .before .before .before .before .slice-known2 .given in
-    let b = K.written-back _ _ _ (R s) (sound s) (T s) (s .pre .1) (whole e) (enters u) y in
-    over s _ (K.restores _ _ _ (R s) (sound s) (T s) (s .pre .1) (whole e) (enters u) y _ _ (c .before .before .before .before .before .before .swap-insert .ensures (R s) (back u) (insertable u) b) (c .before .before .clear .ensures))
+restored : tie.Need-returns-2
+restored c =
+    let k = clearing c in
+    let w = inserting k in
+    let p = passing w in
+    let s = s p in
+    let f = fitting p in
+    over s _
+    (c .accept .ensures _ _
+    ∙ K.restores (S s) (R s) (sound s) (T s) (s .pre .1) f _ _
+    (w .swap-insert .ensures (R s) (f .b) (insertable p) (K.is-block-form (S s) (R s) (sound s) (T s) (s .pre .1) f))
+    (k .clear .ensures))
 
 pub undo-remove-spec : {M : Type 1} → statement M
 undo-remove-spec =
     tie.close
     (tie.spec
-    sub-before
-    cast-size
-    returns
-    sub-entry-fits
-    part-entry-fits-start
-    part-entry-fits-end
-    entry-fits-requires
-    same-length
-    same-length-2
-    returns-2
-    cast-swap-insert
-    sub-swap-insert
-    part-swap-insert-start
-    part-swap-insert-end
+    (λ c. search needs)
+    (λ c. search needs)
+    slice-aggregate-entry-refusal
+    (λ c κs. search needs)
+    (λ c κs. search needs)
+    (λ c. search needs)
+    (λ c. search needs)
+    refused-13
+    (λ c. search needs)
+    (λ c. omega (arith, enough (c .before)))
+    (λ c. search needs)
+    (λ c. search needs)
+    (λ c. search needs)
+    (λ c. search needs)
     swap-insert-requires
-    clear-requires
-    add-t23
-    same-length-3
-    same-length-4
-    returns-3)
+    (λ c κs. search needs)
+    (λ c. search needs)
+    (λ c κs. search needs)
+    (λ c. search needs)
+    (λ c. search needs)
+    restored)

@@ -5,14 +5,6 @@ use Rattle.pod.specs.Descs.{operand-desc}
 use borrow.Author.Needs.{needs}
 use Rattle.value.proofs.operand_desc.Statement.{statement}
 use Rattle.value.proofs.operand_desc.Tie as tie
-use Rattle.value.proofs.operand_desc.Reads as reads
-use Rattle.value.proofs.operand_desc.Lts as lts
-
-enum-known-x : tie.Need-enum-known-x
-enum-known-x c = search needs
-
-enum-known-x-2 : tie.Need-enum-known-x-2
-enum-known-x-2 c = search needs
 
 returns : tie.Need-returns
 unfolding operand-desc
@@ -23,4 +15,4 @@ unfolding operand-desc
 returns-2 c = sym (ap operand-desc (c .before .x2 .given .1))
 
 pub operand-desc-spec : {M : Type 1} → statement M
-operand-desc-spec = tie.close (tie.spec enum-known-x enum-known-x-2 returns returns-2)
+operand-desc-spec = tie.close (tie.spec (λ c. search needs) (λ c. search needs) returns returns-2)

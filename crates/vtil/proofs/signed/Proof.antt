@@ -4,8 +4,6 @@ use mir.ValLaws.{toZ-pos}
 use borrow.Author.Needs.{needs}
 use Rattle.vtil.proofs.signed.Statement.{statement}
 use Rattle.vtil.proofs.signed.Tie as tie
-use Rattle.vtil.proofs.signed.Reads as reads
-use Rattle.vtil.proofs.signed.Lts as lts
 
 cast-result : tie.Need-cast-result
 cast-result c = search needs

@@ -1,75 +1,59 @@
 -- The file check: the walk's answer as a signed number.
-use mathlib.Core.Path.{sym, ap, _∙_}
+use mathlib.Core.Path.{_≡_, sym, ap, _∙_}
 use native.Mathlib.Omega.{arith}
 use mir.Syntax.{w64}
 use mir.ValLaws.{toZ-ofZ}
-use Rattle.fields.specs.Answers.{of-skip}
+use Rattle.fields.specs.Parse.{ok, span}
+use Rattle.fields.specs.Answers.{of-walked}
 use Rattle.fields.proofs.Steps.{handed}
+use Rattle.pod.specs.Layout.{routine, read-file}
+use Rattle.pod.specs.Written.{routine-bytes}
+use Rattle.laws.proofs.Walks.{walked-past, walked-refused}
 use Rattle.vtil.proofs.Told.{ends, told-ok, told-no, minus-fits, within-limit, over-limit}
 use borrow.Author.Needs.{needs}
 use Rattle.vtil.proofs.vtil_check.Statement.{statement}
 use Rattle.vtil.proofs.vtil_check.Tie as tie
-use Rattle.vtil.proofs.vtil_check.Reads as reads
-use Rattle.vtil.proofs.vtil_check.Lts as lts
-use Rattle.reader.proofs.pass_file.Reads as pass-file-reads
-use Rattle.vtil.proofs.signed.Reads as signed-reads
 
-cast-result : tie.Need-cast-result
-cast-result c = search needs
+abbrev known : tie.After-pass-file → tie.After-shared-slice-known
+known c = c .before .before
 
-sub-result : tie.Need-sub-result
-sub-result c = search needs
+-- the walk accepts
+past : (c : tie.After-far) → ok tt (c .far .given .0 .0) ≡ span (read-file (known (c .before .before) .before .args .file .now))
+past c = walked-past routine routine-bytes _ 0 (sym (c .before .before .pass-file .ensures) ∙ ap of-walked (c .far .given .1))
 
 returns : tie.Need-returns
 returns c = over-limit _ (c .if1 .taken)
 
-pass-file-requires : tie.Need-pass-file-requires
-pass-file-requires c κs = search needs
-
-enum-known-far : tie.Need-enum-known-far
-enum-known-far c = search needs
-
 signed-requires : tie.Need-signed-requires
 signed-requires c κs =
-    let w = c .before .before .before in
-    omega (arith, ends _ (w .before .before .shared-slice-known .given) (sym (ap of-skip (c .before .far .given .1)) ∙ w .pass-file .ensures))
-
-enum-told : tie.Need-enum-told
-enum-told c = search needs
-
-skip-refusal-requires : tie.Need-skip-refusal-requires
-skip-refusal-requires c κs = search needs
-
-cast-result-2 : tie.Need-cast-result-2
-cast-result-2 c = search needs
-
-sub-result-2 : tie.Need-sub-result-2
-sub-result-2 c = minus-fits (c .skip-refusal .result) (omega arith)
+    let far = c .before in
+    omega (arith, ends _ (known (far .before .before) .shared-slice-known .given) (past far))
 
 returns-2 : tie.Need-returns-2
 returns-2 c =
-    let k = c .before in
-    let w = k .before .before .before in
-    toZ-ofZ w64 _ (record { sfits = c .signed .ok }) ∙ c .signed .ensures ∙ told-ok _ (sym (ap of-skip (k .before .far .given .1)) ∙ w .pass-file .ensures) ∙ within-limit _ (w .before .if1 .left)
+    let far = c .before .before in
+    toZ-ofZ w64 _ (record { sfits = c .signed .ok }) ∙ c .signed .ensures ∙ told-ok _ (past far) ∙ within-limit _ (far .before .before .before .if1 .left)
 
 returns-3 : tie.Need-returns-3
 returns-3 c =
-    let w = c .before .before .before in
-    told-no _ (omega arith) (handed (ap of-skip (c .before .enum-told .given .1)) (w .pass-file .ensures) (c .skip-refusal .ensures)) ∙ within-limit _ (w .before .if1 .left)
+    let call = c .before .before .before in
+    told-no _ (omega arith)
+    (walked-refused routine routine-bytes _ 0 (sym (handed (ap of-walked (c .before .enum-told .given .1)) (call .pass-file .ensures) (c .walked-refusal .ensures))))
+    ∙ within-limit _ (call .before .if1 .left)
 
 pub vtil-check-spec : {M : Type 1} → statement M
 vtil-check-spec =
     tie.close
     (tie.spec
-    cast-result
-    sub-result
+    (λ c. search needs)
+    (λ c. search needs)
     returns
-    pass-file-requires
-    enum-known-far
+    (λ c κs. search needs)
+    (λ c. search needs)
     signed-requires
-    enum-told
-    skip-refusal-requires
-    cast-result-2
-    sub-result-2
+    (λ c. search needs)
+    (λ c κs. search needs)
+    (λ c. search needs)
+    (λ c. minus-fits (c .walked-refusal .result) (omega arith))
     returns-2
     returns-3)

@@ -9,9 +9,6 @@ use Rattle.writer.specs.Forms.{operands-bytes}
 use borrow.Author.Needs.{needs}
 use Rattle.writer.proofs.operands_size.Statement.{statement}
 use Rattle.writer.proofs.operands_size.Tie as tie
-use Rattle.writer.proofs.operands_size.Reads as reads
-use Rattle.writer.proofs.operands_size.Lts as lts
-use Rattle.writer.proofs.operand_size.Reads as operand-size-reads
 
 abbrev Inv-loop : tie.InvT-loop
 Inv-loop count p n₀ i₀ n i = (i ≤ count) × ((n ≤ 28 * i) × (n + length (operands-bytes (drop i (take count p))) ≡ length (operands-bytes (take count p))))
@@ -19,56 +16,26 @@ Inv-loop count p n₀ i₀ n i = (i ≤ count) × ((n ≤ 28 * i) × (n + length
 abbrev μ-loop : tie.MeasureT-loop
 μ-loop count p n₀ i₀ n i = count - i
 
-loop-holds : tie.Need-loop-holds Inv-loop μ-loop
-loop-holds c = (omega arith, (omega arith, omega arith))
-
-mul-operand-size : tie.Need-mul-operand-size Inv-loop μ-loop
-mul-operand-size c = search needs
-
-array-copy-out-operand-size : tie.Need-array-copy-out-operand-size Inv-loop μ-loop
-array-copy-out-operand-size c = search needs
-
-operand-size-requires : tie.Need-operand-size-requires Inv-loop μ-loop
-operand-size-requires c κs = search needs
+three : (c : tie.At-loop Inv-loop μ-loop) → length (c .before .args .t1) ≡ 3
+three c = c .before .good .0 .1 .0 .1
 
 add-n : tie.Need-add-n Inv-loop μ-loop
-add-n c = let b = c .operand-size .ensures .1 in omega (arith, c .before .before .before .before .pre)
-
-add-i : tie.Need-add-i Inv-loop μ-loop
-add-i c = search needs
-
-loop-less : tie.Need-loop-less Inv-loop μ-loop
-loop-less c = search needs
+add-n c = omega (arith, c .operand-size .ensures .1)
 
 loop-again : tie.Need-loop-again Inv-loop μ-loop
 loop-again c =
-    let k = c .before .before in
-    let s = k .before .before in
-    let b = c .operand-size .ensures in (
-      omega arith,
-      (
-        omega (arith, b .1),
-        sum-more (s .args .t1) _ _ (s .good .0 .1 .0 .1) (s .pre) _ (k .loop-test .taken) _ _ _ (k .before .loop .inv .1 .1) (b .0),
-      ),
-    )
+    let l : tie.At-loop Inv-loop μ-loop = c .before .before .before in
+    let b = c .operand-size .ensures in
+    (omega arith, (omega (arith, b .1), sum-more (l .before .args .t1) _ (l .loop .i) (three l) (l .before .pre) _ (omega arith) _ _ _ (l .loop .inv .1 .1) (b .0)))
 
 returns : tie.Need-returns Inv-loop μ-loop
 returns c =
-    let s = c .before .before in
-    (sum-none (s .args .t1) _ _ (s .good .0 .1 .0 .1) (s .pre) _ _ (c .loop-test .left) (c .before .loop .inv .1 .1), omega (arith, s .pre))
+    let l : tie.At-loop Inv-loop μ-loop = c .before in
+    (sum-none (l .before .args .t1) _ (l .loop .i) (three l) (l .before .pre) _ _ (omega arith) (l .loop .inv .1 .1), omega arith)
 
 pub operands-size-spec : {M : Type 1} → statement M
 operands-size-spec =
     tie.close
     (tie.spec
-    Inv-loop
-    μ-loop
-    loop-holds
-    mul-operand-size
-    array-copy-out-operand-size
-    operand-size-requires
-    add-n
-    add-i
-    loop-less
-    loop-again
-    returns)
+    Inv-loop μ-loop (λ c. search needs) (λ c. search needs) (λ c. search needs) (λ c κs. search needs) add-n (λ c. search needs) (λ c. search needs)
+    loop-again returns)

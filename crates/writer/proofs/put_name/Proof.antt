@@ -1,112 +1,54 @@
 -- `writer::put_name` meets its contract: the size, and then what is left of the name, put where the loop stands, makes it the whole.
 -- Assumes nothing.
-use Prim.Native.Nat.{_≤_, _-_}
-use mathlib.Core.Path.{_∙_}
+use Prim.Native.Nat.{_+_, _≤_, _-_}
 use mathlib.Core.List.{[]}
 use native.Mathlib.Omega.{arith}
-use lib.ListN.{getD}
+use mathlib.Core.Path.{_≡_, _∙_}
+use lib.ListN.{length, getD, drop}
 use Rattle.op.specs.Ops.{names}
 use Rattle.op.proofs.Same.{short}
-use Rattle.writer.proofs.Name.{Rest, rest-all, rest-more, rest-none, laid-name, size-name}
+use Rattle.writer.proofs.Name.{byte-more, byte-none, name-put, size-name}
+use Rattle.writer.proofs.Rest.{Rest, rest-all}
 use borrow.Author.Needs.{needs}
 use Rattle.writer.proofs.put_name.Statement.{statement}
 use Rattle.writer.proofs.put_name.Tie as tie
-use Rattle.writer.proofs.put_name.Reads as reads
-use Rattle.writer.proofs.put_name.Lts as lts
-use Rattle.buffer.proofs.put_u32.Reads as put-u32-reads
-use Rattle.op.proofs.name_byte.Reads as name-byte-reads
-use Rattle.op.proofs.name_len.Reads as name-len-reads
 
 abbrev Inv-loop : tie.InvT-loop
-Inv-loop k image₀ n j₀ image j = (j ≤ n) × Rest (getD names k []) j image₀ image
+Inv-loop k image₀ n j₀ image j = (j ≤ n) × Rest (getD names k []) 4 image₀ (drop j (getD names k [])) (4 + j) image
 
 abbrev μ-loop : tie.MeasureT-loop
 μ-loop k image₀ n j₀ image j = n - j
 
-name-len-requires : tie.Need-name-len-requires Inv-loop μ-loop
-name-len-requires c κs = search needs
+abbrev naming : tie.At-loop Inv-loop μ-loop → tie.After-name-len Inv-loop μ-loop
+naming c = c .before .before .before .before .before
 
-cast-put-u32 : tie.Need-cast-put-u32 Inv-loop μ-loop
-cast-put-u32 c = let n = c .before in omega (arith, n .name-len .ensures, short (n .before .before .args .k))
-
-put-u32-requires : tie.Need-put-u32-requires Inv-loop μ-loop
-put-u32-requires c κs = let s = c .before .before .before in omega (arith, s .pre .1, size-name (s .args .k))
+-- the name's length, which is small, and fits after its size
+counted : (c : tie.After-name-len Inv-loop μ-loop) → (c .name-len .result ≡ length (getD names (c .before .before .args .k) []))
+    × ((c .name-len .result ≤ 6) × (4 + c .name-len .result ≤ length (c .before .before .args .image .now)))
+counted c =
+    let k = c .before .before .args .k in
+    let e = c .name-len .ensures in
+    (e, (omega (arith, short k), omega (arith, size-name k)))
 
 loop-holds : tie.Need-loop-holds Inv-loop μ-loop
-loop-holds c = (omega arith, rest-all _ _)
-
-name-byte-requires : tie.Need-name-byte-requires Inv-loop μ-loop
-name-byte-requires c κs =
-    let n = c .before .before .before .before .before .before in
-    let s = n .before .before in
-    (s .pre .0, omega (arith, n .name-len .ensures, short (s .args .k)))
-
-add-image : tie.Need-add-image Inv-loop μ-loop
-add-image c =
-    let n = c .before .before .before .before .before .before .before in
-    omega (arith, n .name-len .ensures, short (n .before .before .args .k))
-
-slice-write-image : tie.Need-slice-write-image Inv-loop μ-loop
-slice-write-image c =
-    let l = c .before .before in
-    let u = l .before .before .before in
-    let n = u .before .before in
-    let s = n .before .before in
-    omega (arith, n .name-len .ensures, s .pre .1, size-name (s .args .k), u .put-u32 .kept .0, l .loop .inv .1 .same)
-
-add-j : tie.Need-add-j Inv-loop μ-loop
-add-j c = search needs
-
-loop-less : tie.Need-loop-less Inv-loop μ-loop
-loop-less c = search needs
+loop-holds c = (omega arith, rest-all _ _ _)
 
 loop-again : tie.Need-loop-again Inv-loop μ-loop
 loop-again c =
-    let l = c .before .before in
-    let u = l .before .before .before in
-    let n = u .before .before in
-    let s = n .before .before in
-    let e = n .name-len .ensures in (
-      omega arith,
-      rest-more _ _ (l .loop .inv .1) (omega (arith, e)) (omega (arith, s .pre .1, size-name (s .args .k), u .put-u32 .kept .0)) (c .name-byte .ensures),
-    )
-
-add-result : tie.Need-add-result Inv-loop μ-loop
-add-result c =
-    let n = c .before .before .before .before .before .before in
-    omega (arith, n .name-len .ensures, short (n .before .before .args .k))
-
-same-length : tie.Need-same-length Inv-loop μ-loop
-same-length c = c .before .loop .inv .1 .same ∙ c .before .before .before .before .put-u32 .kept .0
+    let l : tie.At-loop Inv-loop μ-loop = c .before .before in
+    let n = counted (naming l) in
+    (omega arith, byte-more _ _ (l .loop .inv .1) (omega arith) (omega arith) (c .name-byte .ensures))
 
 returns : tie.Need-returns Inv-loop μ-loop
 returns c =
-    let l = c .before in
-    let u = l .before .before .before in
-    let n = u .before .before in
-    let s = n .before .before in
-    let e = n .name-len .ensures in
-    let z = size-name (s .args .k) in (
-      omega (arith, e),
-      laid-name _ e (u .put-u32 .ensures) (rest-none _ _ (l .loop .inv .1) (omega (arith, e, c .loop-test .left))) .is (omega (arith, s .pre .1, e)),
-    )
+    let n = counted (naming (c .before)) in
+    let k = naming (c .before) .before .before .args .k in
+    (omega (arith, size-name k), name-put k _ _ _ (n .0) (byte-none _ (c .before .loop .j) (c .before .loop .inv .1) (omega arith) ∙ cc) (omega arith))
 
 pub put-name-spec : {M : Type 1} → statement M
 put-name-spec =
     tie.close
     (tie.spec
-    Inv-loop
-    μ-loop
-    name-len-requires
-    cast-put-u32
-    put-u32-requires
-    loop-holds
-    name-byte-requires
-    add-image
-    slice-write-image
-    add-j
-    loop-less
-    loop-again
-    add-result
-    same-length
-    returns)
+    Inv-loop μ-loop (λ c κs. search needs) (λ c. omega (arith, counted (c .before))) (λ c κs. omega (arith, counted (c .before))) loop-holds
+    (λ c κs. omega (arith, counted (naming (c .before)))) (λ c. omega (arith, counted (naming (c .before .before)))) (λ c. omega (arith, counted (naming (c .before .before))))
+    (λ c. search needs) (λ c. search needs) loop-again (λ c. omega (arith, counted (naming (c .before)))) (λ c. omega arith) returns)

@@ -4,8 +4,6 @@ use borrow.Author.Needs.{needs}
 use Rattle.writer.specs.Answers.{write-answer}
 use Rattle.writer.proofs.refusal.Statement.{statement}
 use Rattle.writer.proofs.refusal.Tie as tie
-use Rattle.writer.proofs.refusal.Reads as reads
-use Rattle.writer.proofs.refusal.Lts as lts
 
 returns : tie.Need-returns
 unfolding write-answer

@@ -1,13 +1,13 @@
 //! Writes a fixed sample of the Rust's answers, to be replayed where there is no Rust.
 //!
 //! A record: u32 the file's length, the file, i64 the consumed length or minus the refusal; little-endian. The Rust
-//! decides the answer. Where it says only "some other error", document 01 tells 1 from 2; where it panics on a repeated
-//! vip the answer is 9; where it would abort on a huge count, document 01 decides alone.
+//! decides the answer. Where it says only "some other error", the reference tells 1 from 2; where it panics on a repeated
+//! vip the answer is 9; where it would abort on a huge count, the reference decides alone.
 
 use oracle::draft::minimal_routine;
 use oracle::generate::{Generator, CLASSES};
 use oracle::original::{ask, note_panics, reserves_too_much, Answer};
-use oracle::reader::{read_file, REPEATED_BLOCK};
+use oracle::reference::{check, list_counts, REPEATED_BLOCK};
 use std::process::ExitCode;
 
 const USAGE: &str = "usage: sample [--seed S] [--records N] --out PATH";
@@ -37,16 +37,20 @@ fn options() -> Result<Options, String> {
     Ok(Options { seed, records, out: out.ok_or("--out is missing")? })
 }
 
+/// What the reference says.
+fn due(file: &[u8]) -> i64 {
+    check(file).map_or_else(|refusal| -(refusal as i64), |consumed| consumed as i64)
+}
+
 fn answer(file: &[u8]) -> i64 {
-    let document = read_file(file);
-    if reserves_too_much(&document.counted) {
-        return document.number();
+    if reserves_too_much(&list_counts(file)) {
+        return due(file);
     }
     match ask(file) {
         Answer::Accepted { consumed, .. } => consumed as i64,
         Answer::Refused(refusal) => -(refusal as i64),
         Answer::RepeatedVip => -(REPEATED_BLOCK as i64),
-        Answer::Other => document.number(),
+        Answer::Other => due(file),
         Answer::Unexpected(text) => panic!("the Rust answered what no refusal covers: {text}"),
     }
 }
