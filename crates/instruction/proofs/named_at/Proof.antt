@@ -6,7 +6,7 @@ use Prim.Native.Nat.{ℕ}
 use lib.Dec.{eqb, ltb}
 use lib.ListN.{getD}
 use Rattle.fields.specs.Refusals.{unknown-operation, wrong-operand-count}
-use Rattle.fields.specs.Parse.{Res, Reader, check, done, _>>=_, _>>_}
+use Rattle.fields.specs.Parse.{Res, Reader, check, done, _>>_}
 use borrow.Author.Tests.{lt-ltb, le-ltb, eq-eqb, ne-eqb}
 use Rattle.fields.proofs.Steps.{on-check, off-check, on-u32, off-u32}
 use Rattle.op.specs.Ops.{counts}
