@@ -39,6 +39,7 @@ Named s = named (s .args .name .now) (s .args .s .now) (s .args .at)
 text : (c : tie.After-u32-at) → is-text (start (testing c) .args .name .now) ≡ true
 text c = sym (testing c .is-text .ensures) ∙ c .before .if1 .taken
 
+-- the two tests on the operation k and the operand count n, the last one first
 abbrev fitting : ℕ → ℕ → Reader ℕ
 fitting k n = do
   check wrong-operand-count (eqb n (getD counts k 0))
@@ -79,9 +80,9 @@ returns-3 c = past-count (c .before) (off-check _ _ _ (le-ltb (c .before .number
 returns-4 : tie.Need-returns-4
 unfolding named
 returns-4 c =
-    let told = c .before in
-    let n = told .before .before in
-    on-check _ _ _ (text n) (off-u32 _ (told .enum-told .given .1) (n .u32-at .ensures) (c .u32-refusal .ensures))
+    let refused = c .before in
+    let n = refused .before .before in
+    on-check _ _ _ (text n) (off-u32 _ (refused .enum-told .given .1) (n .u32-at .ensures) (c .u32-refusal .ensures))
 
 returns-5 : tie.Need-returns-5
 unfolding named
