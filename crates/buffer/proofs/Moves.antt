@@ -46,13 +46,13 @@ copied a b l i h e =
 abbrev pub moved : ℕ → ℕ → ℕ → List ℕ → List ℕ
 moved f t n a = put t (take n (drop f a)) a
 
--- a part moved by way of another list, r
-pub through : (a r z : List ℕ) (f t n : ℕ) → z ≡ put t (take n (put 0 (take (f + n - f) (drop f a)) r)) a → f + n ≤ length a → z ≡ moved f t n a
-through a r z f t n q h =
+-- a part moved by way of another list, m, which was r
+pub through : (a r : List ℕ) {m z : List ℕ} (f t n : ℕ) → m ≡ put 0 (take (f + n - f) (drop f a)) r → z ≡ put t (take n m) a → f + n ≤ length a → z ≡ moved f t n a
+through a r {m} {z} f t n p q h =
     let w : f + n - f ≡ n = omega arith in
     let x : List ℕ = take n (drop f a) in
     let e : take n (put 0 x r) ≡ x = ap (λ (k : ℕ). take k (put 0 x r)) (sym (length-part f n a h)) ∙ part-put-at 0 x r (omega arith) in
-    q ∙ rw (w, e)
+    q ∙ rw (p, w, e)
 
 -- the first i bytes moved towards the front, and k more
 pub down-more : (a z : List ℕ) (f t i k : ℕ) → z ≡ moved (f + i) (t + i) k (moved f t i a) → t ≤ f → f + (i + k) ≤ length a → z ≡ moved f t (i + k) a

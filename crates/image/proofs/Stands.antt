@@ -136,7 +136,8 @@ module _ {s : List ℕ} {x : Routine} (h : Holding s x) where
   tail-at : At s 16 (convention-bytes (x .routine-convention) ++ (convention-bytes (x .subroutine-convention) ++ counted-bytes convention-bytes (x .spec-subroutine-conventions)))
   tail-at =
       named (ap (λ k. 8 + k) (length-bytes 8 (x .vip)))
-      (right (bytes 8 (x .vip)) (convention-bytes (x .routine-convention) ++ (convention-bytes (x .subroutine-convention) ++ counted-bytes convention-bytes (x .spec-subroutine-conventions))) after-header)
+      (right (bytes 8 (x .vip)) (convention-bytes (x .routine-convention) ++ (convention-bytes (x .subroutine-convention) ++ counted-bytes convention-bytes (x .spec-subroutine-conventions)))
+      after-header)
 
   pub own-at : At s 16 (convention-bytes (x .routine-convention))
   own-at = left _ (convention-bytes (x .subroutine-convention) ++ counted-bytes convention-bytes (x .spec-subroutine-conventions)) tail-at

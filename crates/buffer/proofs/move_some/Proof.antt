@@ -8,10 +8,21 @@ use borrow.Author.Needs.{needs}
 use Rattle.buffer.proofs.move_some.Statement.{statement}
 use Rattle.buffer.proofs.move_some.Tie as tie
 
+-- the second copy, from the end of the code, the first, and the entry
+abbrev back : tie.After-slice-known4 → tie.After-copy-at2
+back c = c .before .before
+
+abbrev away : tie.After-copy-at2 → tie.After-copy-at
+away c = c .before .before .before .before .before
+
+abbrev start : tie.After-copy-at → tie.Start
+start c = c .before .before .before .before .before .before
+
 returns : tie.Need-returns
 returns c =
-    let s : tie.Start = c .before .before .before .before .before .before .before .before .before .before .before .before .before in
-    through _ (s .args .room .now) _ (s .args .from) _ (s .args .n) (cc) (omega arith)
+    let first = away (back c) in
+    let s = start first in
+    through _ (s .args .room .now) (s .args .from) _ (s .args .n) (first .copy-at .ensures) (back c .copy-at2 .ensures) (omega arith)
 
 pub move-some-spec : {M : Type 1} → statement M
 move-some-spec =

@@ -2,7 +2,7 @@
 use Prim.Native.Nat.{_+_, _≤_}
 use lib.ListN.{length}
 use native.Mathlib.Omega.{arith}
-use mathlib.Core.Path.{sym, _∙_}
+use mathlib.Core.Path.{sym}
 use borrow.Author.Tests.{leb-true, leb-false}
 use Rattle.fields.proofs.Chain.{far-past, far-refused}
 use Rattle.fields.proofs.Le.{span-ok, span-no}
@@ -10,30 +10,29 @@ use borrow.Author.Needs.{needs}
 use Rattle.fields.proofs.then_uint.Statement.{statement}
 use Rattle.fields.proofs.then_uint.Tie as tie
 
-add-t8 : tie.Need-add-t8
-add-t8 c =
-    let b = c .before in
-    let a = b .before .before .before .before .before .args in
-    let h : b .before .before .far .given .0 .0 + a .k ≤ length (a .s .now) = leb-true _ _ (sym (b .within .ensures) ∙ c .if1 .taken) in
-    omega arith
+-- what was passed over so far, from the test on, and the entry
+abbrev passed : tie.After-within → tie.After-far
+passed c = c .before .before
 
-enum-told : tie.Need-enum-told
-enum-told c = search needs
+abbrev start : tie.After-far → tie.Start
+start c = c .before .before .before
+
+abbrev tested : tie.Then1 → tie.After-far
+tested c = passed (c .before)
+
+-- the test says that the field stands within
+within : (c : tie.Then1) → tested c .far .given .0 .0 + start (tested c) .args .k ≤ length (start (tested c) .args .s .now)
+within c = leb-true _ _ (cc)
 
 returns : tie.Need-returns
-returns c =
-    let k = c .before in
-    far-past _ (k .before .before .far .given .1) (sym (span-ok _ _ _ (leb-true _ _ (sym (k .within .ensures) ∙ c .if1 .taken))))
+returns c = far-past _ (tested c .far .given .1) (sym (span-ok _ _ _ (within c)))
 
 returns-2 : tie.Need-returns-2
-returns-2 c =
-    let k = c .before in
-    far-past _ (k .before .before .far .given .1) (sym (span-no _ _ _ (leb-false _ _ (sym (k .within .ensures) ∙ c .if1 .left))))
-
-returns-3 : tie.Need-returns-3
-returns-3 c = far-refused _ (c .enum-told .given .1)
+returns-2 c = far-past _ (passed (c .before) .far .given .1) (sym (span-no _ _ _ (leb-false _ _ (cc))))
 
 pub then-uint-spec : {M : Type 1} → statement M
 then-uint-spec =
     tie.close
-    (tie.spec (λ c. search needs) (λ c κs. search needs) add-t8 enum-told returns returns-2 returns-3)
+    (tie.spec
+    (λ c. search needs) (λ c κs. search needs) (λ c. omega (arith, within c)) (λ c. search needs) returns returns-2
+    (λ c. far-refused _ (c .enum-told .given .1)))

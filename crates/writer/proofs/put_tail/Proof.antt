@@ -7,9 +7,7 @@ use Rattle.writer.proofs.put_tail.Statement.{statement}
 use Rattle.writer.proofs.put_tail.Tie as tie
 
 returns : tie.Need-returns
-returns c =
-    let told : tie.After-struct-told = c .before .before .before .before .before .before .before .before .before .before .before .before .before in
-    tail-put _ _ _ _ (record { sfits = told .struct-told .given .1 .1 .1 .1 .0 .1 }) (cc) (omega arith)
+returns c = tail-put _ _ _ _ (search needs) (cc) (omega arith)
 
 pub put-tail-spec : {M : Type 1} → statement M
 put-tail-spec =
