@@ -8,6 +8,8 @@
 #include "commands.h"
 #include "vtil.h"
 
+#define COUNT_SIZE 4 /* bytes of the count that stands before a list */
+
 struct book {
     uint8_t *image, *journal;
     size_t image_len, journal_len;

@@ -6,10 +6,11 @@
 
 #include "book.h"
 #include "output.h"
-#include "parts.h"
 #include "printed.h"
 #include "script.h"
 #include "words.h"
+
+#define EMPTY_BLOCK 36 /* bytes of a block that was just created */
 
 /* How many bytes the routine can grow by. The library's limit makes more than that useless. */
 static size_t growth(const struct script *script)

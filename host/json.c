@@ -8,11 +8,11 @@
 #include "operations.h"
 #include "printer.h"
 
-static void routine(const vtil_routine_look *look, uint64_t written)
+static void routine(const vtil_routine_read *read)
 {
     printf("{\"machine\": %" PRIu64 ", \"machine_name\": \"%s\", \"entry_vip\": \"0x%" PRIx64 "\", \"written\": %" PRIu64
            ",\n\"conventions\": [",
-           look->arch_id, machine_name(look->arch_id), look->vip, written);
+           read->arch_id, machine_name(read->arch_id), read->vip, read->end);
 }
 
 static void print_register_fields(const vtil_register_desc *reg)
@@ -26,12 +26,12 @@ static const char *comma(uint64_t place)
     return place == 0 ? "" : ",";
 }
 
-static void convention(uint64_t place, const vtil_convention_look *look)
+static void convention(uint64_t place, const vtil_convention_read *read)
 {
     printf("%s\n{\"frame_register\": {", comma(place));
-    print_register_fields(&look->frame_register);
-    printf("}, \"shadow_space\": \"0x%" PRIx64 "\", \"purge_stack\": %s", look->shadow_space,
-           look->purge_stack != 0 ? "true" : "false");
+    print_register_fields(&read->frame_register);
+    printf("}, \"shadow_space\": \"0x%" PRIx64 "\", \"purge_stack\": %s", read->shadow_space,
+           read->purge_stack != 0 ? "true" : "false");
 }
 
 static void close_object(void)
@@ -44,11 +44,11 @@ static void blocks(void)
     printf("],\n\"blocks\": [");
 }
 
-static void block(uint64_t place, const vtil_block_look *look)
+static void block(uint64_t place, const vtil_block_read *read)
 {
     printf("%s\n{\"vip\": \"0x%" PRIx64 "\", \"sp_offset\": \"%" PRId64 "\", \"sp_index\": %" PRIu32
            ", \"last_temporary_index\": %" PRIu32,
-           comma(place), look->vip, look->sp_offset, look->sp_index, look->last_temporary_index);
+           comma(place), read->vip, read->sp_offset, read->sp_index, read->last_temporary_index);
 }
 
 static const char *const list_names[] = {
@@ -62,10 +62,9 @@ static void list(enum list list, uint64_t count)
     printf(",\n  \"%s\": [", list_names[list]);
 }
 
-static void list_end(enum list list, uint64_t count)
+static void list_end(enum list list)
 {
     (void)list;
-    (void)count;
     printf("]");
 }
 

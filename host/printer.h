@@ -9,14 +9,14 @@
 enum list { VOLATILE, PARAM, RETVAL, INSTRUCTIONS, PREV, NEXT };
 
 struct printer {
-    void (*routine)(const vtil_routine_look *routine, uint64_t written);
-    void (*convention)(uint64_t place, const vtil_convention_look *convention);
+    void (*routine)(const vtil_routine_read *routine); /* in written form, so its end is how much is written */
+    void (*convention)(uint64_t place, const vtil_convention_read *convention);
     void (*convention_end)(void);
     void (*blocks)(void); /* after the last convention */
-    void (*block)(uint64_t place, const vtil_block_look *block);
+    void (*block)(uint64_t place, const vtil_block_read *block);
     void (*block_end)(void);
     void (*list)(enum list list, uint64_t count);
-    void (*list_end)(enum list list, uint64_t count);
+    void (*list_end)(enum list list);
     void (*reg)(uint64_t place, const vtil_register_desc *reg);
     void (*instruction)(uint64_t place, const vtil_instruction_desc *instruction);
     void (*vip)(uint64_t place, uint64_t vip);

@@ -1,11 +1,11 @@
 /* routine same A B: whether two files hold one routine. Two routines are equal exactly when their written forms are. */
 #include "commands.h"
 
+#include <inttypes.h>
 #include <stdbool.h>
 #include <stdio.h>
 
 #include "book.h"
-#include "parts.h"
 
 /* The first byte where the written forms differ; the length where they don't. */
 static size_t first_difference(const struct book *a, const struct book *b)
@@ -25,27 +25,37 @@ static void print_names(const char *const *names)
 }
 
 /* The part before the blocks that byte `at` is in. */
-static const char *front_part(size_t at, size_t blocks)
+static const char *front_part(const vtil_routine_read *routine, size_t at)
 {
     if (at < 8)
         return "the header";
-    if (at < CONVENTIONS_BEGIN)
+    if (at < routine->conventions_at)
         return "the entry vip";
-    return at < blocks ? "the conventions" : "the number of blocks";
+    return at < routine->blocks_at - COUNT_SIZE ? "the conventions" : "the number of blocks";
+}
+
+static uint64_t block_end(const struct book *book, uint64_t at)
+{
+    return vtil_read_block(book->image, (size_t)book->numbers.written, at).end;
+}
+
+/* The place of the block that byte `at` is in: the last block ends with the written form, so one is. */
+static uint64_t block_with(const struct book *book, const vtil_routine_read *routine, size_t at)
+{
+    uint64_t place = 0;
+    for (uint64_t end = block_end(book, routine->blocks_at); end <= at; end = block_end(book, end))
+        place++;
+    return place;
 }
 
 /* Up to the first difference two routines are alike, so either tells which part it is in. */
-static void print_part(const uint8_t *bytes, size_t at)
+static void print_part(const struct book *book, size_t at)
 {
-    size_t blocks = blocks_begin(bytes), block = blocks + COUNT_SIZE;
-    if (at < block) {
-        printf("%s", front_part(at, blocks));
-        return;
-    }
-    size_t place = 0;
-    for (block = block_end(bytes, block); block <= at; block = block_end(bytes, block))
-        place++;
-    printf("block %zu", place);
+    vtil_routine_read routine = vtil_read_routine(book->image, (size_t)book->numbers.written);
+    if (at < routine.blocks_at)
+        printf("%s", front_part(&routine, at));
+    else
+        printf("block %" PRIu64, block_with(book, &routine, at));
 }
 
 static enum status compare(const char *const *names, const struct book *a, const struct book *b)
@@ -58,7 +68,7 @@ static enum status compare(const char *const *names, const struct book *a, const
     }
     /* No written form is the beginning of another, so both have this byte. */
     printf(": two routines: the written forms first differ at byte %zu, in ", at);
-    print_part(a->image, at);
+    print_part(a, at);
     printf(": %02x and %02x\n", a->image[at], b->image[at]);
     return SOME_REFUSED;
 }

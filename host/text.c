@@ -6,12 +6,12 @@
 #include "printer.h"
 #include "words.h"
 
-static void routine(const vtil_routine_look *look, uint64_t written)
+static void routine(const vtil_routine_read *read)
 {
     printf("routine: machine %" PRIu64 " (%s), entry vip 0x%" PRIx64 ", %" PRIu64 " conventions, %" PRIu64
            " block%s, %" PRIu64 " bytes written\n",
-           look->arch_id, machine_name(look->arch_id), look->vip, 2 + look->spec_conventions, look->blocks,
-           plural(look->blocks), written);
+           read->arch_id, machine_name(read->arch_id), read->vip, 2 + read->spec_conventions, read->blocks,
+           plural(read->blocks), read->end);
 }
 
 static void print_register(const vtil_register_desc *reg)
@@ -27,18 +27,18 @@ static const char *whose(uint64_t place)
     return place == 1 ? "the subroutine's" : "special";
 }
 
-static void convention(uint64_t place, const vtil_convention_look *look)
+static void convention(uint64_t place, const vtil_convention_read *read)
 {
     printf("convention %" PRIu64 " (%s): shadow space %" PRIu64 ", purge stack %s\n  frame: ", place, whose(place),
-           look->shadow_space, look->purge_stack != 0 ? "yes" : "no");
-    print_register(&look->frame_register);
+           read->shadow_space, read->purge_stack != 0 ? "yes" : "no");
+    print_register(&read->frame_register);
     printf("\n");
 }
 
-static void block(uint64_t place, const vtil_block_look *look)
+static void block(uint64_t place, const vtil_block_read *read)
 {
     printf("block %" PRIu64 ": vip 0x%" PRIx64 ", sp offset %" PRId64 ", sp index %" PRIu32 ", last temporary %" PRIu32 "\n",
-           place, look->vip, look->sp_offset, look->sp_index, look->last_temporary_index);
+           place, read->vip, read->sp_offset, read->sp_index, read->last_temporary_index);
 }
 
 static const char *const list_names[] = {
@@ -54,9 +54,8 @@ static void list(enum list list, uint64_t count)
         printf("\n");
 }
 
-static void list_end(enum list list, uint64_t count)
+static void list_end(enum list list)
 {
-    (void)count;
     if (list == PREV || list == NEXT)
         printf("\n");
 }

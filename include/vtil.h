@@ -5,8 +5,8 @@
  * and link with libvtil.a; nothing else is needed.
  *
  * The rules behind it are in docs/SPEC.md: sections 2 the refusals, 3 and 4 the
- * files, 5 the writer, 6 the check, 7 opening, 8 every call on a book, 9 looking,
- * 10 the edits, 11 the journal and undo, 13 lists of calls.
+ * files, 5 the writer, 6 the check and reading by offset, 7 opening, 8 every call
+ * on a book, 9 looking, 10 the edits, 11 the journal and undo, 13 lists of calls.
  *
  * No function allocates memory, writes a file, prints, keeps a pointer after it
  * returns, or has state between calls. So every function may be called from
@@ -80,6 +80,139 @@ enum vtil_refusal {
  */
 int64_t vtil_check(const uint8_t *file, size_t file_len);
 
+/* ==== Values ====================================================================== */
+
+/* Numbers are those of the file; bit_count is a width in bits. */
+typedef struct {
+    uint64_t value; /* its 64 bits, whether they are meant signed or not */
+    uint32_t bit_count;
+} vtil_immediate_desc;
+
+typedef struct {
+    uint64_t flags;
+    uint64_t combined_id; /* divided by 2^56 at most 2 */
+    int32_t bit_count, bit_offset;
+} vtil_register_desc;
+
+/* The fields of the one that does not count are 0 when read and ignored when written. */
+typedef struct {
+    uint32_t kind; /* 0: the immediate counts, 1: the register counts */
+    vtil_immediate_desc immediate;
+    vtil_register_desc register_desc;
+} vtil_operand_desc;
+
+typedef struct {
+    uint32_t op;                   /* the operation's number, 0 to 48; docs/FORMAT.md has the names */
+    uint32_t count;                /* how many of the operands are used; each operation takes one number of them */
+    vtil_operand_desc operands[3]; /* unused ones are all 0 when read and ignored when written */
+    uint64_t vip;
+    int64_t sp_offset;
+    uint32_t sp_index;
+    uint8_t sp_reset; /* 0 or 1 when read; when written, anything but 0 is 1 */
+} vtil_instruction_desc;
+
+/* ==== Reading by offset =========================================================== */
+
+/*
+ * Each call reads one part of a routine, at an offset of a file or of an image that
+ * lies in memory, and answers it by value with the offset after it. No book is
+ * needed and nothing else is lent. A part with lists answers for each list where
+ * its first element begins and how many there are; the elements stand one after the
+ * other, each beginning where the one before it ends.
+ *
+ * The file need not be a routine: `at` may be any number, and a part is read
+ * wherever its bytes make sense. vtil_read_routine alone says that a whole file is
+ * well formed, exactly as vtil_check does. So all instructions of a file, in one
+ * pass after it:
+ *
+ *     vtil_routine_read routine = vtil_read_routine(file, file_len);
+ *     if (routine.refusal != 0)
+ *         return routine.refusal;
+ *     uint64_t block_at = routine.blocks_at;
+ *     for (uint64_t i = 0; i < routine.blocks; i++) {
+ *         vtil_block_read block = vtil_read_block(file, file_len, block_at);
+ *         uint64_t at = block.instructions_at;
+ *         for (uint64_t j = 0; j < block.instructions; j++) {
+ *             vtil_instruction_read read = vtil_read_instruction(file, file_len, at);
+ *             use(&read.instruction);
+ *             at = read.end;
+ *         }
+ *         block_at = block.end;
+ *     }
+ *
+ * After an accepted vtil_read_routine no call in this loop is refused, as long as
+ * nobody changes the bytes. The written form in a book's image is read the same way:
+ * hand in the image and its `written` bytes.
+ *
+ * Of every call here:
+ *   file      the first byte, or NULL when file_len is 0. It is only read.
+ *   at        where the part begins, from 0.
+ * Refusals: 1 to 8, the first field that fails in the order of the file, as in a
+ * file; 1 when `at` is past the end. vtil_read_routine, which reads at 0, can also
+ * be refused 9, where no field fails. In a refused answer every field but the
+ * refusal is 0, also those of a struct within it. A part's time grows with its
+ * bytes; that of the routine is vtil_check's.
+ */
+typedef struct {
+    uint64_t refusal;
+    uint64_t end;              /* the offset after the routine: what vtil_check answers */
+    uint64_t arch_id;          /* the machine: 0 Amd64, 1 Arm64, 2 Virtual */
+    uint64_t vip;              /* the entry vip */
+    uint64_t conventions_at;   /* where the routine's convention begins; the subroutine's follows, then
+                                  four bytes, the count of the special ones, and then these */
+    uint64_t spec_conventions; /* how many special conventions there are */
+    uint64_t blocks_at, blocks;
+} vtil_routine_read;
+
+vtil_routine_read vtil_read_routine(const uint8_t *file, size_t file_len);
+
+typedef struct {
+    uint64_t refusal, end;
+    vtil_register_desc frame_register;
+    uint64_t shadow_space;
+    uint64_t purge_stack; /* 0 or 1 */
+    uint64_t volatile_at, volatile_registers;
+    uint64_t param_at, param_registers;
+    uint64_t retval_at, retval_registers;
+} vtil_convention_read;
+
+vtil_convention_read vtil_read_convention(const uint8_t *file, size_t file_len, uint64_t at);
+
+/* an element of a convention's three lists */
+typedef struct {
+    uint64_t refusal, end;
+    vtil_register_desc register_desc;
+} vtil_register_read;
+
+vtil_register_read vtil_read_register(const uint8_t *file, size_t file_len, uint64_t at);
+
+typedef struct {
+    uint64_t refusal, end;
+    uint64_t vip;
+    int64_t sp_offset;
+    uint32_t sp_index, last_temporary_index;
+    uint64_t instructions_at, instructions;
+    uint64_t prev_at, prev_vips;
+    uint64_t next_at, next_vips;
+} vtil_block_read;
+
+vtil_block_read vtil_read_block(const uint8_t *file, size_t file_len, uint64_t at);
+
+typedef struct {
+    uint64_t refusal, end;
+    vtil_instruction_desc instruction;
+} vtil_instruction_read;
+
+vtil_instruction_read vtil_read_instruction(const uint8_t *file, size_t file_len, uint64_t at);
+
+/* an element of a block's lists of vips */
+typedef struct {
+    uint64_t refusal, end;
+    uint64_t vip;
+} vtil_vip_read;
+
+vtil_vip_read vtil_read_vip(const uint8_t *file, size_t file_len, uint64_t at);
+
 /* ==== Books: opening a file, writing an instruction, looking ====================== */
 
 /*
@@ -132,37 +265,6 @@ typedef struct {
 } vtil_answer;
 
 /*
- * Values. Numbers are those of the file; bit_count is a width in bits.
- */
-typedef struct {
-    uint64_t value; /* its 64 bits, whether they are meant signed or not */
-    uint32_t bit_count;
-} vtil_immediate_desc;
-
-typedef struct {
-    uint64_t flags;
-    uint64_t combined_id; /* divided by 2^56 at most 2 */
-    int32_t bit_count, bit_offset;
-} vtil_register_desc;
-
-/* The fields of the one that does not count are 0 when read and ignored when written. */
-typedef struct {
-    uint32_t kind; /* 0: the immediate counts, 1: the register counts */
-    vtil_immediate_desc immediate;
-    vtil_register_desc register_desc;
-} vtil_operand_desc;
-
-typedef struct {
-    uint32_t op;                   /* the operation's number, 0 to 48; docs/FORMAT.md has the names */
-    uint32_t count;                /* how many of the operands are used; each operation takes one number of them */
-    vtil_operand_desc operands[3]; /* unused ones are all 0 when read and ignored when written */
-    uint64_t vip;
-    int64_t sp_offset;
-    uint32_t sp_index;
-    uint8_t sp_reset; /* 0 or 1 when read; when written, anything but 0 is 1 */
-} vtil_instruction_desc;
-
-/*
  * vtil_open reads a routine file and puts its written form into the image; the
  * rest of the image and the whole journal become 0.
  *
@@ -197,6 +299,10 @@ vtil_written vtil_write_instruction(vtil_instruction_desc value, uint8_t *image,
  * Looking. Each call answers a part of the routine, named by places that count
  * from 0. Image and journal are only read. In a refused answer every field but
  * the refusal is 0, also those of a struct within it.
+ *
+ * As every call on a book each of these reads the whole image first. To look at all
+ * of a routine, read it by offset, above: a loop over these costs a pass over the
+ * image for each element.
  *
  * Refusals, in this order: 10; 13 when the book is spoiled; 15 when there is no
  * such block, convention, list or place.

@@ -11,8 +11,9 @@
 
 /* Values ------------------------------------------------------------------------------------- */
 
+/* Beside the values stands where each list's first element was read: `.._at`. It counts only right after reading. */
 struct convention {
-    uint64_t counts[3]; /* volatile, param, retval */
+    uint64_t counts[3], registers_at[3]; /* volatile, param, retval */
     vtil_register_desc *registers[3];
     vtil_register_desc frame;
     uint64_t shadow_space;
@@ -23,9 +24,9 @@ struct block {
     uint64_t vip;
     int64_t sp_offset;
     uint32_t sp_index, last_temporary;
-    uint64_t count;
+    uint64_t count, instructions_at;
     vtil_instruction_desc *instructions;
-    uint64_t vip_counts[2]; /* prev, next */
+    uint64_t vip_counts[2], vips_at[2]; /* prev, next */
     uint64_t *vips[2];
 };
 
@@ -33,6 +34,7 @@ struct routine {
     uint8_t machine;
     uint64_t entry;
     uint64_t conventions, blocks; /* how many; conventions: the routine's, the subroutine's, and the special ones */
+    uint64_t conventions_at, blocks_at;
     struct convention *convention;
     struct block *block;
 };
@@ -258,6 +260,7 @@ static struct convention read_convention(struct reader *r)
     struct convention convention;
     for (int list = 0; list < 3; list++) {
         uint64_t count = convention.counts[list] = number(r, 4);
+        convention.registers_at[list] = r->at;
         vtil_register_desc *registers = convention.registers[list] = keep(begun(r, count, 24), sizeof *registers);
         r->counts.registers += count;
         for (uint64_t i = 0; i < count && fine(r); i++)
@@ -277,12 +280,14 @@ static struct block read_block(struct reader *r)
     block.sp_index = (uint32_t)number(r, 4);
     block.last_temporary = (uint32_t)number(r, 4);
     block.count = number(r, 4);
+    block.instructions_at = r->at;
     block.instructions = keep(begun(r, block.count, 29), sizeof *block.instructions);
     r->counts.instructions += block.count;
     for (uint64_t i = 0; i < block.count && fine(r); i++)
         block.instructions[i] = read_instruction(r);
     for (int list = 0; list < 2; list++) {
         uint64_t count = block.vip_counts[list] = number(r, 4);
+        block.vips_at[list] = r->at;
         uint64_t *vips = block.vips[list] = keep(begun(r, count, 8), sizeof *vips);
         r->counts.vips += count;
         for (uint64_t i = 0; i < count && fine(r); i++)
@@ -294,6 +299,7 @@ static struct block read_block(struct reader *r)
 /* The routine's and the subroutine's; the number of the special ones stands between the second and them. */
 static void read_conventions(struct reader *r, struct routine *routine)
 {
+    routine->conventions_at = r->at;
     struct convention first = read_convention(r), second = read_convention(r);
     uint64_t count = number(r, 4);
     r->counts.conventions += count;
@@ -332,6 +338,7 @@ static struct routine read_routine(struct reader *r)
     routine.entry = number(r, 8);
     read_conventions(r, &routine);
     routine.blocks = number(r, 4);
+    routine.blocks_at = r->at;
     routine.block = keep(begun(r, routine.blocks, 36), sizeof *routine.block);
     for (uint64_t i = 0; i < routine.blocks && fine(r); i++)
         routine.block[i] = read_block(r);
@@ -354,6 +361,70 @@ struct ref_counts ref_list_counts(const uint8_t *file, size_t len)
     forget();
     read_routine(&r);
     return r.counts;
+}
+
+/* Reading by offset ------------------------------------------------------------------------- */
+
+/* A reader that begins at `at`. Past the end every field is refused 1. */
+static struct reader reader_at(const uint8_t *file, size_t len, uint64_t at)
+{
+    forget();
+    if (at > len)
+        return (struct reader){.bytes = file, .len = len, .at = len, .refusal = 1};
+    return (struct reader){.bytes = file, .len = len, .at = (size_t)at};
+}
+
+vtil_routine_read ref_read_routine(const uint8_t *file, size_t len)
+{
+    struct reader r = reader_at(file, len, 0);
+    struct routine routine = read_routine(&r);
+    if (!fine(&r))
+        return (vtil_routine_read){.refusal = r.refusal};
+    return (vtil_routine_read){0, r.at, routine.machine, routine.entry, routine.conventions_at, routine.conventions - 2,
+                               routine.blocks_at, routine.blocks};
+}
+
+vtil_convention_read ref_read_convention(const uint8_t *file, size_t len, uint64_t at)
+{
+    struct reader r = reader_at(file, len, at);
+    struct convention convention = read_convention(&r);
+    if (!fine(&r))
+        return (vtil_convention_read){.refusal = r.refusal};
+    const uint64_t *lists_at = convention.registers_at, *counts = convention.counts;
+    return (vtil_convention_read){0, r.at, convention.frame, convention.shadow_space, convention.purge, lists_at[0],
+                                  counts[0], lists_at[1], counts[1], lists_at[2], counts[2]};
+}
+
+vtil_register_read ref_read_register(const uint8_t *file, size_t len, uint64_t at)
+{
+    struct reader r = reader_at(file, len, at);
+    vtil_register_desc reg = read_register(&r);
+    return fine(&r) ? (vtil_register_read){0, r.at, reg} : (vtil_register_read){.refusal = r.refusal};
+}
+
+vtil_block_read ref_read_block(const uint8_t *file, size_t len, uint64_t at)
+{
+    struct reader r = reader_at(file, len, at);
+    struct block block = read_block(&r);
+    if (!fine(&r))
+        return (vtil_block_read){.refusal = r.refusal};
+    const uint64_t *lists_at = block.vips_at, *counts = block.vip_counts;
+    return (vtil_block_read){0, r.at, block.vip, block.sp_offset, block.sp_index, block.last_temporary,
+                             block.instructions_at, block.count, lists_at[0], counts[0], lists_at[1], counts[1]};
+}
+
+vtil_instruction_read ref_read_instruction(const uint8_t *file, size_t len, uint64_t at)
+{
+    struct reader r = reader_at(file, len, at);
+    vtil_instruction_desc value = read_instruction(&r);
+    return fine(&r) ? (vtil_instruction_read){0, r.at, value} : (vtil_instruction_read){.refusal = r.refusal};
+}
+
+vtil_vip_read ref_read_vip(const uint8_t *file, size_t len, uint64_t at)
+{
+    struct reader r = reader_at(file, len, at);
+    uint64_t vip = number(&r, 8);
+    return fine(&r) ? (vtil_vip_read){0, r.at, vip} : (vtil_vip_read){.refusal = r.refusal};
 }
 
 /* The written form. Where `at` is NULL only the size is counted --------------------------- */
@@ -980,7 +1051,7 @@ struct earlier {
 struct ref_machine {
     size_t image_len, journal_len;
     struct form now;
-    struct earlier *pile;
+    struct earlier *stack; /* document 01's pile */
     size_t count;
 };
 
@@ -1009,12 +1080,12 @@ struct ref_machine *ref_machine_start(const uint8_t *file, size_t len, size_t im
     return machine;
 }
 
-/* Used is the sum of the pile's costs. */
+/* Used is the sum of the stack's costs. */
 static size_t used(const struct ref_machine *machine)
 {
     size_t sum = 0;
     for (size_t i = 0; i < machine->count; i++)
-        sum += machine->pile[i].entry.len;
+        sum += machine->stack[i].entry.len;
     return sum;
 }
 
@@ -1027,7 +1098,7 @@ static vtil_answer machine_undo(struct ref_machine *machine)
 {
     if (machine->count == 0)
         return machine_answer(machine, 16);
-    struct earlier top = machine->pile[--machine->count];
+    struct earlier top = machine->stack[--machine->count];
     free(machine->now.bytes);
     free(top.entry.bytes);
     machine->now = top.routine;
@@ -1045,8 +1116,8 @@ vtil_answer ref_machine_step(struct ref_machine *machine, const struct ref_call 
     uint64_t refusal = edit_within(&routine, call, machine->image_len, used(machine), machine->journal_len, &after);
     if (refusal != 0)
         return machine_answer(machine, refusal);
-    machine->pile = checked(realloc(machine->pile, (machine->count + 1) * sizeof *machine->pile));
-    machine->pile[machine->count++] = (struct earlier){machine->now, entry_of(&after)};
+    machine->stack = checked(realloc(machine->stack, (machine->count + 1) * sizeof *machine->stack));
+    machine->stack[machine->count++] = (struct earlier){machine->now, entry_of(&after)};
     machine->now = form_of(&after.routine);
     return machine_answer(machine, 0);
 }
@@ -1062,18 +1133,18 @@ void ref_machine_journal(const struct ref_machine *machine, uint8_t *journal)
     size_t at = 0;
     memset(journal, 0, machine->journal_len);
     for (size_t i = 0; i < machine->count; i++) {
-        memcpy(journal + at, machine->pile[i].entry.bytes, machine->pile[i].entry.len);
-        at += machine->pile[i].entry.len;
+        memcpy(journal + at, machine->stack[i].entry.bytes, machine->stack[i].entry.len);
+        at += machine->stack[i].entry.len;
     }
 }
 
 void ref_machine_free(struct ref_machine *machine)
 {
     for (size_t i = 0; i < machine->count; i++) {
-        free(machine->pile[i].routine.bytes);
-        free(machine->pile[i].entry.bytes);
+        free(machine->stack[i].routine.bytes);
+        free(machine->stack[i].entry.bytes);
     }
-    free(machine->pile);
+    free(machine->stack);
     free(machine->now.bytes);
     free(machine);
 }

@@ -1,8 +1,9 @@
 /*
  * The rules of docs/SPEC.md a second time, for comparison in tests: reading and writing
- * routines, the routine machine, the calls on a book and lists of them. It works on plain values,
- * in the plainest way, and shares no code with the library. The guard tests
- * (host/tests) and the comparison with the Rust (oracle) hold the library to it.
+ * routines and their parts, the routine machine, the calls on a book and lists of them.
+ * It works on plain values, in the plainest way, and shares no code with the library.
+ * The guard tests (host/tests) and the comparison with the Rust (oracle) hold the
+ * library to it.
  */
 #ifndef REFERENCE_H
 #define REFERENCE_H
@@ -36,6 +37,14 @@ struct ref_counts {
 };
 
 struct ref_counts ref_list_counts(const uint8_t *file, size_t len);
+
+/* Reading by offset: what the library's vtil_read_.. have to answer. */
+vtil_routine_read ref_read_routine(const uint8_t *file, size_t len);
+vtil_convention_read ref_read_convention(const uint8_t *file, size_t len, uint64_t at);
+vtil_register_read ref_read_register(const uint8_t *file, size_t len, uint64_t at);
+vtil_block_read ref_read_block(const uint8_t *file, size_t len, uint64_t at);
+vtil_instruction_read ref_read_instruction(const uint8_t *file, size_t len, uint64_t at);
+vtil_vip_read ref_read_vip(const uint8_t *file, size_t len, uint64_t at);
 
 vtil_written ref_write_instruction(const vtil_instruction_desc *value, uint8_t *image, size_t image_len);
 
@@ -81,9 +90,9 @@ vtil_register_look ref_convention_register(const struct ref_book *book, uint64_t
 /* The routine machine --------------------------------------------------------------- */
 
 /*
- * A routine, and a pile of earlier ones, each with the journal entry of the edit
- * that came after it, whose length is the edit's cost. It is fed the file, the calls
- * and the lent lengths, never a book.
+ * A routine, and a stack of earlier ones (document 01's pile), each with the journal
+ * entry of the edit that came after it, whose length is the edit's cost. It is fed the
+ * file, the calls and the lent lengths, never a book.
  */
 struct ref_machine;
 

@@ -1,5 +1,6 @@
 //! Measures the library and the Rust side by side, on the same bytes.
 
+mod by_offset;
 mod clock;
 mod editing;
 mod inputs;
@@ -34,6 +35,7 @@ fn main() -> ExitCode {
     reading::checks(most_blocks);
     reading::opens(most_blocks);
     reading::looks(most_blocks);
+    by_offset::every_instruction(most_blocks);
     reading::repeated_vips(most_blocks);
     editing::edits();
     ExitCode::SUCCESS

@@ -18,16 +18,21 @@ fn library_checks(file: &[u8]) -> Duration {
     took
 }
 
-struct Input {
-    name: &'static str,
-    blocks: usize,
-    file: Vec<u8>,
+pub struct Input {
+    pub name: &'static str,
+    pub blocks: usize,
+    pub file: Vec<u8>,
+}
+
+/// Some 8 MB.
+pub fn routine_of_instructions() -> Input {
+    Input { name: "100,000 instructions, 4,000 blocks", blocks: 4_000, file: instructions() }
 }
 
 /// The inputs that have no more blocks than this.
 fn inputs(most_blocks: usize) -> Vec<Input> {
     let mut inputs = vec![
-        Input { name: "100,000 instructions, 4,000 blocks", blocks: 4_000, file: instructions() },
+        routine_of_instructions(),
         Input { name: "100,000 empty blocks, rising", blocks: 100_000, file: in_order(100_000, Order::Rising) },
         Input { name: "100,000 empty blocks, shuffled", blocks: 100_000, file: in_order(100_000, Order::Shuffled) },
     ];

@@ -4,6 +4,7 @@
 
 #include "group.h"
 #include "reference.h"
+#include "values.h"
 
 struct lent image, journal;
 struct ref_book twin;
@@ -92,34 +93,6 @@ static void hold_number(const char *what, uint64_t got, uint64_t want)
     hold(what, image.len, (int64_t)got, (int64_t)want);
 }
 
-static void hold_register(const vtil_register_desc *got, const vtil_register_desc *want)
-{
-    hold_number("register flags", got->flags, want->flags);
-    hold_number("register id", got->combined_id, want->combined_id);
-    hold("register width", image.len, got->bit_count, want->bit_count);
-    hold("register offset", image.len, got->bit_offset, want->bit_offset);
-}
-
-static void hold_operand(const vtil_operand_desc *got, const vtil_operand_desc *want)
-{
-    hold_number("operand kind", got->kind, want->kind);
-    hold_number("immediate", got->immediate.value, want->immediate.value);
-    hold_number("immediate width", got->immediate.bit_count, want->immediate.bit_count);
-    hold_register(&got->register_desc, &want->register_desc);
-}
-
-static void hold_instruction(const vtil_instruction_desc *got, const vtil_instruction_desc *want)
-{
-    hold_number("operation", got->op, want->op);
-    hold_number("operand count", got->count, want->count);
-    for (int i = 0; i < 3; i++)
-        hold_operand(&got->operands[i], &want->operands[i]);
-    hold_number("instruction vip", got->vip, want->vip);
-    hold("instruction sp offset", image.len, got->sp_offset, want->sp_offset);
-    hold_number("instruction sp index", got->sp_index, want->sp_index);
-    hold_number("sp reset", got->sp_reset, want->sp_reset);
-}
-
 /* Counts the case. The other fields are compared too: those of a refused look are 0, here and there. */
 static void hold_refusal(const char *what, uint64_t got, uint64_t want)
 {
@@ -155,7 +128,7 @@ static void look_instruction(vtil_book numbers, uint64_t block, uint64_t place)
 {
     vtil_instruction_look got = vtil_instruction(LENT, block, place), want = ref_instruction(&twin, block, place);
     hold_refusal("instruction", got.refusal, want.refusal);
-    hold_instruction(&got.instruction, &want.instruction);
+    hold_instruction(image.len, &got.instruction, &want.instruction);
 }
 
 static void look_vip(vtil_book numbers, uint64_t block, uint64_t list, uint64_t place)
@@ -169,7 +142,7 @@ static void look_convention(vtil_book numbers, uint64_t place)
 {
     vtil_convention_look got = vtil_convention(LENT, place), want = ref_convention(&twin, place);
     hold_refusal("convention", got.refusal, want.refusal);
-    hold_register(&got.frame_register, &want.frame_register);
+    hold_register(image.len, &got.frame_register, &want.frame_register);
     hold_number("shadow space", got.shadow_space, want.shadow_space);
     hold_number("purge", got.purge_stack, want.purge_stack);
     hold_number("volatile", got.volatile_registers, want.volatile_registers);
@@ -182,7 +155,7 @@ static void look_register(vtil_book numbers, uint64_t convention, uint64_t list,
     vtil_register_look got = vtil_convention_register(LENT, convention, list, place);
     vtil_register_look want = ref_convention_register(&twin, convention, list, place);
     hold_refusal("register", got.refusal, want.refusal);
-    hold_register(&got.register_desc, &want.register_desc);
+    hold_register(image.len, &got.register_desc, &want.register_desc);
 }
 
 void look_once(vtil_book numbers)

@@ -66,7 +66,7 @@ def lists():
 sys.stdout.buffer.write(globals()[sys.argv[1]]())
 END
 }
-# Every look reads a whole image, so showing by looks at one image would take minutes here.
+# By looks at a book, each of which reads the whole image, this would take minutes.
 show_long() {
     local kind file
     for kind in many lists; do

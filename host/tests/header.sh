@@ -41,6 +41,12 @@ immediate_desc 16
 register_desc 24
 operand_desc 48
 instruction_desc 176
+routine_read 64
+convention_read 104
+register_read 40
+block_read 88
+instruction_read 192
+vip_read 24
 routine_look 40
 block_look 56
 instruction_look 184
@@ -60,6 +66,35 @@ write_sources() {
     printf '#include "vtil.h"\nint main() { return vtil_check(nullptr, 0) == -VTIL_SHORT_FILE ? 0 : 1; }\n' \
         >"$scratch/linked.cpp"
     awk '/^```c$/ { inside = 1; next } /^```$/ { inside = 0 } inside' README.md >"$scratch/example.c"
+    loop_source >"$scratch/loop.c"
+}
+
+# The header's loop over all instructions as it stands, in a program that prints the vip of each and ends with the refusal.
+loop_source() {
+    cat <<'END'
+#include "vtil.h"
+#include <inttypes.h>
+#include <stdio.h>
+
+static void use(const vtil_instruction_desc *instruction)
+{
+    printf("0x%" PRIx64 "\n", instruction->vip);
+}
+
+static uint64_t loop(const uint8_t *file, size_t file_len)
+{
+END
+    sed -n '/^ \*     vtil_routine_read routine = /,/^ \*     }$/s/^ \* //p' include/vtil.h
+    cat <<'END'
+    return 0;
+}
+
+int main(void)
+{
+    static uint8_t file[65536];
+    return (int)loop(file, fread(file, 1, sizeof file, stdin));
+}
+END
 }
 
 # The functions that the header declares and those that the archive defines are the same.
@@ -68,6 +103,15 @@ same_functions() {
         >"$scratch/declared"
     nm -g --defined-only "$archive" | awk 'NF == 3 { print $3 }' | sort -u >"$scratch/defined"
     [ -s "$scratch/declared" ] && diff "$scratch/declared" "$scratch/defined"
+}
+
+header_loop() {
+    local status=0
+    "$CC" -std=c11 "${strict[@]}" "$scratch/loop.c" "$archive" -o "$scratch/loop" || return 1
+    "$scratch/loop" <samples/blocks.vtil >"$scratch/vips" || return 1
+    diff "$scratch/vips" <(sed -nE 's/.*; vip (0x[0-9a-f]+),.*/\1/p' host/tests/blocks.shown) || return 1
+    "$scratch/loop" <samples/wrong-mark.vtil || status=$?
+    [ "$status" = 3 ]
 }
 
 readme_example() {
@@ -98,6 +142,7 @@ else
     skip "C++17" "there is no C++ compiler ($CXX)"
 fi
 try "declares the functions that the archive defines" same_functions
+try "the header's loop over all instructions" header_loop
 try "the README's example" readme_example
 try "the README's example cuts no file" readme_example_long
 finish

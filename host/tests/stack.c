@@ -26,6 +26,7 @@
 static uint8_t stack[STACK];
 static uint8_t *file, *image, *journal;
 static size_t file_len, image_len, journal_len;
+static size_t last_block; /* where it begins in the file */
 static vtil_book book;
 static struct bytes nop;
 
@@ -85,6 +86,7 @@ static void make_file(void)
     for (size_t i = 0; i < BLOCKS; i++) {
         part.len = 0;
         put_block(&part, i);
+        last_block = file_len;
         add(&part);
     }
     image_len = file_len + ROOM;
@@ -129,6 +131,43 @@ static void write_instruction(void)
     uint8_t bytes[VTIL_LONGEST_INSTRUCTION];
     MARK_TOP();
     refusal = vtil_write_instruction(longest, bytes, sizeof bytes).refusal;
+}
+
+/* The routine's convention and its register, the last block, its instruction and its vip. */
+static void read_routine(void)
+{
+    MARK_TOP();
+    refusal = vtil_read_routine(file, file_len).refusal;
+}
+
+static void read_convention(void)
+{
+    MARK_TOP();
+    refusal = vtil_read_convention(file, file_len, 16).refusal;
+}
+
+static void read_register(void)
+{
+    MARK_TOP();
+    refusal = vtil_read_register(file, file_len, 16 + 4).refusal;
+}
+
+static void read_block(void)
+{
+    MARK_TOP();
+    refusal = vtil_read_block(file, file_len, last_block).refusal;
+}
+
+static void read_instruction(void)
+{
+    MARK_TOP();
+    refusal = vtil_read_instruction(file, file_len, last_block + 28).refusal;
+}
+
+static void read_vip(void)
+{
+    MARK_TOP();
+    refusal = vtil_read_vip(file, file_len, last_block + 28 + nop.len + 4).refusal;
 }
 
 static void look_routine(void)
@@ -268,6 +307,12 @@ int main(void)
     make_list();
     run_list(); /* functions of the C library are bound at their first call, which takes stack of its own */
     measure("vtil_check", check);
+    measure("vtil_read_routine", read_routine);
+    measure("vtil_read_convention", read_convention);
+    measure("vtil_read_register", read_register);
+    measure("vtil_read_block", read_block);
+    measure("vtil_read_instruction", read_instruction);
+    measure("vtil_read_vip", read_vip);
     measure("vtil_open", open_file);
     measure("vtil_write_instruction", write_instruction);
     measure("vtil_routine", look_routine);

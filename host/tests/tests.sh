@@ -24,7 +24,7 @@ build_guard() {
     local name=$1
     shift
     # shellcheck disable=SC2046 # one word for each file
-    "$CC" "${HOST_FLAGS[@]}" -pedantic -Ireference $(printf 'host/tests/%s.c ' "$name" "$@" cases group lent) \
+    "$CC" "${HOST_FLAGS[@]}" -pedantic -Ireference $(printf 'host/tests/%s.c ' "$name" "$@" cases group lent values) \
         reference/reference.c "$LIB" -o "$scratch/$name"
 }
 
@@ -38,6 +38,8 @@ run bash host/tests/command.sh target/host/routine "$scratch/command"
 build_guard guard_book book_pair
 run "$scratch/guard_book" samples/*.vtil
 run bash host/tests/command_books.sh target/host/routine "$scratch/command_books"
+build_guard guard_read book_pair
+run "$scratch/guard_read" samples/*.vtil
 build_guard guard_edits book_pair
 run "$scratch/guard_edits" samples/*.vtil
 run bash host/tests/command_edits.sh target/host/routine "$scratch/command_edits"

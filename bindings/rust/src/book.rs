@@ -1,6 +1,7 @@
 use crate::c::{self, Lengths};
 use crate::list::{Call, Encoded};
 use crate::look::{Block, Convention, Links, Overview, Registers};
+use crate::read::{self, RoutineRef};
 use crate::refusal::{accepted, Refusal};
 use crate::value::{Instruction, Register, Vip};
 
@@ -18,7 +19,8 @@ pub type Last = Result<(), Refusal>;
 /// happens only to a book from [`Book::resume`], and after a [`Book::reopen`] or a [`Book::run`] whose opening was
 /// refused.
 ///
-/// A refused edit leaves the book as it was. Every call reads the whole image: its time grows with the image.
+/// A refused edit leaves the book as it was. Every call reads the whole image: its time grows with the image. To look
+/// at more than a part or two, use [`Book::read`].
 #[derive(Clone, Debug)]
 pub struct Book<M> {
     lengths: Lengths,
@@ -39,7 +41,8 @@ impl<M> Book<M> {
     }
 }
 
-/// Looking.
+/// Looking. Each call that answers one part by its place costs a pass over the image; a loop over [`Book::read`] costs
+/// one pass for all parts.
 impl<M: AsRef<[u8]>> Book<M> {
     /// The whole image: the written form, then zeros.
     pub fn image(&self) -> &[u8] {
@@ -58,7 +61,16 @@ impl<M: AsRef<[u8]>> Book<M> {
         image.get(..self.lengths.written as usize).unwrap_or(image)
     }
 
-    /// The routine as a whole.
+    /// The routine's parts, to be read where they lie in the image. [`Book::written`] is validated once, here, as a file
+    /// is; whether the book is spoiled is not tested.
+    ///
+    /// Refusals: 1 to 9, whichever field fails first. They come only to a book from [`Book::resume`] whose written bytes
+    /// are no routine, and after a refused opening. 10 and 13 never come.
+    pub fn read(&self) -> Result<RoutineRef<'_>, Refusal> {
+        read::read(self.written())
+    }
+
+    /// The routine as a whole. It costs a pass over the image.
     pub fn overview(&self) -> Result<Overview, Refusal> {
         let (image, journal) = (self.image(), self.journal());
         // SAFETY: each pointer and length is a slice's.
@@ -73,7 +85,7 @@ impl<M: AsRef<[u8]>> Book<M> {
         })
     }
 
-    /// The block at a place, counted from 0. Refusals: 15, there is none.
+    /// The block at a place, counted from 0. It costs a pass over the image. Refusals: 15, there is none.
     pub fn block(&self, place: u64) -> Result<Block, Refusal> {
         let (image, journal) = (self.image(), self.journal());
         // SAFETY: each pointer and length is a slice's.
@@ -91,7 +103,7 @@ impl<M: AsRef<[u8]>> Book<M> {
         })
     }
 
-    /// The instruction at a place of the block at a place. Refusals: 15, there is none.
+    /// The instruction at a place of the block at a place. It costs a pass over the image. Refusals: 15, there is none.
     pub fn instruction(&self, block: u64, place: u64) -> Result<Instruction, Refusal> {
         let (image, journal) = (self.image(), self.journal());
         // SAFETY: each pointer and length is a slice's.
@@ -110,7 +122,8 @@ impl<M: AsRef<[u8]>> Book<M> {
         Ok(Instruction::from_c(&look.instruction))
     }
 
-    /// The vip at a place of a list of the block at a place. Refusals: 15, there is none.
+    /// The vip at a place of a list of the block at a place. It costs a pass over the image. Refusals: 15, there is
+    /// none.
     pub fn block_vip(&self, block: u64, list: Links, place: u64) -> Result<Vip, Refusal> {
         let (image, journal) = (self.image(), self.journal());
         // SAFETY: each pointer and length is a slice's.
@@ -130,8 +143,8 @@ impl<M: AsRef<[u8]>> Book<M> {
         Ok(Vip(look.vip))
     }
 
-    /// The convention at a place: 0 the routine's, 1 the subroutine's, then the special ones. Refusals: 15, there is
-    /// none.
+    /// The convention at a place: 0 the routine's, 1 the subroutine's, then the special ones. It costs a pass over the
+    /// image. Refusals: 15, there is none.
     pub fn convention(&self, place: u64) -> Result<Convention, Refusal> {
         let (image, journal) = (self.image(), self.journal());
         // SAFETY: each pointer and length is a slice's.
@@ -149,7 +162,8 @@ impl<M: AsRef<[u8]>> Book<M> {
         })
     }
 
-    /// The register at a place of a list of the convention at a place. Refusals: 15, there is none.
+    /// The register at a place of a list of the convention at a place. It costs a pass over the image. Refusals: 15,
+    /// there is none.
     pub fn convention_register(&self, convention: u64, list: Registers, place: u64) -> Result<Register, Refusal> {
         let (image, journal) = (self.image(), self.journal());
         // SAFETY: each pointer and length is a slice's.

@@ -33,7 +33,7 @@ pub struct ImmediateDesc {
 }
 
 #[repr(C)]
-#[derive(Clone, Copy, Default)]
+#[derive(Clone, Copy, Debug, Default)]
 pub struct RegisterDesc {
     pub flags: u64,
     pub combined_id: u64,
@@ -59,6 +59,73 @@ pub struct InstructionDesc {
     pub sp_offset: i64,
     pub sp_index: u32,
     pub sp_reset: u8,
+}
+
+#[repr(C)]
+#[derive(Clone, Copy, Debug)]
+pub struct RoutineRead {
+    pub refusal: u64,
+    pub end: u64,
+    pub arch_id: u64,
+    pub vip: u64,
+    pub conventions_at: u64,
+    pub spec_conventions: u64,
+    pub blocks_at: u64,
+    pub blocks: u64,
+}
+
+#[repr(C)]
+#[derive(Clone, Copy, Debug)]
+pub struct ConventionRead {
+    pub refusal: u64,
+    pub end: u64,
+    pub frame_register: RegisterDesc,
+    pub shadow_space: u64,
+    pub purge_stack: u64,
+    pub volatile_at: u64,
+    pub volatile_registers: u64,
+    pub param_at: u64,
+    pub param_registers: u64,
+    pub retval_at: u64,
+    pub retval_registers: u64,
+}
+
+#[repr(C)]
+pub struct RegisterRead {
+    pub refusal: u64,
+    pub end: u64,
+    pub register_desc: RegisterDesc,
+}
+
+#[repr(C)]
+#[derive(Clone, Copy, Debug)]
+pub struct BlockRead {
+    pub refusal: u64,
+    pub end: u64,
+    pub vip: u64,
+    pub sp_offset: i64,
+    pub sp_index: u32,
+    pub last_temporary_index: u32,
+    pub instructions_at: u64,
+    pub instructions: u64,
+    pub prev_at: u64,
+    pub prev_vips: u64,
+    pub next_at: u64,
+    pub next_vips: u64,
+}
+
+#[repr(C)]
+pub struct InstructionRead {
+    pub refusal: u64,
+    pub end: u64,
+    pub instruction: InstructionDesc,
+}
+
+#[repr(C)]
+pub struct VipRead {
+    pub refusal: u64,
+    pub end: u64,
+    pub vip: u64,
 }
 
 #[repr(C)]
@@ -132,6 +199,12 @@ const _: () = {
     assert!(size_of::<RegisterDesc>() == 24);
     assert!(size_of::<OperandDesc>() == 48);
     assert!(size_of::<InstructionDesc>() == 176);
+    assert!(size_of::<RoutineRead>() == 64);
+    assert!(size_of::<ConventionRead>() == 104);
+    assert!(size_of::<RegisterRead>() == 40);
+    assert!(size_of::<BlockRead>() == 88);
+    assert!(size_of::<InstructionRead>() == 192);
+    assert!(size_of::<VipRead>() == 24);
     assert!(size_of::<RoutineLook>() == 40);
     assert!(size_of::<BlockLook>() == 56);
     assert!(size_of::<InstructionLook>() == 184);
@@ -143,6 +216,12 @@ const _: () = {
 
 extern "C" {
     pub fn vtil_check(file: *const u8, file_len: usize) -> i64;
+    pub fn vtil_read_routine(file: *const u8, file_len: usize) -> RoutineRead;
+    pub fn vtil_read_convention(file: *const u8, file_len: usize, at: u64) -> ConventionRead;
+    pub fn vtil_read_register(file: *const u8, file_len: usize, at: u64) -> RegisterRead;
+    pub fn vtil_read_block(file: *const u8, file_len: usize, at: u64) -> BlockRead;
+    pub fn vtil_read_instruction(file: *const u8, file_len: usize, at: u64) -> InstructionRead;
+    pub fn vtil_read_vip(file: *const u8, file_len: usize, at: u64) -> VipRead;
     pub fn vtil_open(
         file: *const u8,
         file_len: usize,

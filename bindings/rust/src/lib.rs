@@ -16,7 +16,19 @@
 //! # }
 //! ```
 //!
-//! A [`Book`] is the same in memory of fixed lengths that the caller lends:
+//! [`read`] reads a file where it lies, part by part, and so do [`Routine::read`] and [`Book::read`] with what is open:
+//!
+//! ```
+//! # fn main() -> Result<(), Box<dyn std::error::Error>> {
+//! # let folder = concat!(env!("CARGO_MANIFEST_DIR"), "/../../samples");
+//! let file = std::fs::read(format!("{folder}/blocks.vtil"))?;
+//! let links: usize = vtil::read(&file)?.explored_blocks().map(|block| block.next_vip().len()).sum();
+//! assert_eq!(links, 3);
+//! # Ok(())
+//! # }
+//! ```
+//!
+//! A [`Book`] is the same as a [`Routine`], in memory of fixed lengths that the caller lends:
 //!
 //! ```
 //! use vtil::{Book, Refusal, Vip};
@@ -36,6 +48,7 @@ mod book;
 mod c;
 mod list;
 mod look;
+mod read;
 mod refusal;
 mod routine;
 mod value;
@@ -44,9 +57,15 @@ pub use book::{Book, Last};
 pub use c::Lengths;
 pub use list::Call;
 pub use look::{Block, Convention, Links, Overview, Registers};
+pub use read::{read, read_at, BlockRef, ConventionRef, InstructionRef, Part, Parts, RoutineRef};
 pub use refusal::Refusal;
 pub use routine::Routine;
 pub use value::{operation, Immediate, Instruction, Operand, Register, Vip, LONGEST_INSTRUCTION, OPERATIONS};
+
+/// The examples of the crate's page are run with its tests.
+#[cfg(doctest)]
+#[doc = include_str!("../README.md")]
+struct Readme;
 
 /// The library takes no image and no journal that is longer.
 pub const MOST_LENT: usize = 16_777_216;

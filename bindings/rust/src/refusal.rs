@@ -89,6 +89,7 @@ impl fmt::Display for Refusal {
 impl std::error::Error for Refusal {}
 
 /// What the library's number says: 0 is accepted.
+#[inline]
 pub(crate) fn accepted(number: u64) -> Result<(), Refusal> {
     if number == 0 {
         return Ok(());

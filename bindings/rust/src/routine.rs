@@ -1,5 +1,6 @@
 use crate::book::Book;
 use crate::look::{Block, Convention, Links, Overview, Registers};
+use crate::read::RoutineRef;
 use crate::refusal::Refusal;
 use crate::value::{Instruction, Register, Vip};
 use crate::MOST_LENT;
@@ -7,7 +8,9 @@ use crate::MOST_LENT;
 /// An open routine: a [`Book`] that owns its image and journal. Both grow as they have to, up to [`MOST_LENT`] bytes
 /// each; so [`Refusal::ImageFull`] and [`Refusal::JournalFull`] come only there.
 ///
-/// A refused call leaves the routine as it was. Every call reads the whole image: its time grows with the routine.
+/// A refused call leaves the routine as it was. Every call reads the whole image: its time grows with the routine. To
+/// look at more than a part or two, use [`Routine::read`].
+///
 /// What the library proves of each call holds here; what it proves of whole lists of calls is for an image and a
 /// journal whose lengths stay, as a [`Book`]'s do.
 #[derive(Clone, Debug)]
@@ -41,6 +44,11 @@ impl Routine {
     /// The routine's written form: what a file of it holds.
     pub fn written(&self) -> &[u8] {
         self.book.written()
+    }
+
+    /// The routine's parts, to be read where they lie. The image is validated once, here.
+    pub fn read(&self) -> RoutineRef<'_> {
+        self.book.read().expect("nobody else writes the image, so it holds a routine")
     }
 
     /// Runs an edit, with more room where it lacks some.
@@ -88,33 +96,35 @@ impl Routine {
         self.edit(Book::undo)
     }
 
-    /// The routine as a whole.
+    /// The routine as a whole. It costs a pass over the image.
     pub fn overview(&self) -> Overview {
         self.book.overview().expect("nobody else writes the image, so it is not spoiled")
     }
 
-    /// The block at a place, counted from 0. Refusals: 15, there is none.
+    /// The block at a place, counted from 0. It costs a pass over the image. Refusals: 15, there is none.
     pub fn block(&self, place: u64) -> Result<Block, Refusal> {
         self.book.block(place)
     }
 
-    /// The instruction at a place of the block at a place. Refusals: 15, there is none.
+    /// The instruction at a place of the block at a place. It costs a pass over the image. Refusals: 15, there is none.
     pub fn instruction(&self, block: u64, place: u64) -> Result<Instruction, Refusal> {
         self.book.instruction(block, place)
     }
 
-    /// The vip at a place of a list of the block at a place. Refusals: 15, there is none.
+    /// The vip at a place of a list of the block at a place. It costs a pass over the image. Refusals: 15, there is
+    /// none.
     pub fn block_vip(&self, block: u64, list: Links, place: u64) -> Result<Vip, Refusal> {
         self.book.block_vip(block, list, place)
     }
 
-    /// The convention at a place: 0 the routine's, 1 the subroutine's, then the special ones. Refusals: 15, there is
-    /// none.
+    /// The convention at a place: 0 the routine's, 1 the subroutine's, then the special ones. It costs a pass over the
+    /// image. Refusals: 15, there is none.
     pub fn convention(&self, place: u64) -> Result<Convention, Refusal> {
         self.book.convention(place)
     }
 
-    /// The register at a place of a list of the convention at a place. Refusals: 15, there is none.
+    /// The register at a place of a list of the convention at a place. It costs a pass over the image. Refusals: 15,
+    /// there is none.
     pub fn convention_register(&self, convention: u64, list: Registers, place: u64) -> Result<Register, Refusal> {
         self.book.convention_register(convention, list, place)
     }

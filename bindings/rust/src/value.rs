@@ -122,7 +122,7 @@ impl Register {
 }
 
 impl Operand {
-    fn from_c(desc: &c::OperandDesc) -> Operand {
+    pub(crate) fn from_c(desc: &c::OperandDesc) -> Operand {
         match desc.kind {
             0 => Operand::Immediate(Immediate { value: desc.immediate.value, bit_count: desc.immediate.bit_count }),
             _ => Operand::Register(Register::from_c(&desc.register_desc)),

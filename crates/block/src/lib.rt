@@ -1,12 +1,15 @@
 // Blocks.
 ghost use mathlib.Core.Path.{_≡_};
-ghost use Rattle.fields.specs.Parse.{many, counted, bind, span, u64};
+ghost use Rattle.fields.specs.Parse.{part, many, counted, bind, span, u64};
 ghost use Rattle.fields.specs.Answers.{of-skip, of-walked};
 ghost use Rattle.pod.specs.Layout.{instruction, block};
 ghost use Rattle.pod.specs.Written.{many-bytes, counted-bytes, instruction-bytes, block-bytes, walked, passing};
 use fields::Skip;
 use fields::U32Read;
 use fields::Walked;
+
+// A block's numbers before its lists: vip 8, sp offset 8, sp index 4, last temporary index 4.
+const HEAD_SIZE: usize = 24;
 
 // `count` instructions.
 fn instructions_run(s: &[u8], at: usize, count: u32) -> Walked
@@ -70,8 +73,17 @@ fn then_instructions(s: &[u8], far: Skip) -> Walked
     }
 }
 
+// The numbers of the block at `at`, of which nothing is asked but their bytes, and its instructions are walked over. This and the next are pub for the
+// reader that answers where a block's lists stand.
+pub fn instructions_skip(s: &[u8], at: usize) -> Walked
+    ensures { λ r. ⌜ of-walked r ≡ bind (span (part 24 (now (s .entry)) at)) (λ _ n. walked (counted instruction) (counted-bytes instruction-bytes) (now (s .entry)) n) ⌝ }
+{
+    let head = fields::part_skip(s, at, HEAD_SIZE);
+    then_instructions(s, head)
+}
+
 // Vips are written as they are read, so what was seen before them stays.
-fn then_vips(s: &[u8], far: Walked) -> Walked
+pub fn then_vips(s: &[u8], far: Walked) -> Walked
     ensures { λ r. ⌜ of-walked r ≡ passing (of-walked far) (λ n. span (counted u64 (now (s .entry)) n)) ⌝ }
 {
     if let Walked::Past(at, written) = far {
@@ -90,11 +102,7 @@ fn then_vips(s: &[u8], far: Walked) -> Walked
 pub fn block_skip(s: &[u8], at: usize) -> Walked
     ensures { λ r. ⌜ of-walked r ≡ walked block block-bytes (now (s .entry)) at ⌝ }
 {
-    let a = fields::then_uint(s, Skip::Past(at), 8);
-    let b = fields::then_uint(s, a, 8);
-    let c = fields::then_uint(s, b, 4);
-    let d = fields::then_uint(s, c, 4);
-    let e = then_instructions(s, d);
-    let f = then_vips(s, e);
-    then_vips(s, f)
+    let instructions = instructions_skip(s, at);
+    let prevs = then_vips(s, instructions);
+    then_vips(s, prevs)
 }

@@ -12,7 +12,8 @@ use Rattle.fields.specs.Outcome.{Outcome, accepted, attempt}
 use Rattle.fields.specs.Lists.{choose, has}
 use Rattle.fields.proofs.Outcomes.{unaltered}
 use Rattle.pod.specs.Values.{Routine}
-use Rattle.pod.specs.Layout.{read-file}
+use Rattle.fields.specs.Parse.{u64}
+use Rattle.pod.specs.Layout.{register, instruction, convention, block, read-file}
 use Rattle.pod.specs.Descs.{writing, written-to, write-instruction}
 use Rattle.pod.specs.declared.InstructionDesc.{InstructionDesc}
 use Rattle.machine.specs.Edits.{size, Edit, create, remove, append, place, edited}
@@ -23,8 +24,8 @@ use Rattle.machine.specs.Look.{element, look-block, look-instruction, vip-list,
 use Rattle.machine.proofs.Held.{held-size, held-only}
 use Rattle.machine.proofs.Keeps.{removed, removed-size}
 use Rattle.machine.proofs.Lists.{found}
-use Rattle.demands.specs.Demand1.{file-refusals, opening-refusals, look-refusals, writer-refusals, call-refusals, Numbered, Refuses, Demand-1}
-use Rattle.demands.proofs.Refusals.{Reading, an-instruction, a-routine}
+use Rattle.demands.specs.Demand1.{instruction-refusals, register-refusals, file-refusals, opening-refusals, look-refusals, writer-refusals, call-refusals, Numbered, Refuses, Demand-1}
+use Rattle.demands.proofs.Refusals.{Reading, a-vip, a-register, a-convention, an-instruction, a-block, a-routine}
 use Rattle.fields.proofs.Only.{Only, accepts, next, next-is, unless, when, attempts}
 use Rattle.demands.proofs.Only.{created-only, removed-only, appended-only, edit-book-only, undo-book-only, opening-only, element-only, vips-only, registers-only}
 
@@ -65,6 +66,27 @@ module _ (s : State) where
 file-numbered : (file : List ℕ) → Reading (In file-refusals) (read-file file)
 unfolding has choose
 file-numbered file = a-routine file refl refl refl refl refl refl refl refl refl 0
+
+-- the parts of a file, at any offset
+module _ (s : List ℕ) (o : ℕ) where
+  convention-numbered : Reading (In register-refusals) (convention s o)
+  unfolding has choose
+  convention-numbered = a-convention s refl refl o
+
+  register-numbered : Reading (In register-refusals) (register s o)
+  unfolding has choose
+  register-numbered = a-register s refl refl o
+
+  block-numbered : Reading (In instruction-refusals) (block s o)
+  unfolding has choose
+  block-numbered = a-block s refl refl refl refl refl refl o
+
+  instruction-numbered : Reading (In instruction-refusals) (instruction s o)
+  unfolding has choose
+  instruction-numbered = an-instruction s refl refl refl refl refl refl o
+
+  vip-numbered : Reading (λ e. e ≡ 1) (u64 s o)
+  vip-numbered = a-vip s refl o
 
 opens : (file image journal : List ℕ) → Refuses opening-refusals (unopened image journal) (open-book file image journal)
 unfolding open-book has choose
@@ -121,6 +143,11 @@ pub demand-1 : Demand-1
 demand-1 =
     record {
       checking = λ file. file-numbered file .refusal;
+      reading-convention = λ s o. convention-numbered s o .refusal;
+      reading-register = λ s o. register-numbered s o .refusal;
+      reading-block = λ s o. block-numbered s o .refusal;
+      reading-instruction = λ s o. instruction-numbered s o .refusal;
+      reading-vip = λ s o. vip-numbered s o .refusal;
       opening = opens;
       calling = λ c s. calls s c;
       running = runs;

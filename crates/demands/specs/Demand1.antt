@@ -6,10 +6,10 @@ use mathlib.Core.Bool.{true}
 use mathlib.Core.List.{List, [], _∷_}
 use Rattle.fields.specs.Refusals.{short-file, name-not-text, wrong-mark, unknown-machine, foreign-register, unknown-operand-kind, unknown-operation, wrong-operand-count, repeated-block}
 use Rattle.fields.specs.Refusals.{lending-too-large, image-full, journal-full, spoiled-book, block-present, no-such-block, nothing-to-take-back, leftover}
-use Rattle.fields.specs.Parse.{no}
+use Rattle.fields.specs.Parse.{no, u64}
 use Rattle.fields.specs.Outcome.{Outcome, refused}
 use Rattle.fields.specs.Lists.{has}
-use Rattle.pod.specs.Layout.{read-file}
+use Rattle.pod.specs.Layout.{register, instruction, convention, block, read-file}
 use Rattle.pod.specs.Descs.{write-instruction}
 use Rattle.pod.specs.declared.InstructionDesc.{InstructionDesc}
 use Rattle.machine.specs.Edits.{create, remove, append}
@@ -24,6 +24,10 @@ instruction-refusals = short-file ∷ name-not-text ∷ unknown-operation ∷ wr
 
 abbrev pub file-refusals : List ℕ
 file-refusals = wrong-mark ∷ unknown-machine ∷ repeated-block ∷ instruction-refusals
+
+-- of reading a register, and a convention
+abbrev pub register-refusals : List ℕ
+register-refusals = short-file ∷ foreign-register ∷ []
 
 -- of opening: 10, 1 to 9, 11
 abbrev pub opening-refusals : List ℕ
@@ -55,6 +59,12 @@ pub record Refuses (es : List ℕ) {S : Type 0} (kept : S) {A : Type 0} (x : Out
 
 pub record Demand-1 : Type 0 where
   pub checking : (file : List ℕ) (e : ℕ) → read-file file ≡ no e → has e file-refusals ≡ true
+  -- reading by offset, at any offset of any bytes; the whole routine's refusals are those of checking
+  pub reading-convention : (s : List ℕ) (o e : ℕ) → convention s o ≡ no e → has e register-refusals ≡ true
+  pub reading-register : (s : List ℕ) (o e : ℕ) → register s o ≡ no e → has e register-refusals ≡ true
+  pub reading-block : (s : List ℕ) (o e : ℕ) → block s o ≡ no e → has e instruction-refusals ≡ true
+  pub reading-instruction : (s : List ℕ) (o e : ℕ) → instruction s o ≡ no e → has e instruction-refusals ≡ true
+  pub reading-vip : (s : List ℕ) (o e : ℕ) → u64 s o ≡ no e → e ≡ short-file
   -- image and journal stay, and the book is one of zeros
   pub opening : (file image journal : List ℕ) → Refuses opening-refusals (unopened image journal) (open-book file image journal)
   pub calling : (c : Call) (s : State) → Refuses (call-refusals c) s (step c s)

@@ -1,11 +1,13 @@
--- Demand 2, of the definitions: the layouts have document 01's sizes; what a file says has one written form, as long as the bytes that were read and equal to them but for pad and flags; the
--- written form says the same routine again, whatever stands after it; and no two routines share one. That the layouts are the Rust's is compared,
+-- Demand 2, of the definitions: the layouts have document 01's sizes; what a file says has one written form, as long as the bytes that were read and equal
+-- to them but for pad and flags; the written form says the same routine again, whatever stands after it; the calls that read by offset, each at the offset
+-- that an answer before it gave, put together what the file says; and no two routines share a written form. That the layouts are the Rust's is compared,
 -- routine by routine, by oracle/.
 use Prim.Native.Nat.{ℕ, _+_, _*_, _≤_}
 use mathlib.Core.Path.{_≡_}
 use mathlib.Core.List.{List, [], _++_}
 use lib.ListN.{length, getD, take}
 use Rattle.machine.specs.Edits.{size}
+use Rattle.fields.specs.Outcome.{what-is-read}
 use Rattle.fields.specs.Parse.{ok}
 use Rattle.fields.specs.Bytes.{Bytes}
 use Rattle.op.specs.Ops.{names}
@@ -17,6 +19,7 @@ use Rattle.pod.specs.declared.ImmediateDesc.{ImmediateDesc}
 use Rattle.pod.specs.declared.Operand.the-variants.{Imm, Reg}
 use Rattle.laws.specs.Holds.{Routine-holds}
 use Rattle.laws.specs.Normal.{normalise, routine-roles}
+use Rattle.pread.specs.Assembled.{routine-at}
 
 -- a file that says r in its first n bytes
 pub record Says (file : List ℕ) (r : Routine) (n : ℕ) : Type 0 where
@@ -46,4 +49,5 @@ pub record Demand-2 : Type 0 where
   pub sizes : Sizes
   pub reading : (file : List ℕ) (r : Routine) (n : ℕ) → Bytes file → read-file file ≡ ok r n → Says file r n
   pub writing : (r : Routine) (rest : List ℕ) → Routine-holds r → read-file (routine-bytes r ++ rest) ≡ ok r (size r)
+  pub by-offset : (file : List ℕ) → Bytes file → routine-at file 0 ≡ what-is-read (read-file file)
   pub one-form : (r q : Routine) → Routine-holds r → Routine-holds q → routine-bytes r ≡ routine-bytes q → r ≡ q

@@ -1,8 +1,8 @@
--- An instruction that is passed over where nothing is refused.
+-- An instruction that is passed over where nothing is refused: its operation, and then its operands and what follows them.
 -- Assumes nothing.
 use mathlib.Core.Path.{_≡_, refl, sym, ap, _∙_}
 use mathlib.Core.List.{List}
-use Prim.Native.Nat.{ℕ, _+_, _≤_, _<_}
+use Prim.Native.Nat.{ℕ, _+_, _/_, _%_, _≤_, _<_}
 use native.Mathlib.Omega.{arith}
 use lib.ListN.{length, getD, take, drop}
 use borrow.Author.Tests.{lt-ltb, eq-eqb}
@@ -10,8 +10,10 @@ use Rattle.fields.specs.Parse.{Res, ok, bind, span, le, uint, many}
 use Rattle.fields.proofs.Le.{uint-ok, span-ok}
 use Rattle.fields.proofs.Steps.{on-check, on-part}
 use Rattle.op.specs.Ops.{number, counts}
+use Rattle.op.specs.Packed.{Known}
 use Rattle.op.proofs.Packed.{text-of}
 use Rattle.pod.specs.Layout.{operand, named, opcode, after-opcode, instruction}
+use Rattle.instruction.specs.Answers.{Found}
 use Rattle.instruction.proofs.Skip.{after-skip}
 
 on-field : {A : Type 0} (k : ℕ) (s : List ℕ) (o : ℕ) (f : ℕ → ℕ → Res A) {x : Res A} → o + k ≤ length s → x ≡ f (le k s o) (o + k) → x ≡ bind (uint k s o) f
@@ -30,15 +32,28 @@ module _ (s : List ℕ) (at n k : ℕ) (h : at + 4 + n + 4 ≤ length s) (l : k 
   unfolding opcode
   opcode-ok c = on-field 4 s at _ (omega arith) (rw (← e) (on-part n s (at + 4) _ (omega arith) (name-ok c)))
 
-  tail-ok : (o : ℕ) → o + 21 ≤ length s → span (many operand (getD counts k 0) s (at + 4 + n + 4)) ≡ ok tt o
-      → span (after-opcode k s (at + 4 + n + 4)) ≡ ok tt (o + 21)
+-- the table knows the n bytes of the name, and the operand count after them is the one that it has
+pub found : (s : List ℕ) (at n c : ℕ) → at + 128 ≤ length s → n ≡ le 4 s at → Known (take n (drop (at + 4) s)) n c → le 4 s (at + 4 + n) ≡ c % 4 → Found s at c
+found s at n c h e w d =
+    let i : w .op ≡ c / 4 = w .is-op in
+    let t : getD counts (c / 4) 0 ≡ c % 4 = rw i at (w .takes) in
+    record {
+      is = sym (rw (← e) (opcode-ok s at n (c / 4) (omega (arith, w .short)) (rw (← i) (w .listed)) e (rw (← i) (w .named)) (d ∙ sym t)));
+      listed = rw (← i) (w .listed);
+      takes = t;
+      short = rw (← e) (w .short);
+      room = h;
+    }
+
+-- after the operation k the operands are passed over, up to o, and then what follows them
+module _ (s : List ℕ) (k a o : ℕ) (g : o + 21 ≤ length s) (q : span (many operand (getD counts k 0) s a) ≡ ok tt o) where
+  tail-ok : span (after-opcode k s a) ≡ ok tt (o + 21)
   unfolding bind
-  tail-ok o g q =
-      sym (after-skip k s (at + 4 + n + 4))
+  tail-ok =
+      sym (after-skip k s a)
       ∙ rw (q, span-ok 8 s o (omega arith), span-ok 8 s (o + 8) (omega arith), span-ok 4 s (o + 8 + 8) (omega arith), span-ok 1 s (o + 8 + 8 + 4) (omega arith))
       (ap (λ x. ok tt x) (omega arith))
 
-  pub fast-ok : (o : ℕ) → le 4 s (at + 4 + n) ≡ getD counts k 0 → o + 21 ≤ length s
-      → span (many operand (getD counts k 0) s (at + 4 + n + 4)) ≡ ok tt o → span (instruction s at) ≡ ok tt (o + 21)
+  pub fast-ok : (at : ℕ) → opcode s at ≡ ok k a → span (instruction s at) ≡ ok tt (o + 21)
   unfolding instruction bind
-  fast-ok o c g q = rw (← opcode-ok c) (tail-ok o g q)
+  fast-ok at e = rw e tail-ok

@@ -1,9 +1,22 @@
--- What the answer of the operation's reader says: the operation's number and the offset past it, or the refusal's number.
-use Prim.Native.Nat.{ℕ}
-use Rattle.fields.specs.Parse.{Res, ok, no}
+-- What the answers say. That of the operation's reader is the operation's number and the offset past it, or the refusal's number.
+use Prim.Native.Nat.{ℕ, _+_, _/_, _%_, _<_, _≤_}
+use mathlib.Core.Path.{_≡_}
+use mathlib.Core.List.{List}
+use lib.ListN.{length, getD}
+use Rattle.fields.specs.Parse.{Res, ok, no, le}
+use Rattle.op.specs.Ops.{counts}
+use Rattle.pod.specs.Layout.{opcode}
 use Rattle.instruction.specs.declared.OpRead.{OpRead}
 use Rattle.instruction.specs.declared.OpRead.the-variants as op
 
 abbrev pub of-op : OpRead → Res ℕ
 of-op (op.Value v n) = ok v n
 of-op (op.Refused e) = no e
+
+-- The code c that the fast way found at o: the operation there is c / 4 and takes c % 4 operands; its name is short, and 128 bytes stand from o on
+pub record Found (s : List ℕ) (o c : ℕ) : Type 0 where
+  pub is : opcode s o ≡ ok (c / 4) (o + 4 + le 4 s o + 4)
+  pub listed : c / 4 < 49
+  pub takes : getD counts (c / 4) 0 ≡ c % 4
+  pub short : le 4 s o ≤ 6
+  pub room : o + 128 ≤ length s

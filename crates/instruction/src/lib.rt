@@ -5,7 +5,7 @@ ghost use Rattle.fields.specs.Parse.{ok, many, span, refusal-in};
 ghost use Rattle.fields.specs.Answers.{of-skip, of-walked};
 ghost use Rattle.pod.specs.Layout.{operand, named, opcode, instruction};
 ghost use Rattle.pod.specs.Written.{instruction-bytes, walked};
-ghost use Rattle.instruction.specs.Answers.{of-op};
+ghost use Rattle.instruction.specs.Answers.{of-op, Found};
 use fields::Skip;
 use fields::U32Read;
 use fields::Walked;
@@ -49,8 +49,31 @@ fn named_at(s: &[u8], name: &[u8], at: usize) -> OpRead
     }
 }
 
+// Of the operation of the instruction at `at`: its operand count and four times its number, where it is found by the table and 128 bytes from there
+// stand in the file, which is more than an instruction has; else 256. It is pub for the fast way to an instruction by value.
+pub fn fast_code(s: &[u8], at: usize) -> u64
+    ensures { λ r. ⌜ (r < 256 → Found (now (s .entry)) at r) ⌝ }
+{
+    if s.len() < at {
+        return 256;
+    }
+    if s.len() - at < 128 {
+        return 256;
+    }
+    let a = at + 4;
+    let n = fields::four(s, at) as usize;
+    let code = op::fast_lookup(fields::eight(s, a), n);
+    if 255 < code {
+        return 256;
+    }
+    if fields::four(s, a + n) != code % 4 {
+        return 256;
+    }
+    code
+}
+
 // The operation of the instruction at `at`, its name looked for among all.
-pub fn op_at(s: &[u8], at: usize) -> OpRead
+fn listed_op_at(s: &[u8], at: usize) -> OpRead
     ensures { λ r. ⌜ of-op r ≡ opcode (now (s .entry)) at ⌝ }
 {
     let size = fields::u32_at(s, at);
@@ -65,6 +88,18 @@ pub fn op_at(s: &[u8], at: usize) -> OpRead
     } else {
         OpRead::Refused(fields::u32_refusal(size))
     }
+}
+
+// The operation of the instruction at `at`: by the table, or else its name is looked for among all.
+pub fn op_at(s: &[u8], at: usize) -> OpRead
+    ensures { λ r. ⌜ of-op r ≡ opcode (now (s .entry)) at ⌝ }
+{
+    let code = fast_code(s, at);
+    if code < 256 {
+        let n = fields::four(s, at) as usize;
+        return OpRead::Value((code / 4) as usize, at + 4 + n + 4);
+    }
+    listed_op_at(s, at)
 }
 
 // `count` operands.
@@ -85,7 +120,8 @@ fn operands_run(s: &[u8], at: usize, count: u32) -> Skip
     Skip::Past(o)
 }
 
-// The offset past the instruction at `at`, or 0 where this does not tell: near the end of the file, and where it is refused.
+// The offset past the instruction at `at`, or 0 where this does not tell: near the end of the file, and where it is refused. It has the tests of
+// `fast_code` a second time: the walk over a file spends its time here, and that call would cost it a third more.
 fn fast_end(s: &[u8], at: usize) -> usize
     ensures { λ r. ⌜ (0 < r → span (instruction (now (s .entry)) at) ≡ ok tt r) ⌝ }
 {
@@ -97,13 +133,13 @@ fn fast_end(s: &[u8], at: usize) -> usize
     }
     let a = at + 4;
     let n = fields::four(s, at) as usize;
-    let code = op::fast_lookup(s, a, n);
+    let code = op::fast_lookup(fields::eight(s, a), n);
     if 255 < code {
         return 0;
     }
-    let count = code % 4;
     let b = a + n;
-    if fields::four(s, b) != count {
+    let count = fields::four(s, b);
+    if count != code % 4 {
         return 0;
     }
     let mut o = b + 4;

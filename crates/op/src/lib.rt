@@ -1,9 +1,11 @@
 // The names of the operations, and text.
 ghost use mathlib.Core.Path.{_≡_};
-ghost use mathlib.Core.List.{[]};
-ghost use Prim.Native.Nat.{_<_, _≤_, _+_, _*_, _%_, _^_};
+ghost use mathlib.Core.List.{List, []};
+ghost use Prim.Native.Nat.{ℕ, _<_, _≤_, _+_, _*_, _%_, _^_};
 ghost use lib.ListN.{length, getD, take, drop};
+ghost use Rattle.fields.specs.Bytes.{Bytes};
 ghost use Rattle.fields.specs.Lists.{same};
+ghost use Rattle.fields.specs.Parse.{le};
 ghost use Rattle.op.specs.Packed.{Packed, Known};
 ghost use Rattle.op.specs.Ops.{names, counts, number};
 ghost use Rattle.op.specs.Text.{lead, next-state, is-text};
@@ -137,7 +139,8 @@ pub fn name_byte(k: usize, j: usize) -> u8
     NAMES[k * 6 + j]
 }
 
-// How many operands operation `k` takes: 0 where there is none with that number.
+// How many operands operation `k` takes: 0 where there is none with that number. The table is built on the stack at each call, so the fast ways take the count
+// from fast_lookup.
 pub fn operand_count(k: usize) -> u32
     ensures { λ r. ⌜ r ≡ getD counts k 0 ⌝ }
 {
@@ -267,11 +270,10 @@ fn low(v: u64, n: usize) -> u64
     }
 }
 
-// Of the operation whose name is the `n` bytes from `at`: its operand count and four times its number, found by a table, or 256 where the
-// table does not tell. It is pub for the fast way over an instruction, which has tested the length.
-pub fn fast_lookup(s: &[u8], at: usize, n: usize) -> u64
-    requires { ⌜ at + 8 ≤ length (now s) ⌝ }
-    ensures { λ r. ⌜ (r < 256 → Known (take n (drop at (now (s .entry)))) n r) ⌝ }
+// Of the operation whose name is the lowest `n` bytes of `word`: its operand count and four times its number, found by a table, or 256 where the
+// table does not tell. It is pub for the fast ways over an instruction, which have loaded the word. It is given no slice, so that a call costs little.
+pub fn fast_lookup(word: u64, n: usize) -> u64
+    ensures { λ r. ⌜ (r < 256 → (s : List ℕ) (o : ℕ) → Bytes s → o + 8 ≤ length s → word ≡ le 8 s o → Known (take n (drop o s)) n r) ⌝ }
 {
     if n < 2 {
         return 256;
@@ -279,7 +281,7 @@ pub fn fast_lookup(s: &[u8], at: usize, n: usize) -> u64
     if 6 < n {
         return 256;
     }
-    let v = low(fields::eight(s, at), n) + 0x1_0000_0000_0000 * (n as u64);
+    let v = low(word, n) + 0x1_0000_0000_0000 * (n as u64);
     let f = v % 0x1_0000_0000 + v / 0x1_0000_0000;
     let hash = f * 258492 / 0x10_0000 % 128;
     let found = slot_of(hash);

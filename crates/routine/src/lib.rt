@@ -3,6 +3,7 @@ ghost use mathlib.Core.Path.{_≡_};
 ghost use Rattle.fields.specs.Parse.{ok, many, counted, bind, span, u64, refusal-in};
 ghost use Rattle.fields.specs.Answers.{of-skip, of-walked};
 ghost use Rattle.routine.specs.Header.{marked, arch-id-byte};
+ghost use Rattle.routine.specs.Head.{head-walked};
 ghost use mathlib.Core.Bool.{true, _&&_};
 ghost use Prim.Native.Nat.{_+_, _≤_, _<_};
 ghost use Rattle.sorting.specs.Buffer.{TOP};
@@ -241,7 +242,8 @@ fn then_conventions(s: &[u8], far: Walked) -> Walked
     }
 }
 
-fn then_blocks(s: &[u8], far: Walked) -> Walked
+// It is pub, as head_skip is, for the reader that answers where the blocks stand.
+pub fn then_blocks(s: &[u8], far: Walked) -> Walked
     ensures { λ r. ⌜ of-walked r ≡ both (of-walked far) (walked blocks (counted-bytes block-bytes) (now (s .entry))) ⌝ }
 {
     if let Walked::Past(at, written) = far {
@@ -251,14 +253,21 @@ fn then_blocks(s: &[u8], far: Walked) -> Walked
     }
 }
 
+// What stands before the blocks is walked over: header, entry vip and conventions.
+pub fn head_skip(s: &[u8], at: usize) -> Walked
+    ensures { λ r. ⌜ of-walked r ≡ head-walked (now (s .entry)) at ⌝ }
+{
+    let header = header_skip(s, at);
+    let entry = then_entry(s, header);
+    let own = then_convention(s, entry);
+    let sub = then_convention(s, own);
+    then_conventions(s, sub)
+}
+
 // The routine at `at` is walked over.
 pub fn routine_skip(s: &[u8], at: usize) -> Walked
     ensures { λ r. ⌜ of-walked r ≡ walked routine routine-bytes (now (s .entry)) at ⌝ }
 {
-    let a = header_skip(s, at);
-    let b = then_entry(s, a);
-    let c = then_convention(s, b);
-    let d = then_convention(s, c);
-    let e = then_conventions(s, d);
-    then_blocks(s, e)
+    let head = head_skip(s, at);
+    then_blocks(s, head)
 }

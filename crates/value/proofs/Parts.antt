@@ -143,7 +143,7 @@ desc k m ps t b =
     }
 
 desc-is : (k m r b : ℕ) (ps : List OperandDesc) (t : Tail) (xs : List Operand) → SFits w64 (t .«sp_offset») → length xs ≡ m → ps ≡ places xs
-    → b ≡ bit (not (eqb (t .«sp_reset») 0)) → record { refusal = 0; next = r; instruction = desc k m ps t b } ≡ instruction-read (ok (made k xs t) r)
+    → b ≡ bit (not (eqb (t .«sp_reset») 0)) → record { refusal = 0; end = r; instruction = desc k m ps t b } ≡ instruction-read (ok (made k xs t) r)
 unfolding instruction-read instruction-desc
 desc-is k m r b ps t xs v l p z = rw (toZ-ofZ w64 _ v, ← l, p, z)
 
@@ -170,7 +170,7 @@ module _ (s : List ℕ) (at : ℕ) where
 
     -- nothing is refused
     pub all-on : {t : Tail} {r : ℕ} (b : ℕ) → SFits w64 (t .«sp_offset») → x .refusal ≡ 0 → tail s (x .next) ≡ ok t r → b ≡ bit (not (eqb (t .«sp_reset») 0))
-        → record { refusal = 0; next = r; instruction = desc k m (x .places) t b } ≡ instruction-read (instruction s at)
+        → record { refusal = 0; end = r; instruction = desc k m (x .places) t b } ≡ instruction-read (instruction s at)
     unfolding bind
     all-on {t} {r} b v h f z =
         let o = operands-ok _ x (told-operands m s a) e h in

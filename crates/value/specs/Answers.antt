@@ -34,5 +34,5 @@ no-instruction =
     }
 
 unfoldable pub instruction-read : Res Instruction → InstructionRead
-instruction-read (ok i n) = record { refusal = 0; next = n; instruction = instruction-desc i }
-instruction-read (no e) = record { refusal = e; next = 0; instruction = no-instruction }
+instruction-read (ok i n) = record { refusal = 0; end = n; instruction = instruction-desc i }
+instruction-read (no e) = record { refusal = e; end = 0; instruction = no-instruction }

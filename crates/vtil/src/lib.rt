@@ -3,6 +3,8 @@ ghost use mathlib.Core.Path.{_≡_};
 ghost use Prim.Native.Nat.{_<_, _^_};
 ghost use lib.IntN.{pos};
 ghost use lib.ListN.{length};
+ghost use Rattle.fields.specs.Parse.{u64};
+ghost use Rattle.pod.specs.Layout.{register, convention, instruction, block, read-file};
 ghost use Rattle.pod.specs.Descs.{write-instruction};
 ghost use Rattle.machine.specs.Edits.{create, remove, append};
 ghost use Rattle.machine.specs.Machine.{edit, undo};
@@ -10,6 +12,8 @@ ghost use Rattle.machine.specs.Book.{open-book, step};
 ghost use Rattle.machine.specs.Look.{look-routine, look-block, look-instruction, look-vip, look-convention, look-register};
 ghost use Rattle.book.specs.Says.{state, outcome};
 ghost use Rattle.look.specs.Answers.{routine-look, block-look, instruction-look, vip-look, convention-look, register-look};
+ghost use Rattle.value.specs.Answers.{instruction-read};
+ghost use Rattle.pread.specs.Answers.{routine-read, convention-read, register-read, block-read, vip-read};
 ghost use Rattle.writer.specs.Answers.{write-answer};
 ghost use Rattle.machine.specs.CallList.{run-on};
 ghost use Rattle.call_list.specs.Says.{run-outcome, told};
@@ -27,6 +31,12 @@ use look::RoutineLook;
 use look::VipLook;
 use pod::InstructionDesc;
 use pod::Vip;
+use pread::BlockRead;
+use pread::ConventionRead;
+use pread::RegisterRead;
+use pread::RoutineRead;
+use pread::VipRead;
+use value::InstructionRead;
 use writer::Written;
 
 // The most that a slice's length can be: 2^63 - 1. A C caller may hand in more.
@@ -54,6 +64,54 @@ pub extern "C" fn vtil_check(file: &[u8]) -> i64
     } else {
         0 - (fields::walked_refusal(far) as i64)
     }
+}
+
+// Reading by offset, without a book: the whole routine that a file starts with,
+#[no_mangle]
+pub extern "C" fn vtil_read_routine(file: &[u8]) -> RoutineRead
+    ensures { λ r. ⌜ r ≡ routine-read 0 (read-file (now (file .entry))) ⌝ }
+{
+    reader::routine_at(file, 0)
+}
+
+// and what stands at an offset: a convention,
+#[no_mangle]
+pub extern "C" fn vtil_read_convention(file: &[u8], at: usize) -> ConventionRead
+    ensures { λ r. ⌜ r ≡ convention-read at (convention (now (file .entry)) at) ⌝ }
+{
+    reader::convention_at(file, at)
+}
+
+// a register,
+#[no_mangle]
+pub extern "C" fn vtil_read_register(file: &[u8], at: usize) -> RegisterRead
+    ensures { λ r. ⌜ r ≡ register-read (register (now (file .entry)) at) ⌝ }
+{
+    reader::register_at(file, at)
+}
+
+// a block,
+#[no_mangle]
+pub extern "C" fn vtil_read_block(file: &[u8], at: usize) -> BlockRead
+    ensures { λ r. ⌜ r ≡ block-read at (block (now (file .entry)) at) ⌝ }
+{
+    reader::block_at(file, at)
+}
+
+// an instruction,
+#[no_mangle]
+pub extern "C" fn vtil_read_instruction(file: &[u8], at: usize) -> InstructionRead
+    ensures { λ r. ⌜ r ≡ instruction-read (instruction (now (file .entry)) at) ⌝ }
+{
+    reader::instruction_at(file, at)
+}
+
+// a vip.
+#[no_mangle]
+pub extern "C" fn vtil_read_vip(file: &[u8], at: usize) -> VipRead
+    ensures { λ r. ⌜ r ≡ vip-read (u64 (now (file .entry)) at) ⌝ }
+{
+    reader::vip_at(file, at)
 }
 
 // Opening: the file's written form into the image, zeros after it and into the journal, and a fresh book.

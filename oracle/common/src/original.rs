@@ -1,10 +1,10 @@
 //! The Rust's answers. Its source is not touched: what it panics or aborts on is told apart here.
 
 use crate::reference::{
-    Counted, Refusal, FOREIGN_REGISTER, UNKNOWN_MACHINE, UNKNOWN_OPERAND_KIND, UNKNOWN_OPERATION, WRONG_MARK,
-    WRONG_OPERAND_COUNT,
+    Counted, Refusal, FOREIGN_REGISTER, NAME_NOT_TEXT, REPEATED_BLOCK, SHORT_FILE, UNKNOWN_MACHINE,
+    UNKNOWN_OPERAND_KIND, UNKNOWN_OPERATION, WRONG_MARK, WRONG_OPERAND_COUNT,
 };
-use scroll::Pread;
+use scroll::{ctx::TryFromCtx, Endian, Pread};
 use std::cell::Cell;
 use std::mem::size_of;
 use std::panic::{catch_unwind, set_hook};
@@ -33,16 +33,32 @@ pub enum Answer {
     Unexpected(String),
 }
 
+impl Answer {
+    /// Whether it is a refusal that the library gives by this number.
+    pub fn is_refusal(&self, number: Refusal) -> bool {
+        match self {
+            Answer::Refused(rust) => *rust == number,
+            Answer::Other => [SHORT_FILE, NAME_NOT_TEXT].contains(&number),
+            Answer::RepeatedVip => number == REPEATED_BLOCK,
+            _ => false,
+        }
+    }
+}
+
 thread_local! {
     static PANIC_LINE: Cell<u32> = const { Cell::new(0) };
 }
 
-/// Notes where the Rust panics, in place of the message on standard error.
+/// Notes where the Rust panics, in place of the message on standard error. The panics of the crate over the library,
+/// where a part is refused within what was accepted, are told by who catches them.
 pub fn note_panics() {
     set_hook(Box::new(|info| {
         let Some(place) = info.location() else { return };
         if place.file().ends_with("original/src/serialize.rs") {
             PANIC_LINE.set(place.line());
+            return;
+        }
+        if place.file().ends_with("bindings/rust/src/read.rs") {
             return;
         }
         eprintln!("{info}");
@@ -99,6 +115,14 @@ fn read(file: &[u8]) -> Answer {
             written: routine.into_bytes().expect("the sink has the routine's size"),
         },
     }
+}
+
+/// What the Rust reads at an offset of any bytes, and the offset after it. A part with lists makes it reserve memory for
+/// its counts.
+pub fn read_at<'a, P: TryFromCtx<'a, Endian, Error = Error>>(bytes: &'a [u8], at: usize) -> Result<(P, usize), Answer> {
+    let mut offset = at;
+    let part = bytes.gread_with::<P>(&mut offset, scroll::LE).map_err(refused)?;
+    Ok((part, offset))
 }
 
 /// What the Rust says of a file that does not make it reserve too much.

@@ -1,11 +1,12 @@
-//! Files: the library's check, the reference and the Rust, each asked about the same bytes.
+//! Files: the library's check and its reading by offset, the reference and the Rust, each asked about the same bytes.
 
 use crate::aborts::Aborts;
 use crate::opens;
+use crate::reads;
 use crate::report::{hex, shrink, Report};
 use oracle::generate::{Class, Generator, CLASSES};
 use oracle::original::{self, Answer};
-use oracle::reference::{self, Refusal, NAME_NOT_TEXT, REPEATED_BLOCK, SHORT_FILE};
+use oracle::reference::{self, Refusal, REPEATED_BLOCK};
 
 pub enum Verdict {
     Same,
@@ -16,22 +17,24 @@ pub enum Verdict {
     Different(String),
 }
 
-/// The Rust's answer beside the reference's.
+/// The Rust's answer beside the reference's, and where both accept, all parts beside the Rust's.
 fn beside_the_rust(file: &[u8], due: Result<usize, Refusal>) -> Verdict {
     let answer = original::ask(file);
     let is_same = match (&answer, due) {
         (Answer::Accepted { consumed, written }, Ok(length)) => {
             *consumed == length && *written == reference::written(file, length)
         }
-        (Answer::Refused(rust), Err(refusal)) => *rust == refusal,
-        (Answer::Other, Err(refusal)) => [SHORT_FILE, NAME_NOT_TEXT].contains(&refusal),
         (Answer::RepeatedVip, Err(REPEATED_BLOCK)) => return Verdict::RepeatedVip,
+        (answer, Err(refusal)) => answer.is_refusal(refusal),
         _ => false,
     };
-    if is_same {
-        return Verdict::Same;
+    if !is_same {
+        return Verdict::Different(format!("document 01 {due:?}, Rust {answer:?}"));
     }
-    Verdict::Different(format!("document 01 {due:?}, Rust {answer:?}"))
+    match due.ok().and_then(|_| reads::difference(file)) {
+        Some(text) => Verdict::Different(text),
+        None => Verdict::Same,
+    }
 }
 
 pub fn judge(file: &[u8]) -> Verdict {
@@ -40,7 +43,7 @@ pub fn judge(file: &[u8]) -> Verdict {
     if library != due {
         return Verdict::Different(format!("library {library:?}, document 01 {due:?}"));
     }
-    if let Some(text) = opens::difference(file, due) {
+    if let Some(text) = reads::whole_difference(file, due).or_else(|| opens::difference(file, due)) {
         return Verdict::Different(text);
     }
     if original::reserves_too_much(&reference::list_counts(file)) {

@@ -5,13 +5,18 @@ mod aborts;
 mod edits;
 mod files;
 mod large;
+mod offsets;
 mod opens;
 mod options;
+mod reads;
 mod report;
 
 use options::{Options, USAGE};
 use report::Report;
 use std::process::ExitCode;
+
+/// One file for so many is also read at every offset, which takes longer than all else that is done with it.
+const FILES_FOR_OFFSETS: usize = 100;
 
 fn compare(options: &Options) -> Report {
     let mut report = Report::default();
@@ -19,6 +24,7 @@ fn compare(options: &Options) -> Report {
     files::overlong(&mut report);
     files::run(options.files, options.seed, &mut report);
     large::run(options.large, options.seed, &mut report);
+    offsets::run(options.files / FILES_FOR_OFFSETS, options.seed, &mut report);
     opens::limits(&mut report);
     edits::run(options.lists, options.seed, &mut report);
     println!("differences {}", report.differences);

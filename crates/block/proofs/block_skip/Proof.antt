@@ -6,31 +6,9 @@ use Rattle.block.proofs.block_skip.Tie as tie
 
 returns : tie.Need-returns
 returns c =
-    let prev = c .before in
-    let list = prev .before in
-    let temporary = list .before in
-    let index = temporary .before in
-    let offset = index .before in
-    let vip = offset .before in
-    rw (
-      c .then-vips2 .ensures,
-      prev .then-vips .ensures,
-      list .then-instructions .ensures,
-      temporary .then-uint4 .ensures,
-      index .then-uint3 .ensures,
-      offset .then-uint2 .ensures,
-      vip .then-uint .ensures,
-    ) (block-walked _ (vip .before .shared-slice-known .given) _)
+    let prevs = c .before in
+    let instructions = prevs .before in
+    rw (c .then-vips2 .ensures, prevs .then-vips .ensures, instructions .instructions-skip .ensures) (block-walked _ (instructions .before .shared-slice-known .given) _)
 
 pub block-skip-spec : {M : Type 1} → statement M
-block-skip-spec =
-    tie.close
-    (tie.spec
-    (λ c κs. search needs)
-    (λ c κs. search needs)
-    (λ c κs. search needs)
-    (λ c κs. search needs)
-    (λ c κs. search needs)
-    (λ c κs. search needs)
-    (λ c κs. search needs)
-    returns)
+block-skip-spec = tie.close (tie.spec (λ c κs. search needs) (λ c κs. search needs) (λ c κs. search needs) returns)

@@ -1,53 +1,48 @@
 -- The fast way: it answers only where nothing is refused. The loop keeps that the operands left are read as the whole run is, with room for
 -- each and for the fields after them.
 use native.Mathlib.Omega.{arith}
-use mathlib.Core.Path.{_≡_, refl, sym, _∙_}
-use Prim.Native.Nat.{_+_, _*_, _≤_}
-use lib.ListN.{length}
-use Rattle.fields.specs.Parse.{many, span}
-use Rattle.fields.proofs.Many.{run-end}
+use mathlib.Core.Path.{_≡_, refl, sym, ap, _∙_}
+use Prim.Native.Nat.{_+_, _*_, _/_, _≤_}
+use lib.ListN.{length, take, drop}
+use Rattle.fields.specs.Parse.{ok, many, span}
+use Rattle.fields.proofs.Many.{run-end, skip-next}
+use Rattle.op.specs.Packed.{Known}
 use Rattle.pod.specs.Layout.{operand}
-use Rattle.fields.proofs.Many.{skip-next}
-use Rattle.instruction.proofs.Pass.{fast-ok}
+use Rattle.instruction.specs.Answers.{Found}
+use Rattle.instruction.proofs.Pass.{found, fast-ok}
 use borrow.Author.Needs.{needs}
 use Rattle.instruction.proofs.fast_end.Statement.{statement}
 use Rattle.instruction.proofs.fast_end.Tie as tie
 
 abbrev Inv-loop : tie.InvT-loop
-Inv-loop s at a n code count b o₀ left₀ o left = (o + 28 * left + 21 ≤ length s) × (span (many operand left s o) ≡ span (many operand count s (b + 4)))
+Inv-loop s at a n code b count o₀ left₀ o left = (o + 28 * left + 21 ≤ length s) × (span (many operand left s o) ≡ span (many operand count s (b + 4)))
 
 abbrev μ-loop : tie.MeasureT-loop
-μ-loop s at a n code count b o₀ left₀ o left = left
+μ-loop s at a n code b count o₀ left₀ o left = left
 
-returns : tie.Need-returns Inv-loop μ-loop
-returns c = λ h. absurd (omega arith)
+-- The way through the code, each place from the next.
+abbrev sized : tie.Else3 Inv-loop μ-loop → tie.After-four Inv-loop μ-loop
+sized c = c .before .before .before
 
-returns-2 : tie.Need-returns-2 Inv-loop μ-loop
-returns-2 c = λ h. absurd (omega arith)
+abbrev lent : tie.After-four Inv-loop μ-loop → tie.After-shared-slice-known Inv-loop μ-loop
+lent c = c .before .before .before
 
-returns-3 : tie.Need-returns-3 Inv-loop μ-loop
-returns-3 c = λ h. absurd (omega arith)
+abbrev start : tie.Else3 Inv-loop μ-loop → tie.Start Inv-loop μ-loop
+start c = lent (sized c) .before
 
-add-b : tie.Need-add-b Inv-loop μ-loop
-add-b c = let g = c .before .fast-lookup .ensures (omega arith) .short in omega arith
+abbrev counted : tie.Else4 Inv-loop μ-loop → tie.Else3 Inv-loop μ-loop
+counted c = c .before .before
 
-four-requires-2 : tie.Need-four-requires-2 Inv-loop μ-loop
-four-requires-2 c κs = let g = c .before .fast-lookup .ensures (omega arith) .short in omega arith
+-- the table knows the name, and so what stands at the instruction's start is found
+known : (c : tie.Else3 Inv-loop μ-loop)
+    → Known (take (sized c .four .result) (drop (start c .args .at + 4) (start c .args .s .now))) (sized c .four .result) (c .before .fast-lookup .result)
+known c = c .before .fast-lookup .ensures (omega (arith, c .if3 .left)) _ _ (lent (sized c) .shared-slice-known .given) (omega arith) (c .before .before .eight .ensures)
 
-returns-4 : tie.Need-returns-4 Inv-loop μ-loop
-returns-4 c = λ h. absurd (omega arith)
-
-add-o : tie.Need-add-o Inv-loop μ-loop
-add-o c = let g = c .before .before .before .fast-lookup .ensures (omega arith) .short in omega arith
+here : (c : tie.Else4 Inv-loop μ-loop) → let l = counted c in Found (start l .args .s .now) (start l .args .at) (l .before .fast-lookup .result)
+here c = let l = counted c in found _ _ _ _ (omega arith) (sized l .four .ensures) (known l) (sym (c .before .four2 .ensures) ∙ c .if4 .left)
 
 loop-holds : tie.Need-loop-holds Inv-loop μ-loop
-loop-holds c = let g = c .before .before .before .fast-lookup .ensures (omega arith) .short in (omega arith, refl)
-
-fast-operand-requires : tie.Need-fast-operand-requires Inv-loop μ-loop
-fast-operand-requires c κs = omega arith
-
-returns-5 : tie.Need-returns-5 Inv-loop μ-loop
-returns-5 c = λ h. absurd (omega (arith, c .if5 .taken))
+loop-holds c = (omega (arith, known (counted c) .short, c .if4 .left), refl)
 
 loop-again : tie.Need-loop-again Inv-loop μ-loop
 loop-again c =
@@ -57,16 +52,15 @@ loop-again c =
     (omega arith, skip-next operand _ _ _ (l .inv .1) (q .before .loop-test .taken) (sym (e .0)))
 
 returns-6 : tie.Need-returns-6 Inv-loop μ-loop
-returns-6 c = λ h.
+returns-6 c h =
     let l = c .before .loop in
-    let f = c .before .before in
-    let g = f .before .before .before in
-    let a = g .before .before .before .before .before .args in
-    let w = g .fast-lookup .ensures (omega arith) in
-    let p : a .at + 4 + g .before .four .result + 4 ≤ length (a .s .now) = let z = w .short in omega arith in
-    fast-ok (a .s .now) (a .at) (g .before .four .result) (w .op) p (w .listed) (g .before .four .ensures) (w .named) (l .o)
-    (sym (f .before .four2 .ensures) ∙ f .if4 .left ∙ sym (w .takes)) (omega arith)
-    (rw (w .takes) (sym (run-end operand _ _ _ (l .inv .1) (c .loop-test .left))))
+    let p = c .before .before in
+    let q = counted p in
+    let a = start q .args in
+    let f = here p in
+    fast-ok (a .s .now) (q .before .fast-lookup .result / 4) (a .at + 4 + sized q .four .result + 4) (l .o) (omega arith) (rw (f .takes, ← p .if4 .left) (sym (run-end operand _ _ _ (l .inv .1) (c .loop-test .left))))
+    (a .at)
+    (f .is ∙ ap (λ n. ok (q .before .fast-lookup .result / 4) (a .at + 4 + n + 4)) (sym (sized q .four .ensures)))
 
 pub fast-end-spec : {M : Type 1} → statement M
 fast-end-spec =
@@ -74,20 +68,21 @@ fast-end-spec =
     (tie.spec
     Inv-loop
     μ-loop
-    returns
+    (λ c h. absurd (omega arith))
     (λ c. search needs)
-    returns-2
+    (λ c h. absurd (omega arith))
     (λ c. search needs)
     (λ c κs. search needs)
     (λ c κs. search needs)
-    returns-3
-    add-b
-    four-requires-2
-    returns-4
-    add-o
+    (λ c κs. search needs)
+    (λ c h. absurd (omega arith))
+    (λ c. omega (arith, known c .short))
+    (λ c κs. omega (arith, known c .short))
+    (λ c h. absurd (omega arith))
+    (λ c. omega (arith, known (counted c) .short))
     loop-holds
-    fast-operand-requires
-    returns-5
+    (λ c κs. omega arith)
+    (λ c h. absurd (omega (arith, c .if5 .taken)))
     (λ c. search needs)
     (λ c. search needs)
     loop-again

@@ -9,37 +9,29 @@ use Rattle.op.proofs.fast_lookup.Statement.{statement}
 use Rattle.op.proofs.fast_lookup.Tie as tie
 
 -- The way through the code, each place from the next.
-abbrev entered : tie.Else2 → tie.After-shared-slice-known
-entered c = c .before .before
-
-abbrev measured : tie.After-low → tie.Else2
-measured c = c .before .before
+abbrev measured : tie.After-low → tie.Start
+measured c = c .before .before .before
 
 abbrev hashed : tie.Then3 → tie.After-low
 hashed c = c .before .before .before
 
-abbrev start : tie.After-low → tie.Start
-start c = entered (measured c) .before
-
 -- What is known there: the lowest n bytes, which are at most 6.
-short : (c : tie.After-low) → start c .args .n ≤ 6
+short : (c : tie.After-low) → measured c .args .n ≤ 6
 short c = omega arith
 
-cut : (c : tie.After-low) → c .low .result ≡ le 8 (start c .args .s .now) (start c .args .at) % 2 ^ (8 * start c .args .n)
-cut c = c .low .ensures ∙ ap (λ v. v % 2 ^ (8 * start c .args .n)) (c .before .eight .ensures)
-
 small : (c : tie.After-low) → c .low .result < 2 ^ 48
-small c = omega (arith, c .low .ensures, low-below (c .before .eight .result) (start c .args .n) (short c))
+small c = omega (arith, c .low .ensures, low-below (measured c .args .word) (measured c .args .n) (short c))
 
 mul-hash : tie.Need-mul-hash
-mul-hash c = record { fits = hash-fits (c .low .result + 281474976710656 * start c .args .n) (omega (arith, small c, short c)) }
+mul-hash c = record { fits = hash-fits (c .low .result + 281474976710656 * measured c .args .n) (omega (arith, small c, short c)) }
 
 returns-3 : tie.Need-returns-3
-returns-3 c h =
+returns-3 c h s o b l e =
     let g = hashed c in
-    let s = start g in
+    let a = measured g .args in
     let r = c .before .before .slot-of in
-    known _ _ (s .args .n) (r .result) (r .ensures) (entered (measured g) .shared-slice-known .given) (s .pre) (short g) (omega (arith, cut g))
+    let cut : g .low .result ≡ le 8 s o % 2 ^ (8 * a .n) = g .low .ensures ∙ ap (λ v. v % 2 ^ (8 * a .n)) e in
+    known s o (a .n) (r .result) (r .ensures) b l (short g) (omega (arith, cut))
 
 pub fast-lookup-spec : {M : Type 1} → statement M
 fast-lookup-spec =
@@ -47,7 +39,6 @@ fast-lookup-spec =
     (tie.spec
     (λ c h. absurd (omega arith))
     (λ c h. absurd (omega arith))
-    (λ c κs. search needs)
     (λ c κs. search needs)
     (λ c. search needs)
     (λ c. omega (arith, small c, short c))
