@@ -117,13 +117,14 @@ typedef struct {
  * Each call reads one part of a routine, at an offset of a file or of an image that
  * lies in memory, and answers it by value with the offset after it. No book is
  * needed and nothing else is lent. A part with lists answers for each list where
- * its first element begins and how many there are; the elements stand one after the
- * other, each beginning where the one before it ends.
+ * its first element begins (of an empty list, the offset after its count) and how
+ * many elements there are; they stand one after the other, each beginning where the
+ * one before it ends.
  *
  * The file need not be a routine: `at` may be any number, and a part is read
- * wherever its bytes make sense. vtil_read_routine alone says that a whole file is
- * well formed, exactly as vtil_check does. So all instructions of a file, in one
- * pass after it:
+ * wherever its layout accepts the bytes. vtil_read_routine alone says that a whole
+ * file is well formed, as vtil_check does. So all instructions of a file, in time
+ * that grows with its length:
  *
  *     vtil_routine_read routine = vtil_read_routine(file, file_len);
  *     if (routine.refusal != 0)
@@ -142,30 +143,36 @@ typedef struct {
  *
  * After an accepted vtil_read_routine no call in this loop is refused, as long as
  * nobody changes the bytes. The written form in a book's image is read the same way:
- * hand in the image and its `written` bytes.
+ * hand in the image, with the book's `written` as the length.
+ *
+ * Of the conventions vtil_read_routine answers where the routine's begins. The
+ * subroutine's begins where that one ends, and the special ones four bytes, their
+ * count, after the end of the subroutine's.
  *
  * Of every call here:
- *   file      the first byte, or NULL when file_len is 0. It is only read.
+ *   file      the first byte. It may be NULL when file_len is 0. It is only read.
+ *   file_len  the number of bytes at `file`, all of them readable. There is no limit.
  *   at        where the part begins, from 0.
- * Refusals: 1 to 8, the first field that fails in the order of the file, as in a
- * file; 1 when `at` is past the end. vtil_read_routine, which reads at 0, can also
- * be refused 9, where no field fails. In a refused answer every field but the
- * refusal is 0, also those of a struct within it. A part's time grows with its
- * bytes; that of the routine is vtil_check's.
+ * The refusal is that of the first field that fails in the order of the file; where
+ * `at` is past the end it is 1. Each call below says which it can give. In a refused
+ * answer every field but the refusal is 0, also those of a struct within it. A part's
+ * time grows with its bytes; that of the routine is vtil_check's.
  */
+
+/* Refusals: 1 to 8; then 9, where no field fails. */
 typedef struct {
     uint64_t refusal;
     uint64_t end;              /* the offset after the routine: what vtil_check answers */
     uint64_t arch_id;          /* the machine: 0 Amd64, 1 Arm64, 2 Virtual */
     uint64_t vip;              /* the entry vip */
-    uint64_t conventions_at;   /* where the routine's convention begins; the subroutine's follows, then
-                                  four bytes, the count of the special ones, and then these */
+    uint64_t conventions_at;   /* where the routine's convention begins */
     uint64_t spec_conventions; /* how many special conventions there are */
     uint64_t blocks_at, blocks;
 } vtil_routine_read;
 
 vtil_routine_read vtil_read_routine(const uint8_t *file, size_t file_len);
 
+/* Refusals: 1, 5. */
 typedef struct {
     uint64_t refusal, end;
     vtil_register_desc frame_register;
@@ -178,7 +185,7 @@ typedef struct {
 
 vtil_convention_read vtil_read_convention(const uint8_t *file, size_t file_len, uint64_t at);
 
-/* an element of a convention's three lists */
+/* An element of a convention's three lists. Refusals: 1, 5. */
 typedef struct {
     uint64_t refusal, end;
     vtil_register_desc register_desc;
@@ -186,6 +193,7 @@ typedef struct {
 
 vtil_register_read vtil_read_register(const uint8_t *file, size_t file_len, uint64_t at);
 
+/* Refusals: 1, 2, 5 to 8. */
 typedef struct {
     uint64_t refusal, end;
     uint64_t vip;
@@ -198,6 +206,7 @@ typedef struct {
 
 vtil_block_read vtil_read_block(const uint8_t *file, size_t file_len, uint64_t at);
 
+/* Refusals: 1, 2, 5 to 8. */
 typedef struct {
     uint64_t refusal, end;
     vtil_instruction_desc instruction;
@@ -205,7 +214,7 @@ typedef struct {
 
 vtil_instruction_read vtil_read_instruction(const uint8_t *file, size_t file_len, uint64_t at);
 
-/* an element of a block's lists of vips */
+/* An element of a block's lists of vips. Refusal: 1. */
 typedef struct {
     uint64_t refusal, end;
     uint64_t vip;

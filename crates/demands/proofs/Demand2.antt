@@ -13,7 +13,7 @@ use Rattle.pod.specs.Written.{bytes, immediate-bytes}
 use Rattle.laws.specs.Normal.{normalise, routine-roles}
 use Rattle.laws.proofs.Layouts.{routine-layout, read-holds, read-to, read-within, read-normal, read-back, injective}
 use Rattle.laws.proofs.Sizes.{header-size, register-size, operand-imm-size, operand-reg-size, instruction-size, convention-size, block-least, routine-least}
-use Rattle.pread.proofs.Whole.{routine-is}
+use Rattle.pread.proofs.Whole.{convention-is, block-is, routine-is}
 use Rattle.demands.specs.Demand2.{Says, Sizes, Demand-2}
 
 says : (file : List ℕ) (r : Routine) (n : ℕ) → Bytes file → read-file file ≡ ok r n → Says file r n
@@ -50,5 +50,7 @@ demand-2 =
       reading = says;
       writing = λ r rest h. read-back routine-layout r rest h;
       by-offset = λ file b. routine-is file b 0;
+      convention-by-offset = λ s o b. convention-is s b o;
+      block-by-offset = λ s o b. block-is s b o;
       one-form = λ r q h g. injective routine-layout r q h g;
     }

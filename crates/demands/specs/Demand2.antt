@@ -1,7 +1,7 @@
 -- Demand 2, of the definitions: the layouts have document 01's sizes; what a file says has one written form, as long as the bytes that were read and equal
--- to them but for pad and flags; the written form says the same routine again, whatever stands after it; the calls that read by offset, each at the offset
--- that an answer before it gave, put together what the file says; and no two routines share a written form. That the layouts are the Rust's is compared,
--- routine by routine, by oracle/.
+-- to them but for pad and flags; the written form says the same routine again, whatever stands after it; the calls that read by offset, each where an answer
+-- before it says, put together what the file says; and no two routines share a written form. That the layouts are the Rust's is compared, routine by routine,
+-- by oracle/.
 use Prim.Native.Nat.{ℕ, _+_, _*_, _≤_}
 use mathlib.Core.Path.{_≡_}
 use mathlib.Core.List.{List, [], _++_}
@@ -12,14 +12,14 @@ use Rattle.fields.specs.Parse.{ok}
 use Rattle.fields.specs.Bytes.{Bytes}
 use Rattle.op.specs.Ops.{names}
 use Rattle.pod.specs.Values.{Instruction, RoutineConvention, BasicBlock, Routine}
-use Rattle.pod.specs.Layout.{read-file}
+use Rattle.pod.specs.Layout.{convention, block, read-file}
 use Rattle.pod.specs.Written.{many-bytes, header-bytes, register-bytes, immediate-bytes, operand-bytes, instruction-bytes, convention-bytes, block-bytes, routine-bytes}
 use Rattle.pod.specs.declared.RegisterDesc.{RegisterDesc}
 use Rattle.pod.specs.declared.ImmediateDesc.{ImmediateDesc}
 use Rattle.pod.specs.declared.Operand.the-variants.{Imm, Reg}
 use Rattle.laws.specs.Holds.{Routine-holds}
 use Rattle.laws.specs.Normal.{normalise, routine-roles}
-use Rattle.pread.specs.Assembled.{routine-at}
+use Rattle.pread.specs.Assembled.{convention-at, block-at, routine-at}
 
 -- a file that says r in its first n bytes
 pub record Says (file : List ℕ) (r : Routine) (n : ℕ) : Type 0 where
@@ -50,4 +50,7 @@ pub record Demand-2 : Type 0 where
   pub reading : (file : List ℕ) (r : Routine) (n : ℕ) → Bytes file → read-file file ≡ ok r n → Says file r n
   pub writing : (r : Routine) (rest : List ℕ) → Routine-holds r → read-file (routine-bytes r ++ rest) ≡ ok r (size r)
   pub by-offset : (file : List ℕ) → Bytes file → routine-at file 0 ≡ what-is-read (read-file file)
+  -- and of a part with lists that is read by itself, at any offset of any bytes
+  pub convention-by-offset : (s : List ℕ) (o : ℕ) → Bytes s → convention-at s o ≡ what-is-read (convention s o)
+  pub block-by-offset : (s : List ℕ) (o : ℕ) → Bytes s → block-at s o ≡ what-is-read (block s o)
   pub one-form : (r q : Routine) → Routine-holds r → Routine-holds q → routine-bytes r ≡ routine-bytes q → r ≡ q

@@ -121,7 +121,8 @@ fn operands_run(s: &[u8], at: usize, count: u32) -> Skip
 }
 
 // The offset past the instruction at `at`, or 0 where this does not tell: near the end of the file, and where it is refused. It has the tests of
-// `fast_code` a second time: the walk over a file spends its time here, and that call would cost it a third more.
+// `fast_code` a second time: the walk over a file spends its time here, and shared they slow it by a tenth and more. The loop goes by the count in the
+// file, which is at hand before the table's.
 fn fast_end(s: &[u8], at: usize) -> usize
     ensures { λ r. ⌜ (0 < r → span (instruction (now (s .entry)) at) ≡ ok tt r) ⌝ }
 {

@@ -1,4 +1,4 @@
-pub mod Counted
 pub mod Reaches
+pub mod Listing
 pub mod InBlock
 pub mod InConvention

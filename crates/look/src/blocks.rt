@@ -1,14 +1,15 @@
 // Looking at a block, and at its instructions and vips.
 ghost use mathlib.Core.Path.{_≡_};
-ghost use Prim.Native.Nat.{_+_, _≤_};
-ghost use lib.ListN.{length};
-ghost use Rattle.fields.specs.Outcome.{accepted};
+ghost use Prim.Native.Nat.{ℕ};
+ghost use Rattle.fields.specs.Parse.{ok, u64};
 ghost use Rattle.pod.specs.Values.{BasicBlock};
-ghost use Rattle.machine.specs.Look.{look-block, look-instruction, look-vip};
+ghost use Rattle.pod.specs.Layout.{block};
+ghost use Rattle.machine.specs.Look.{look-block, look-instruction, vip-list, look-vip};
 ghost use Rattle.book.specs.Says.{state};
 ghost use Rattle.look.specs.Answers.{block-look, instruction-look, vip-look, no-block, no-instruction, no-vip};
-ghost use Rattle.look.specs.Reached.{Stands-block, Reaches-block, Vips-of};
+ghost use Rattle.look.specs.Reached.{Reaches, Lists};
 use crate::BlockLook;
+use crate::Elements;
 use crate::InstructionLook;
 use crate::Reached;
 use crate::VipLook;
@@ -17,7 +18,7 @@ use pod::Vip;
 
 // The block at a place: where it stands, or why there is none to look at.
 fn reach_block(book: Book, image: &[u8], journal: &[u8], place: u64) -> Reached
-    ensures { λ r. ⌜ Reaches-block (state (now (image .entry)) (now (journal .entry)) book) place r ⌝ }
+    ensures { λ r. ⌜ Reaches block (now (image .entry)) (look-block place (state (now (image .entry)) (now (journal .entry)) book)) r ⌝ }
 {
     let refusal = image::inspect(book, image, journal);
     if refusal != 0 {
@@ -29,32 +30,6 @@ fn reach_block(book: Book, image: &[u8], journal: &[u8], place: u64) -> Reached
     }
     let at = ends::blocks_end(image, blocks.start, place as usize);
     Reached { refusal: 0, at }
-}
-
-// The numbers and counts of the block at offset `at`.
-fn block_there(image: &[u8], at: usize) -> BlockLook
-    requires { ⌜ at + 28 ≤ length (now image) ⌝ }
-    ensures { λ r. ⌜ ((b : BasicBlock) → Stands-block (now (image .entry)) at b → r ≡ block-look (accepted b)) ⌝ }
-{
-    let vip = Vip(ends::word64(image, at));
-    let sp_offset = fields::signed64(ends::word64(image, at + ends::SP_OFFSET_AT));
-    let sp_index = ends::word32(image, at + ends::SP_INDEX_AT);
-    let last_temporary_index = ends::word32(image, at + ends::LAST_TEMPORARY_AT);
-    let instructions = ends::word32(image, at + ends::BLOCK_HEAD_SIZE);
-    let prev = ends::instructions_end(image, at + ends::INSTRUCTIONS_AT, instructions);
-    let prev_vips = ends::word32(image, prev);
-    let next = ends::vips_end(image, prev);
-    let next_vips = ends::word32(image, next);
-    BlockLook {
-        refusal: 0,
-        vip,
-        sp_offset,
-        sp_index,
-        last_temporary_index,
-        instructions: instructions as u64,
-        prev_vips: prev_vips as u64,
-        next_vips: next_vips as u64,
-    }
 }
 
 // A refusal, and zeros.
@@ -81,7 +56,18 @@ pub fn look_block(book: Book, image: &[u8], journal: &[u8], place: u64) -> Block
     if b.refusal != 0 {
         return no_block(b.refusal);
     }
-    block_there(image, b.at)
+    let block = pread::block_at(image, b.at);
+    let vip = block.vip;
+    BlockLook {
+        refusal: 0,
+        vip,
+        sp_offset: block.sp_offset,
+        sp_index: block.sp_index,
+        last_temporary_index: block.last_temporary_index,
+        instructions: block.instructions,
+        prev_vips: block.prev_vips,
+        next_vips: block.next_vips,
+    }
 }
 
 // A refusal, and zeros.
@@ -116,7 +102,7 @@ pub fn look_instruction(
         return no_instruction(book::NO_SUCH_BLOCK);
     }
     let at = ends::instructions_end(image, start + ends::INSTRUCTIONS_AT, place as u32);
-    let found = value::instruction_at(image, at);
+    let found = value::instruction_by_fields(image, at);
     let instruction = found.instruction;
     InstructionLook {
         refusal: 0,
@@ -124,32 +110,27 @@ pub fn look_instruction(
     }
 }
 
-// A list of vips of the block that was reached: 0 prev, 1 next.
-fn reach_vips(image: &[u8], block: Reached, list: u64) -> Reached
-    requires { ⌜ (block .refusal ≡ 0 → block .at + 28 ≤ length (now image)) ⌝ }
-    ensures { λ r. ⌜ Vips-of (now (image .entry)) block list r ⌝ }
+// A list of vips of the block that stands at `at`: 0 prev, 1 next.
+fn vips_of(image: &[u8], at: usize, list: u64) -> Elements
+    ensures { λ r. ⌜ ((b : BasicBlock) (n : ℕ) → block (now (image .entry)) at ≡ ok b n → Lists u64 (now (image .entry)) (vip-list list b) r) ⌝ }
 {
-    if block.refusal != 0 {
-        return block;
-    }
-    if 1 < list {
-        return crate::NOWHERE;
-    }
-    let at = block.at;
-    let count = ends::word32(image, at + ends::BLOCK_HEAD_SIZE);
-    let prev = ends::instructions_end(image, at + ends::INSTRUCTIONS_AT, count);
+    let block = pread::block_at(image, at);
     if list == 0 {
-        return Reached {
-            refusal: 0,
-            at: prev,
+        return Elements {
+            first: block.prev_at,
+            count: block.prev_vips,
         };
     }
-    Reached {
-        refusal: 0,
-        at: ends::vips_end(image, prev),
+    if list == 1 {
+        return Elements {
+            first: block.next_at,
+            count: block.next_vips,
+        };
     }
+    crate::NO_ELEMENTS
 }
 
+// A refusal, and zeros.
 fn no_vip(refusal: u64) -> VipLook
     ensures { λ r. ⌜ r ≡ no-vip refusal ⌝ }
 {
@@ -171,11 +152,14 @@ pub fn look_vip(
     ensures { λ r. ⌜ r ≡ vip-look (look-vip block list place (state (now (image .entry)) (now (journal .entry)) book)) ⌝ }
 {
     let b = reach_block(book, image, journal, block);
-    let vips = reach_vips(image, b, list);
-    let v = crate::reach_element(image, vips, ends::VIP_SIZE, place);
-    if v.refusal != 0 {
-        return no_vip(v.refusal);
+    if b.refusal != 0 {
+        return no_vip(b.refusal);
     }
-    let vip = Vip(ends::word64(image, v.at));
+    let vips = vips_of(image, b.at, list);
+    if vips.count <= place {
+        return no_vip(book::NO_SUCH_BLOCK);
+    }
+    let found = pread::vip_at(image, vips.first + ends::VIP_SIZE * (place as usize));
+    let vip = found.vip;
     VipLook { refusal: 0, vip }
 }

@@ -5,11 +5,9 @@ pub mod blocks;
 pub mod conventions;
 
 ghost use mathlib.Core.Path.{_≡_};
-ghost use Prim.Native.Nat.{_≤_};
 ghost use Rattle.machine.specs.Look.{look-routine};
 ghost use Rattle.book.specs.Says.{state};
 ghost use Rattle.look.specs.Answers.{routine-look};
-ghost use Rattle.look.specs.Reached.{Steps};
 use book::Book;
 use pod::InstructionDesc;
 use pod::RegisterDesc;
@@ -74,11 +72,20 @@ struct Reached {
     pub at: usize,
 }
 
-// There is nothing at the place, or no such list.
+// There is nothing at the place.
 const NOWHERE: Reached = Reached {
     refusal: book::NO_SUCH_BLOCK,
     at: 0,
 };
+
+// A list of vips or registers: where its first element begins, and how many there are.
+struct Elements {
+    pub first: usize,
+    pub count: u64,
+}
+
+// There is no such list.
+const NO_ELEMENTS: Elements = Elements { first: 0, count: 0 };
 
 // At the routine.
 pub fn look_routine(book: Book, image: &[u8], journal: &[u8]) -> RoutineLook
@@ -104,24 +111,5 @@ pub fn look_routine(book: Book, image: &[u8], journal: &[u8]) -> RoutineLook
         vip,
         spec_conventions: spec_conventions as u64,
         blocks: blocks.count as u64,
-    }
-}
-
-// The element at a place of the counted list that was reached, each of whose elements has `size` bytes.
-fn reach_element(image: &[u8], list: Reached, size: usize, place: u64) -> Reached
-    requires { ⌜ size ≤ 24 ⌝ }
-    ensures { λ r. ⌜ Steps (now (image .entry)) list size place r ⌝ }
-{
-    if list.refusal != 0 {
-        return list;
-    }
-    let count = ends::word32(image, list.at);
-    if (count as u64) <= place {
-        return NOWHERE;
-    }
-    let first = ends::jump(image, list.at, ends::COUNT_SIZE);
-    Reached {
-        refusal: 0,
-        at: ends::jump(image, first, size * (place as usize)),
     }
 }

@@ -28,7 +28,7 @@ use Rattle.ends.specs.Ends.{word}
 use Rattle.ends.proofs.Steps.{value, word-is}
 use Rattle.pread.specs.Answers.{param-list, retval-list, instruction-list, prev-list, next-list, first-convention, block-list}
 
--- two names of one answer
+-- what holds of an answer, by its other name
 carried : {A : Type 0} (P : A → ℕ → Type 0) {a b : A} {m n : ℕ} → ok a m ≡ ok b n → P a m → P b n
 carried P e h = rw (inv-ok e .0, inv-ok e .1) at h
 

@@ -1,5 +1,6 @@
 -- What a call that reads by offset answers, by the offset and what the layout says there: refusal 0, the offset past the part, its fields, and of each
--- list where its first element begins and how many there are; or the refusal's number and zeros. Purge is 1 or 0.
+-- list the offset past its count and how many elements there are; or the refusal's number and zeros. Of the special conventions only how many there are is
+-- answered: they stand after the subroutine's convention and their count. Purge is 1 or 0.
 use Prim.Native.Nat.{ℕ, _+_}
 use lib.ListN.{length}
 use lib.IntN.{pos}

@@ -1,6 +1,6 @@
--- A routine put together by the calls that read by offset alone: each part is read at the offset that an answer before it gives, and of each list as many
--- elements as its count says, each where the one before it ends. A refusal of any call is handed on. That each of these is what the layout says there, and
--- the whole what the file says, is demand 2's `by-offset`.
+-- A routine put together by the calls that read by offset alone: each part is read where an answer before it says, and of each list as many elements as
+-- its count says, each where the one before it ends. A refusal of any call is handed on. That what is put together is what the layout says, of a routine,
+-- a block and a convention, is claimed by demand 2 (`by-offset`, `block-by-offset`, `convention-by-offset`).
 use Prim.Native.Nat.{ℕ, zero, suc}
 use mathlib.Core.Bool.{not}
 use mathlib.Core.List.{List, [], _∷_}

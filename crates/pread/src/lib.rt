@@ -1,5 +1,5 @@
-// Reading by offset, as scroll's `pread`: a part of a routine at any offset of any bytes, by value, with the offset past it, and of each list where its
-// first element begins and how many there are. A part is accepted and refused as in a file; with a refusal the other fields of an answer are 0. An
+// Reading by offset, as scroll's `pread`: a part of a routine at any offset of any bytes, by value, with the offset past it, and of each list the offset
+// past its count and how many elements there are. A part is accepted and refused as in a file; with a refusal the other fields of an answer are 0. An
 // instruction is read by value::instruction_at.
 ghost use mathlib.Core.Path.{_≡_};
 ghost use Prim.Native.Nat.{ℕ, _+_, _≤_, _<_};

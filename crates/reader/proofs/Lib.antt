@@ -1,2 +1,4 @@
 pub mod Thin
 pub mod Entry
+pub mod Gread
+pub mod Lent

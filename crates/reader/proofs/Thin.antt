@@ -1,5 +1,5 @@
--- The law of a thin function, `{ f(r.src, r.at) }` of a `Reader` r: where f, of a slice and an offset, promises P of the bytes, the offset and its
--- answer, so does the thin function. What differs between such functions is the callee's name, the type of the answer and P: the law is a walk of
+-- The law of a thin function, `{ f(r.src, r.at) }` of a `Reader` r by value: where f, of a slice and an offset, promises P of the bytes, the offset and
+-- its answer, so does the thin function. What differs between such functions is the callee's name, the type of the answer and P: the law is a walk of
 -- their common MIR, made once, and each function is an instance of it by computation.
 -- The struct is Copy, so what it owns is had twice: one copy stays whole for the exit, and of the other what `src` owns goes to the callee with the
 -- lifetime's token, which comes back.

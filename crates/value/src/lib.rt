@@ -188,8 +188,8 @@ pub fn refused(e: u8) -> InstructionRead
     }
 }
 
-// The instruction at `at`, field by field.
-fn instruction_by_fields(s: &[u8], at: usize) -> InstructionRead
+// The instruction at `at`, field by field. It is pub for a look at one instruction, which spends its time elsewhere.
+pub fn instruction_by_fields(s: &[u8], at: usize) -> InstructionRead
     ensures { λ r. ⌜ r ≡ instruction-read (instruction (now (s .entry)) at) ⌝ }
 {
     let op = instruction::op_at(s, at);
@@ -321,7 +321,8 @@ fn fast_tail(s: &[u8], at: usize) -> Tail
     }
 }
 
-// The instruction at `at`: the fast way, or else, near the end of the file and where something is refused, field by field.
+// The instruction at `at`: the fast way, or else, near the end of the file and where something is refused, field by field. It should have one caller
+// only: then it is compiled into that one, and its large answer is not copied.
 pub fn instruction_at(s: &[u8], at: usize) -> InstructionRead
     ensures { λ r. ⌜ r ≡ instruction-read (instruction (now (s .entry)) at) ⌝ }
 {

@@ -58,8 +58,8 @@ returns-6 c h =
     let q = counted p in
     let a = start q .args in
     let f = here p in
-    fast-ok (a .s .now) (q .before .fast-lookup .result / 4) (a .at + 4 + sized q .four .result + 4) (l .o) (omega arith) (rw (f .takes, ← p .if4 .left) (sym (run-end operand _ _ _ (l .inv .1) (c .loop-test .left))))
-    (a .at)
+    fast-ok (a .s .now) (q .before .fast-lookup .result / 4) (a .at + 4 + sized q .four .result + 4) (l .o) (omega arith)
+    (rw (f .takes, ← p .if4 .left) (sym (run-end operand _ _ _ (l .inv .1) (c .loop-test .left)))) (a .at)
     (f .is ∙ ap (λ n. ok (q .before .fast-lookup .result / 4) (a .at + 4 + n + 4)) (sym (sized q .four .ensures)))
 
 pub fast-end-spec : {M : Type 1} → statement M

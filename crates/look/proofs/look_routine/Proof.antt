@@ -1,5 +1,5 @@
 -- A refusal is the inspection's; else each number is what stands in the image.
-use mathlib.Core.Path.{_≡_, _∙_}
+use mathlib.Core.Path.{_≡_, sym, ap, _∙_}
 use mathlib.Core.List.{[]}
 use Prim.Native.Nat.{ℕ, _%_, _<_}
 use native.Mathlib.Omega.{arith}
@@ -10,10 +10,9 @@ use Rattle.laws.proofs.Back.{length-bytes}
 use Rattle.machine.specs.Book.{State, held}
 use Rattle.book.specs.Says.{state}
 use Rattle.ends.specs.Ends.{word}
-use Rattle.image.proofs.Inspects.{Ready, ready}
+use Rattle.image.proofs.Inspects.{Ready, ready, refused-by}
 use Rattle.image.proofs.Stands.{word-at, machine-at, entry-at}
 use Rattle.look.specs.Answers.{routine-look}
-use Rattle.look.proofs.Reaches.{handed-on}
 use borrow.Author.Needs.{needs}
 use Rattle.look.proofs.look_routine.Statement.{statement}
 use Rattle.look.proofs.look_routine.Tie as tie
@@ -55,7 +54,7 @@ inspected c = ready _ (lending (c .before) .shared-slice-known .given) (c .befor
 
 returns : tie.Need-returns
 unfolding routine-look
-returns c = handed-on _ routine-look (c .before .inspect .ensures) (omega (arith, c .if1 .taken))
+returns c = ap routine-look (sym (refused-by _ (c .before .inspect .ensures) (λ z. omega (arith, c .if1 .taken))))
 
 returns-2 : tie.Need-returns-2
 returns-2 c =

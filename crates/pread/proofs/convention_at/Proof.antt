@@ -37,8 +37,9 @@ returns-2 : tie.Need-returns-2
 unfolding convention-read
 returns-2 c =
     let told = c .before .before in
+    let walk = told .before .before .convention-skip in
     c .no-convention .ensures
-    ∙ ap (convention-read _) (sym (refuses convention convention-bytes _ _ (ap of-walked (told .enum-told .given .1)) (told .before .before .convention-skip .ensures) (c .before .walked-refusal .ensures)))
+    ∙ ap (convention-read _) (sym (refuses convention convention-bytes _ _ (ap of-walked (told .enum-told .given .1)) (walk .ensures) (c .before .walked-refusal .ensures)))
 
 pub convention-at-spec : {M : Type 1} → statement M
 convention-at-spec =

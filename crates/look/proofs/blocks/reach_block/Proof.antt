@@ -1,13 +1,18 @@
 -- 10 and 13 by the inspection, then 15 by the number of blocks; and the walk to the place.
-use mathlib.Core.Path.{refl, sym}
+use mathlib.Core.Path.{refl, ap, _∙_}
 use Prim.Native.Nat.{_<_}
 use native.Mathlib.Omega.{arith}
 use lib.ListN.{length}
-use Rattle.machine.specs.Edits.{empty-block}
+use Rattle.fields.specs.Parse.{many}
+use Rattle.pod.specs.Layout.{block}
+use Rattle.pod.specs.Written.{block-bytes}
+use Rattle.laws.proofs.Back.{many-reads}
+use Rattle.laws.proofs.Layouts.{block-layout}
 use Rattle.book.specs.Says.{state}
 use Rattle.image.proofs.Inspects.{Ready, ready}
-use Rattle.image.proofs.Stands.{named, block-found, block-stands, block-holds}
-use Rattle.look.proofs.Reaches.{element-is, element-no, hands-on, finds-none, comes-to}
+use Rattle.image.proofs.Stands.{blocks-at}
+use Rattle.ends.proofs.Same.{block-ends}
+use Rattle.look.proofs.Reaches.{element-no, element-read, hands-on, finds-none, comes-to}
 use borrow.Author.Needs.{needs}
 use Rattle.look.proofs.blocks.reach_block.Statement.{statement}
 use Rattle.look.proofs.blocks.reach_block.Tie as tie
@@ -42,8 +47,9 @@ returns-3 c =
     let r = inspected (inspecting b) in
     let e = b .blocks-of .ensures (r .routine) (r .holding) in
     let h : start (inspecting b .before) .args .place < length (r .routine .explored-blocks) = omega (arith, e .1, c .before .if2 .left) in
-    comes-to _ _ (r .is) (element-is (empty-block 0) _ (r .routine .explored-blocks) h) refl
-    (record { holds = block-holds (r .holding) _ h; at = named (sym (block-found (r .holding) _ (omega arith) (e .0) (c .blocks-end .ensures))) (block-stands (r .holding) _ h) })
+    let bs = r .routine .explored-blocks in
+    let all = ap (many block _ _) (e .0) ∙ many-reads block block-bytes (block-layout .back) _ bs refl (r .holding .holds .blocks .listed .each) _ _ (blocks-at (r .holding)) in
+    comes-to _ _ (r .is) (rw (c .blocks-end .ensures) (element-read block _ _ (λ o b n. block-ends _ o) _ _ bs all h))
 
 pub reach-block-spec : {M : Type 1} → statement M
 reach-block-spec = tie.close (tie.spec (λ c κs. search needs) returns (λ c κs. search needs) (λ c. search needs) returns-2 (λ c κs. search needs) returns-3)

@@ -1,14 +1,18 @@
--- A refusal is that of reaching the convention, its list or the element; else the register is read where it stands.
-use mathlib.Core.Path.{_∙_}
+-- A refusal is that of reaching the convention; then 15 by the number of its registers, 0 of a list that is not there; else the register is read where it
+-- stands.
+use mathlib.Core.Path.{sym, ap, _∙_}
+use Prim.Native.Nat.{ℕ, _+_, _*_, _≤_, _<_}
 use native.Mathlib.Omega.{arith}
-use Rattle.pod.specs.Written.{register-bytes}
-use Rattle.laws.specs.Holds.{Register-holds}
-use Rattle.machine.specs.Look.{look-register}
+use lib.ListN.{length}
+use Rattle.fields.specs.Bytes.{Bytes}
+use Rattle.pod.specs.Layout.{register, convention}
+use Rattle.machine.specs.Look.{look-convention, register-list}
 use Rattle.book.specs.Says.{state}
+use Rattle.pread.specs.Answers.{register-read}
 use Rattle.look.specs.Answers.{register-look}
-use Rattle.look.specs.Reached.{Reaches}
-use Rattle.look.proofs.Counted.{register}
-use Rattle.look.proofs.Reaches.{handed-on, regroup, steps}
+use Rattle.look.specs.Reached.{Standing, Lists}
+use Rattle.look.proofs.Reaches.{refused-on, goes-on}
+use Rattle.look.proofs.Listing.{register-sized, element-past, element-there, element-room}
 use borrow.Author.Needs.{needs}
 use Rattle.look.proofs.conventions.look_register.Statement.{statement}
 use Rattle.look.proofs.conventions.look_register.Tie as tie
@@ -16,32 +20,55 @@ use Rattle.look.proofs.conventions.look_register.Tie as tie
 abbrev start : tie.After-reach-convention → tie.Start
 start c = c .before .before .before
 
-abbrev reaching : tie.After-reach-registers → tie.After-reach-convention
-reaching c = c .before
+abbrev reaching : tie.Else1 → tie.After-reach-convention
+reaching c = c .before .before
 
-abbrev listing : tie.After-reach-element → tie.After-reach-registers
-listing c = c .before
+abbrev place : tie.After-registers-of → ℕ
+place c = start (reaching (c .before)) .args .place
 
-abbrev stepping : tie.After-struct-known → tie.After-reach-element
-stepping c = c .before
+abbrev choosing : tie.Else2 → tie.After-registers-of
+choosing c = c .before .before
 
-reached : (c : tie.After-reach-element)
-    → let a = start (reaching (listing c)) .args in
-    Reaches register-bytes Register-holds (a .image .now) (look-register (a .convention) (a .list) (a .place) (state (a .image .now) (a .journal .now) (a .book)))
-    (c .reach-element .result)
-reached c =
-    let v = listing c in
-    rw regroup at (steps register (v .reach-registers .ensures _ (reaching v .reach-convention .ensures)) (c .reach-element .ensures))
+there : (c : tie.Else1)
+    → let p = reaching c in
+    let a = start p .args in
+    Standing convention (a .image .now) (look-convention (a .convention) (state (a .image .now) (a .journal .now) (a .book))) (p .reach-convention .result .at)
+there c = reaching c .reach-convention .ensures .there (omega (arith, c .if1 .left))
+
+list : (c : tie.After-registers-of) → let a = start (reaching (c .before)) .args in Lists register (a .image .now) (register-list (a .list) (there (c .before) .it)) (c .registers-of .result)
+list c = let t = there (c .before) in c .registers-of .ensures (t .it) (t .end) (t .reads)
+
+known : (c : tie.Else2) → Bytes (start (reaching (choosing c .before)) .args .image .now)
+known c = reaching (choosing c .before) .before .before .shared-slice-known .given
+
+within : (c : tie.Else2) → place (choosing c) < choosing c .registers-of .result .count
+within c = omega (arith, c .if2 .left)
+
+room : (c : tie.Else2) → let n = choosing c in n .registers-of .result .first + 24 * place n + 24 ≤ length (start (reaching (n .before)) .args .image .now)
+room c = element-room (list (choosing c)) _ 24 (register-sized _ (known c)) (within c)
 
 returns : tie.Need-returns
 unfolding register-look
-returns c = c .no-register .ensures ∙ handed-on _ register-look (reached (stepping (c .before .before)) .refusal) (omega (arith, c .before .if1 .taken))
+returns c =
+    let p = c .before .before .before in
+    c .no-register .ensures ∙ ap register-look (sym (refused-on _ _ (p .reach-convention .ensures .refuses (omega (arith, c .before .if1 .taken)))))
 
 returns-2 : tie.Need-returns-2
 unfolding register-look
 returns-2 c =
-    let t = reached (stepping (c .before .before)) .there (omega (arith, c .before .if1 .left)) in
-    rw (c .register-there .ensures _ (t .stands), t .is)
+    let n = c .before .before .before in
+    c .no-register2 .ensures ∙ ap register-look (sym (goes-on _ _ (there (n .before) .is) ∙ element-past (list n) (place n) (omega (arith, c .before .if2 .taken))))
+
+returns-3 : tie.Need-returns-3
+unfolding register-look register-read
+returns-3 c =
+    let d = c .before .before .before in
+    let n = choosing d in
+    let t = element-there (list n) _ 24 (register-sized _ (known d)) (within d) in
+    rw (c .before .register-at .ensures, t .reads) (ap register-look (sym (goes-on _ _ (there (n .before) .is) ∙ t .is)))
 
 pub look-register-spec : {M : Type 1} → statement M
-look-register-spec = tie.close (tie.spec (λ c κs. search needs) (λ c κs. search needs) (λ c κs. search needs) (λ c κs. search needs) returns (λ c κs. search needs) returns-2)
+look-register-spec =
+    tie.close
+    (tie.spec (λ c κs. search needs) (λ c κs. search needs) returns (λ c κs. search needs) (λ c κs. search needs) returns-2 (λ c. omega (arith, room c)) (λ c. omega (arith, room (c .before)))
+    (λ c κs. search needs) returns-3)

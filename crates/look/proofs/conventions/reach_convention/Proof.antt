@@ -1,12 +1,11 @@
 -- 10 and 13 by the inspection, then 15 by the number of conventions; and the walk to the place.
-use mathlib.Core.Path.{refl}
 use Prim.Native.Nat.{_<_}
 use native.Mathlib.Omega.{arith}
 use lib.ListN.{length}
 use Rattle.machine.specs.Look.{conventions}
 use Rattle.book.specs.Says.{state}
 use Rattle.image.proofs.Inspects.{Ready, ready}
-use Rattle.look.proofs.Reaches.{element-is, element-no, hands-on, finds-none, comes-to}
+use Rattle.look.proofs.Reaches.{element-no, hands-on, finds-none, comes-to}
 use Rattle.look.proofs.InConvention.{convention-stands}
 use borrow.Author.Needs.{needs}
 use Rattle.look.proofs.conventions.reach_convention.Statement.{statement}
@@ -37,8 +36,7 @@ returns-3 c =
     let n = c .before .before in
     let r = inspected (inspecting n) in
     let h : start (inspecting n .before) .args .place < length (conventions (r .routine)) = omega (arith, n .special-count .ensures (r .routine) (r .holding), c .before .if2 .left) in
-    comes-to _ _ (r .is) (element-is (r .routine .routine-convention) _ (conventions (r .routine)) h) refl
-    (rw (c .convention-offset .ensures (r .routine) (r .holding) h) (convention-stands (r .holding) _ h))
+    comes-to _ _ (r .is) (rw (c .convention-offset .ensures (r .routine) (r .holding) h) (convention-stands (r .holding) _ h))
 
 pub reach-convention-spec : {M : Type 1} → statement M
 reach-convention-spec =
