@@ -1,14 +1,12 @@
 #!/usr/bin/env bash
-# The tests: those of the repository and those of the C side; then every crate proved from nothing, every
-# edit that the prover must refuse, and every program run. The last line is the verdict.
+# The tests: those of the repository; then every crate proved from nothing, every edit that the prover must refuse, and every
+# program run; then those of the C side, over an archive of what was just proved. The last line is the verdict.
 set -euo pipefail
-here=$(dirname "$0")
-failed=0
-"$here/tests/tests.sh" || failed=1
-"$here/host/tests/tests.sh" || failed=1 # in the caller's folder, from which VTIL_LIB is named
-if [ $failed = 1 ]; then
-    echo "FAILED: some of the tests above; nothing was proved"
-    exit 1
-fi
-cd "$here"
-exec rt ci
+here=$(realpath -- "$(dirname "$0")")
+verdict=$(mktemp)
+trap 'rm -f "$verdict"' EXIT
+
+"$here/tests/tests.sh" || { echo "FAILED: tests of the repository, above; nothing was proved" && exit 1; }
+(cd "$here" && rt ci) | tee "$verdict" # pipefail: the status is that of rt ci
+"$here/host/tests/tests.sh" || { echo "FAILED: tests of the C side, above; what was proved is not in question" && exit 1; }
+tail -n 1 "$verdict"
