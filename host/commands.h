@@ -25,7 +25,9 @@ struct request {
     char **files;
     const char *out;    /* -o; NULL where it was not given */
     const char *script; /* -s; NULL where it was not given */
+    const char *rates;  /* --rates; NULL where it was not given */
     bool json;          /* --json */
+    bool verbose;       /* --verbose */
 };
 
 enum status check_command(const struct request *request);
@@ -33,6 +35,7 @@ enum status show_command(const struct request *request);
 enum status normalize_command(const struct request *request);
 enum status same_command(const struct request *request);
 enum status edit_command(const struct request *request);
+enum status charge_command(const struct request *request);
 
 /* Prints a file's name with control characters as \xNN, so that a line stays one line. */
 void print_name(FILE *to, const char *name);
@@ -43,5 +46,8 @@ void say_bad_line(const char *name, size_t number, const char *problem);
 void say_unwritten(const char *name, const char *problem);
 void say_unsafe(const char *name, const char *problem);
 void say_refused(const char *name, uint64_t refusal);
+
+/* The same of the rate at this place in the word that was given after --rates. */
+void say_bad_rate(const char *rates, int place, const char *problem);
 
 #endif

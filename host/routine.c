@@ -21,7 +21,7 @@ struct command {
     const char *operands;
     const char *does;
     const char *more;    /* the rest of its help; "" where `does` says it all */
-    const char *options; /* which it takes: j for --json, o for -o, s for -s */
+    const char *options; /* which it takes: j for --json, o for -o, r for --rates, s for -s, v for --verbose */
     const char *needed;  /* which of them it can't do without */
     int least, most;     /* how many files */
     enum status (*run)(const struct request *request);
@@ -56,6 +56,18 @@ static const struct command commands[] = {
      "             replaced whole, or left as it was. Without -o nothing is written.\n"
      "Exit status: 0 every line was accepted; 1 the file or some line was refused.\n",
      "os", "s", 1, 1, edit_command},
+    {"charge", "FILE --rates R0,R1,R2,R3,R4,R5 [--verbose | --json]", "print what the routine is charged, in whole cents",
+     "Each instruction costs the rate of its operation's group. The sum over all instructions is\n"
+     "rounded up once to whole cents.\n"
+     "  --rates    the rates in hundredths of a cent, six decimal numbers up to 4294967295:\n"
+     "             R0 of the operations 0 to 3 (mov to ldd), R1 of 4 to 14 (neg to irem),\n"
+     "             R2 of 15 to 25 (popcnt to rol), R3 of 26 to 36 (tg to ifs),\n"
+     "             R4 of 37 to 40 (js to vxcall), R5 of 41 to 48 (nop to vpinwm)\n"
+     "  --verbose  print the instructions and the hundredths of a cent of each group, their sum,\n"
+     "             and the cents last\n"
+     "  --json     print the same as JSON, for programs\n"
+     "Exit status: 0 the charge was printed; 1 the file was refused.\n",
+     "jrv", "r", 1, 1, charge_command},
 };
 
 #define COMMANDS (sizeof commands / sizeof commands[0])
@@ -107,6 +119,13 @@ void say_refused(const char *name, uint64_t refusal)
 {
     begin_complaint(name);
     fprintf(stderr, ": refused %" PRIu64 ": %s\n", refusal, refusal_words((int64_t)refusal));
+}
+
+void say_bad_rate(const char *rates, int place, const char *problem)
+{
+    begin_complaint("--rates ");
+    print_name(stderr, rates);
+    fprintf(stderr, ": R%d %s\n", place, problem);
 }
 
 static const char dash_help[] =
@@ -171,14 +190,32 @@ static char option_letter(const char *word)
         return 'j';
     if (strcmp(word, "-o") == 0)
         return 'o';
+    if (strcmp(word, "--rates") == 0)
+        return 'r';
     if (strcmp(word, "-s") == 0)
         return 's';
+    if (strcmp(word, "--verbose") == 0)
+        return 'v';
     return 0;
+}
+
+/* Where an option without a value is kept; NULL of one that has a value. */
+static bool *option_switch(struct request *request, char letter)
+{
+    switch (letter) {
+    case 'j': return &request->json;
+    case 'v': return &request->verbose;
+    default: return NULL;
+    }
 }
 
 static const char **option_value(struct request *request, char letter)
 {
-    return letter == 'o' ? &request->out : &request->script;
+    switch (letter) {
+    case 'o': return &request->out;
+    case 'r': return &request->rates;
+    default: return &request->script;
+    }
 }
 
 /*
@@ -193,8 +230,9 @@ static bool take_option(const struct command *command, int count, char **words, 
         bad_usage(command, "unknown option (for a file of that name write ./ before it): ", word);
         return false;
     }
-    if (letter == 'j') {
-        request->json = true;
+    bool *given = option_switch(request, letter);
+    if (given != NULL) {
+        *given = true;
         return true;
     }
     const char **value = option_value(request, letter);
@@ -203,7 +241,7 @@ static bool take_option(const struct command *command, int count, char **words, 
         return false;
     }
     if (*at + 1 == count) {
-        bad_usage(command, "no file given after ", word);
+        bad_usage(command, letter == 'r' ? "no rates given after " : "no file given after ", word);
         return false;
     }
     *at += 1;
@@ -223,6 +261,10 @@ static enum status run_request(const struct command *command, const struct reque
         return bad_usage(command, "-o OUT is missing for ", command->name);
     if (strchr(command->needed, 's') != NULL && request->script == NULL)
         return bad_usage(command, "-s SCRIPT is missing for ", command->name);
+    if (strchr(command->needed, 'r') != NULL && request->rates == NULL)
+        return bad_usage(command, "--rates R0,R1,R2,R3,R4,R5 is missing for ", command->name);
+    if (request->json && request->verbose)
+        return bad_usage(command, "--json and --verbose can't both be given to ", command->name);
     if (request->script != NULL && strcmp(request->script, "-") == 0 && strcmp(request->files[0], "-") == 0)
         return bad_usage(command, "FILE and SCRIPT can't both be standard input (-) for ", command->name);
     return command->run(request);
@@ -231,7 +273,7 @@ static enum status run_request(const struct command *command, const struct reque
 /* Runs `command` on the words after its name. The files are gathered at the front of `words`. */
 static enum status run_command(const struct command *command, int count, char **words)
 {
-    struct request request = {0, words, NULL, NULL, false};
+    struct request request = {.files = words};
     bool options = true;
     for (int i = 0; i < count; i++) {
         if (options && strcmp(words[i], "--") == 0) {

@@ -6,7 +6,8 @@
  *
  * The rules behind it are in docs/SPEC.md: sections 2 the refusals, 3 and 4 the
  * files, 5 the writer, 6 the check and reading by offset, 7 opening, 8 every call
- * on a book, 9 looking, 10 the edits, 11 the journal and undo, 13 lists of calls.
+ * on a book, 9 looking and the charge, 10 the edits, 11 the journal and undo, 13
+ * lists of calls.
  *
  * No function allocates memory, writes a file, prints, keeps a pointer after it
  * returns, or has state between calls. So every function may be called from
@@ -222,7 +223,7 @@ typedef struct {
 
 vtil_vip_read vtil_read_vip(const uint8_t *file, size_t file_len, uint64_t at);
 
-/* ==== Books: opening a file, writing an instruction, looking ====================== */
+/* ==== Books: opening a file, writing an instruction, looking, the charge ========== */
 
 /*
  * A routine that is open for looking and editing has three parts, all kept by the
@@ -376,6 +377,32 @@ typedef struct {
 vtil_register_look vtil_convention_register(vtil_book book, const uint8_t *image, size_t image_len,
                                             const uint8_t *journal, size_t journal_len, uint64_t convention,
                                             uint64_t list, uint64_t place);
+
+/*
+ * vtil_charge answers what a routine is billed at. The operations are six groups:
+ * numbers 0 to 3, 4 to 14, 15 to 25, 26 to 36, 37 to 40 and 41 to 48. Every
+ * instruction of every block counts the rate of its operation's group, in hundredths
+ * of a cent; the sum is rounded up once to whole cents. The rates are any numbers.
+ * Image and journal are only read; as every call on a book this one reads the whole
+ * image first, and then once more.
+ *
+ * No sum wraps: what an image can hold comes to less than 2^52 hundredths of a cent.
+ * How many instructions of group g there are is the charge at rate 100 for group g
+ * and 0 for the others.
+ *
+ * Refusals, in this order: 10; 13 when the book is spoiled. The cents are then 0.
+ */
+typedef struct {
+    uint32_t rate[6]; /* hundredths of a cent per instruction, by group */
+} vtil_rates;
+
+typedef struct {
+    uint64_t refusal;
+    uint64_t cents;
+} vtil_charge_look;
+
+vtil_charge_look vtil_charge(vtil_book book, const uint8_t *image, size_t image_len, const uint8_t *journal,
+                             size_t journal_len, vtil_rates rates);
 
 /* ==== Editing ===================================================================== */
 

@@ -743,6 +743,45 @@ vtil_register_look ref_convention_register(const struct ref_book *book, uint64_t
     return look;
 }
 
+/* The charge ------------------------------------------------------------------------------------ */
+
+/* The group of an operation, 0 to 5. */
+static int group_of(uint32_t op)
+{
+    static const uint32_t last_of_group[] = {3, 14, 25, 36, 40, 48};
+    int group = 0;
+    while (op > last_of_group[group])
+        group++;
+    return group;
+}
+
+/* The sum over all instructions, in hundredths of a cent. */
+static uint64_t hundredths(const struct routine *routine, vtil_rates rates)
+{
+    uint64_t sum = 0;
+    for (uint64_t i = 0; i < routine->blocks; i++)
+        for (uint64_t j = 0; j < routine->block[i].count; j++)
+            sum += rates.rate[group_of(routine->block[i].instructions[j].op)];
+    return sum;
+}
+
+/* Whole cents, rounded up. */
+static uint64_t cents(const struct routine *routine, vtil_rates rates)
+{
+    uint64_t sum = hundredths(routine, rates);
+    return sum % 100 == 0 ? sum / 100 : sum / 100 + 1;
+}
+
+vtil_charge_look ref_charge(const struct ref_book *book, vtil_rates rates)
+{
+    struct routine routine;
+    forget();
+    vtil_charge_look look = {.refusal = held(book, &routine)};
+    if (look.refusal == 0)
+        look.cents = cents(&routine, rates);
+    return look;
+}
+
 /* Edits: what they do to a routine, for a book and for the machine -------------------------------- */
 
 #define CREATED 1
@@ -1120,6 +1159,14 @@ vtil_answer ref_machine_step(struct ref_machine *machine, const struct ref_call 
     machine->stack[machine->count++] = (struct earlier){machine->now, entry_of(&after)};
     machine->now = form_of(&after.routine);
     return machine_answer(machine, 0);
+}
+
+uint64_t ref_machine_cents(const struct ref_machine *machine, vtil_rates rates)
+{
+    struct reader r = {.bytes = machine->now.bytes, .len = machine->now.len};
+    forget();
+    struct routine routine = read_routine(&r);
+    return cents(&routine, rates);
 }
 
 void ref_machine_image(const struct ref_machine *machine, uint8_t *image)

@@ -86,6 +86,7 @@ vtil_instruction_look ref_instruction(const struct ref_book *book, uint64_t bloc
 vtil_vip_look ref_block_vip(const struct ref_book *book, uint64_t block, uint64_t list, uint64_t place);
 vtil_convention_look ref_convention(const struct ref_book *book, uint64_t place);
 vtil_register_look ref_convention_register(const struct ref_book *book, uint64_t convention, uint64_t list, uint64_t place);
+vtil_charge_look ref_charge(const struct ref_book *book, vtil_rates rates);
 
 /* The routine machine --------------------------------------------------------------- */
 
@@ -100,6 +101,9 @@ struct ref_machine;
 struct ref_machine *ref_machine_start(const uint8_t *file, size_t len, size_t image_len, size_t journal_len);
 vtil_answer ref_machine_step(struct ref_machine *machine, const struct ref_call *call);
 void ref_machine_free(struct ref_machine *machine);
+
+/* The charge of the machine's routine, in whole cents. */
+uint64_t ref_machine_cents(const struct ref_machine *machine, vtil_rates rates);
 
 /* What image and journal have to hold: the written form and the entries that stand, then zeros, as long as is lent. */
 void ref_machine_image(const struct ref_machine *machine, uint8_t *image);

@@ -35,6 +35,8 @@ fn main() -> ExitCode {
     reading::checks(most_blocks);
     reading::opens(most_blocks);
     reading::looks(most_blocks);
+    reading::charges(most_blocks);
+    reading::charges_of_files(most_blocks);
     by_offset::every_instruction(most_blocks);
     reading::repeated_vips(most_blocks);
     editing::edits();

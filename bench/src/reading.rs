@@ -1,10 +1,12 @@
-//! Reading a file: the check beside from_vec, and opening beside from_vec with into_bytes.
+//! Reading a file: the check beside from_vec, opening beside from_vec with into_bytes, and the charge beside a sum over
+//! what from_vec made.
 
 use crate::clock::{best_of_both, heading, print, time};
 use crate::inputs::{in_order, instructions};
 use oracle::blocks::{Order, ORDERS};
+use oracle::charge::charge;
 use std::time::Duration;
-use vtil::{Book, Lengths};
+use vtil::{Book, Lengths, Rates};
 use vtil_parser::Routine;
 
 fn rust_reads(file: &[u8]) -> Duration {
@@ -104,5 +106,64 @@ pub fn looks(most_blocks: usize) {
         let mut copy = vec![1; file.len()];
         let memcpy = || time(|| std::hint::black_box(&mut copy).copy_from_slice(&file));
         print(name, file.len(), best_of_both(|| library_looks(&book), memcpy));
+    }
+}
+
+/// Six different ones, so that the charge depends on every group.
+const RATES: [u32; 6] = [1, 20, 300, 4_000, 50_000, 600_000];
+
+/// How long a side took, and the cents that it came to.
+type Charged = (Duration, u64);
+
+fn rust_reads_and_charges(file: &[u8]) -> Charged {
+    let mut cents = 0;
+    let took = time(|| {
+        let routine = Routine::from_vec(file).expect("the measured files are accepted");
+        cents = charge(&routine, RATES);
+        routine
+    });
+    (took, cents)
+}
+
+fn library_charges(book: &Book<&mut [u8]>) -> Charged {
+    let mut answer = Ok(0);
+    let took = time(|| answer = book.charge(Rates(RATES)));
+    (took, answer.expect("an opened book has a charge"))
+}
+
+fn library_opens_and_charges(file: &[u8], book: &mut Book<&mut [u8]>) -> Charged {
+    let mut answer = Ok(0);
+    let took = time(|| answer = book.reopen(file).and_then(|()| book.charge(Rates(RATES))));
+    (took, answer.expect("the measured files can be opened"))
+}
+
+/// The time of a side that has to come to the cents that are due.
+fn coming_to(due: u64, (took, cents): Charged) -> Duration {
+    assert_eq!(cents, due, "all sides come to the same charge");
+    took
+}
+
+/// A look reads the image once; the charge reads it once more.
+pub fn charges(most_blocks: usize) {
+    heading("charging a book", "library look", "library charge");
+    for Input { name, file, .. } in inputs(most_blocks) {
+        let (mut image, mut journal) = (vec![1; file.len()], vec![1; 4096]);
+        let book = Book::open(&file, &mut image[..], &mut journal[..]).expect("the measured files can be opened");
+        let (_, due) = rust_reads_and_charges(&file);
+        let charged = || coming_to(due, library_charges(&book));
+        print(name, file.len(), best_of_both(|| library_looks(&book), charged));
+    }
+}
+
+/// The charge from a file's bytes.
+pub fn charges_of_files(most_blocks: usize) {
+    heading("charging a file", "from_vec, summed up", "library open, charge");
+    for Input { name, file, .. } in inputs(most_blocks) {
+        let (mut image, mut journal) = (vec![1; file.len()], vec![1; 4096]);
+        let mut book = Book::resume(Lengths::default(), &mut image[..], &mut journal[..]);
+        let (_, due) = rust_reads_and_charges(&file);
+        let rust = || coming_to(due, rust_reads_and_charges(&file));
+        let library = || coming_to(due, library_opens_and_charges(&file, &mut book));
+        print(name, file.len(), best_of_both(rust, library));
     }
 }

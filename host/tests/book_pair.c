@@ -158,6 +158,41 @@ static void look_register(vtil_book numbers, uint64_t convention, uint64_t list,
     hold_register(image.len, &got.register_desc, &want.register_desc);
 }
 
+static uint32_t any_rate(void)
+{
+    switch (below(4)) {
+    case 0: return 0;
+    case 1: return UINT32_MAX;
+    case 2: return (uint32_t)below(200);
+    default: return (uint32_t)below(UINT32_MAX);
+    }
+}
+
+vtil_rates any_rates(void)
+{
+    vtil_rates rates;
+    for (int i = 0; i < 6; i++)
+        rates.rate[i] = any_rate();
+    return rates;
+}
+
+vtil_charge_look charge_both(vtil_book numbers, vtil_rates rates)
+{
+    twin.numbers = numbers;
+    vtil_charge_look got = vtil_charge(LENT, rates), want = ref_charge(&twin, rates);
+    hold_refusal("charge", got.refusal, want.refusal);
+    hold_number("cents", got.cents, want.cents);
+    hold_bytes();
+    return want;
+}
+
+/* The rates are so far apart that other numbers of instructions in the groups, up to 32 in each, give other cents. */
+static void look_charge(vtil_book numbers)
+{
+    static const vtil_rates rates = {{100, 3300, 108900, 3593700, 118592100, 3913539300}};
+    charge_both(numbers, rates);
+}
+
 void look_once(vtil_book numbers)
 {
     twin.numbers = numbers;
@@ -167,6 +202,7 @@ void look_once(vtil_book numbers)
     look_vip(numbers, 0, below(2), 0);
     look_convention(numbers, 0);
     look_register(numbers, 0, below(3), 0);
+    look_charge(numbers);
 }
 
 void extremes(uint64_t middle, uint64_t out[EXTREMES])
@@ -239,4 +275,5 @@ void look_everywhere(vtil_book numbers)
     for (int i = 0; i < EXTREMES; i++)
         look_at_convention(numbers, odd[i]);
     look_at_odd_lists(numbers);
+    look_charge(numbers);
 }

@@ -47,6 +47,12 @@ void look_everywhere(vtil_book numbers);
 /* Each kind of look once, at the first place. */
 void look_once(vtil_book numbers);
 
+/* Each is 0, a small one, any one or the largest. */
+vtil_rates any_rates(void);
+
+/* The charge at these rates; holds the refusal, the cents and the bytes. Answers what was due. */
+vtil_charge_look charge_both(vtil_book numbers, vtil_rates rates);
+
 /* Places, lengths and vips at the limits of 64 bits and around `middle`. */
 #define EXTREMES 11
 void extremes(uint64_t middle, uint64_t out[EXTREMES]);

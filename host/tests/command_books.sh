@@ -26,13 +26,6 @@ json_bytes() {
     "$routine" normalize "$1" -o "$scratch/written" &&
         "$routine" show --json "$1" | python3 host/tests/json_bytes.py | cmp - "$scratch/written"
 }
-# The keys that the JSON has and the manual does not name.
-unnamed_keys() {
-    local key
-    for key in $("$routine" show --json samples/blocks.vtil | grep -oE '"[a-z_]+":' | tr -d '":' | sort -u); do
-        grep -qE "^\.BR? $key( |$)" docs/routine.1 || echo "$key"
-    done
-}
 show_json() {
     local file
     for file in $(accepted_samples); do
@@ -42,7 +35,7 @@ show_json() {
             skip "show --json $file, read again" "there is no python3"
         fi
     done
-    passes "docs/routine.1 names every key of --json" [ -z "$(unnamed_keys)" ]
+    passes "docs/routine.1 names every key of --json" [ -z "$(unnamed_keys show samples/blocks.vtil)" ]
 }
 
 # long_file KIND: a routine of many blocks, or one with long lists of every kind.

@@ -66,6 +66,18 @@ little_memory() {
     (ulimit -v 65536 && exec "$routine" "$@")
 }
 
+# unnamed_keys COMMAND..: the keys in what `routine COMMAND.. --json` prints that the manual's section on the command does not
+# name; or that there are none.
+unnamed_keys() {
+    local key keys section
+    keys=$("$routine" "$@" --json | grep -oE '"[a-z_]+":' | tr -d '":' | sort -u)
+    section=$(sed -n "/^\.SS $1\$/,/^\.S[SH] /p" docs/routine.1)
+    [ -n "$keys" ] || echo "no key"
+    for key in $keys; do
+        grep -qE "^\.BR? $key( |$)" <<<"$section" || echo "$key"
+    done
+}
+
 # closed_pipe NAME COMMAND..: as expect, for a pipe as standard output whose only reader is gone.
 closed_pipe() {
     local name=$1

@@ -148,6 +148,15 @@ static void make_call(size_t which)
     call->len = instructions[which].len;
 }
 
+/* The machine's routine is charged what the library charges for the book. */
+static void hold_machine_charge(const struct ref_machine *machine, vtil_book numbers)
+{
+    vtil_rates rates = any_rates();
+    vtil_charge_look got = vtil_charge(numbers, image.readable, image.len, journal.readable, journal.len, rates);
+    hold("the charge's refusal", image.len, (int64_t)got.refusal, 0);
+    hold("the machine's charge", image.len, (int64_t)got.cents, (int64_t)ref_machine_cents(machine, rates));
+}
+
 /* The machine sees the file, the calls and the lengths; its answers and what it says of image and journal are the library's. */
 static void hold_machine(struct ref_machine *machine, const struct ref_call *call, vtil_answer library)
 {
@@ -159,6 +168,7 @@ static void hold_machine(struct ref_machine *machine, const struct ref_call *cal
     hold_book(library.book, due.book);
     hold("the machine's image", image.len, memcmp(image.plain, due_image, image.len) == 0, 1);
     hold("the machine's journal", journal.len, memcmp(journal.plain, due_journal, journal.len) == 0, 1);
+    hold_machine_charge(machine, library.book);
 }
 
 /* Undo until nothing stands: the file's routine again, and a journal of zeros. */

@@ -53,6 +53,8 @@ instruction_look 184
 vip_look 16
 convention_look 72
 register_look 32
+rates 24
+charge_look 16
 written 16
 run_answer 32
 END

@@ -206,6 +206,13 @@ static void look_register(void)
     refusal = vtil_convention_register(LENT, 0, 0, 0).refusal;
 }
 
+static void look_charge(void)
+{
+    static const vtil_rates rates = {{1, 2, 3, 4, 5, 6}};
+    MARK_TOP();
+    refusal = vtil_charge(LENT, rates).refusal;
+}
+
 static void create(void)
 {
     MARK_TOP();
@@ -321,6 +328,7 @@ int main(void)
     measure("vtil_block_vip", look_vip);
     measure("vtil_convention", look_convention);
     measure("vtil_convention_register", look_register);
+    measure("vtil_charge", look_charge);
     measure("vtil_create_block", create);
     measure("vtil_append", append);
     measure("vtil_undo, an append", undo);

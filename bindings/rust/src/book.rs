@@ -1,4 +1,4 @@
-use crate::c::{self, Lengths};
+use crate::c::{self, Lengths, Rates};
 use crate::list::{Call, Encoded};
 use crate::look::{Block, Convention, Links, Overview, Registers};
 use crate::read::{self, RoutineRef};
@@ -181,6 +181,35 @@ impl<M: AsRef<[u8]>> Book<M> {
         };
         accepted(look.refusal)?;
         Ok(Register::from_c(&look.register_desc))
+    }
+
+    /// What the routine is billed at, in whole cents: every instruction of every block counts the rate of its
+    /// operation's group, and the sum is rounded up once. It costs two passes over the image.
+    ///
+    /// How many instructions of a group there are is the charge at rate 100 for that group and 0 for the others.
+    ///
+    /// ```
+    /// use vtil::{Book, Rates};
+    ///
+    /// # fn main() -> Result<(), Box<dyn std::error::Error>> {
+    /// # let folder = concat!(env!("CARGO_MANIFEST_DIR"), "/../../samples");
+    /// let file = std::fs::read(format!("{folder}/blocks.vtil"))?;
+    /// let book = Book::open(&file, vec![0; file.len()], vec![])?;
+    /// let branches = book.charge(Rates([0, 0, 0, 0, 100, 0]))?;
+    /// assert_eq!(branches, 4);
+    /// // A mov and a str at 1.5 cents each, and the branches at 3.1 cents each: 15.4 cents.
+    /// assert_eq!(book.charge(Rates([150, 0, 0, 0, 310, 0]))?, 16);
+    /// # Ok(())
+    /// # }
+    /// ```
+    pub fn charge(&self, rates: Rates) -> Result<u64, Refusal> {
+        let (image, journal) = (self.image(), self.journal());
+        // SAFETY: each pointer and length is a slice's.
+        let look = unsafe {
+            c::vtil_charge(self.lengths, image.as_ptr(), image.len(), journal.as_ptr(), journal.len(), rates)
+        };
+        accepted(look.refusal)?;
+        Ok(look.cents)
     }
 }
 

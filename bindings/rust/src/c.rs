@@ -12,6 +12,20 @@ pub struct Lengths {
     pub used: u64,
 }
 
+/// What one instruction costs, in hundredths of a cent, by the group of its operation. Any numbers are rates.
+///
+/// | Group | Operations |
+/// |---|---|
+/// | 0 | 0 to 3, `mov` to `ldd` |
+/// | 1 | 4 to 14, `neg` to `irem` |
+/// | 2 | 15 to 25, `popcnt` to `rol` |
+/// | 3 | 26 to 36, `tg` to `ifs` |
+/// | 4 | 37 to 40, `js` to `vxcall` |
+/// | 5 | 41 to 48, `nop` to `vpinwm` |
+#[repr(C)]
+#[derive(Clone, Copy, Debug, Default, PartialEq, Eq)]
+pub struct Rates(pub [u32; 6]);
+
 #[repr(C)]
 pub struct Answer {
     pub refusal: u64,
@@ -179,6 +193,12 @@ pub struct RegisterLook {
 }
 
 #[repr(C)]
+pub struct ChargeLook {
+    pub refusal: u64,
+    pub cents: u64,
+}
+
+#[repr(C)]
 pub struct Written {
     pub refusal: u64,
     pub size: u64,
@@ -193,6 +213,7 @@ pub const UNDO: u64 = 3;
 // The sizes that host/tests/header.sh holds the header to.
 const _: () = {
     assert!(size_of::<Lengths>() == 16);
+    assert!(size_of::<Rates>() == 24);
     assert!(size_of::<Answer>() == 24);
     assert!(size_of::<RunAnswer>() == 32);
     assert!(size_of::<ImmediateDesc>() == 16);
@@ -211,6 +232,7 @@ const _: () = {
     assert!(size_of::<VipLook>() == 16);
     assert!(size_of::<ConventionLook>() == 72);
     assert!(size_of::<RegisterLook>() == 32);
+    assert!(size_of::<ChargeLook>() == 16);
     assert!(size_of::<Written>() == 16);
 };
 
@@ -283,6 +305,14 @@ extern "C" {
         list: u64,
         place: u64,
     ) -> RegisterLook;
+    pub fn vtil_charge(
+        book: Lengths,
+        image: *const u8,
+        image_len: usize,
+        journal: *const u8,
+        journal_len: usize,
+        rates: Rates,
+    ) -> ChargeLook;
     pub fn vtil_create_block(
         book: Lengths,
         image: *mut u8,

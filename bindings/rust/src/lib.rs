@@ -54,7 +54,7 @@ mod routine;
 mod value;
 
 pub use book::{Book, Last};
-pub use c::Lengths;
+pub use c::{Lengths, Rates};
 pub use list::Call;
 pub use look::{Block, Convention, Links, Overview, Registers};
 pub use read::{read, read_at, BlockRef, ConventionRef, InstructionRef, Part, Parts, RoutineRef};

@@ -1,4 +1,5 @@
 use crate::book::Book;
+use crate::c::Rates;
 use crate::look::{Block, Convention, Links, Overview, Registers};
 use crate::read::RoutineRef;
 use crate::refusal::Refusal;
@@ -127,5 +128,10 @@ impl Routine {
     /// there is none.
     pub fn convention_register(&self, convention: u64, list: Registers, place: u64) -> Result<Register, Refusal> {
         self.book.convention_register(convention, list, place)
+    }
+
+    /// What the routine is billed at, in whole cents, as [`Book::charge`] says. It costs two passes over the image.
+    pub fn charge(&self, rates: Rates) -> u64 {
+        self.book.charge(rates).expect("nobody else writes the image, so it is not spoiled")
     }
 }

@@ -1,4 +1,4 @@
-// The book that a caller keeps, and what a call on it answers. Books and answers are built here, and nowhere else.
+// The book that a caller keeps, what a call on it answers, and the rates of a charge. Books and answers are built here, and nowhere else.
 ghost use mathlib.Core.Path.{_≡_};
 ghost use mathlib.Core.List.{List};
 ghost use Prim.Native.Nat.{ℕ, _<_};
@@ -20,6 +20,12 @@ pub struct Book {
 pub struct Answer {
     pub refusal: u64,
     pub book: Book,
+}
+
+// The rates of the six groups of operations, in hundredths of a cent per instruction.
+#[repr(C)]
+pub struct Rates {
+    pub rate: [u32; 6],
 }
 
 // The refusals that calls on a book give beside those of reading, as the numbers that an answer holds.

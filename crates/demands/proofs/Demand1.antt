@@ -20,11 +20,12 @@ use Rattle.machine.specs.Edits.{size, Edit, create, remove, append, place, edit
 use Rattle.machine.specs.Machine.{Call, edit, undo}
 use Rattle.machine.specs.Book.{State, unopened, opening, open-book, held, call-book, step}
 use Rattle.machine.specs.CallList.{run-on, open-and-run}
-use Rattle.machine.specs.Look.{element, look-block, look-instruction, vip-list, look-vip, conventions, look-convention, register-list, look-register}
+use Rattle.machine.specs.Look.{element, look-block, look-instruction, vip-list, look-vip, conventions, look-convention, register-list, look-register, look-charge}
+use Rattle.machine.specs.Charge.{Rates}
 use Rattle.machine.proofs.Held.{held-size, held-only}
 use Rattle.machine.proofs.Keeps.{removed, removed-size}
 use Rattle.machine.proofs.Lists.{found}
-use Rattle.demands.specs.Demand1.{instruction-refusals, register-refusals, file-refusals, opening-refusals, look-refusals, writer-refusals, call-refusals, Numbered, Refuses, Demand-1}
+use Rattle.demands.specs.Demand1.{instruction-refusals, register-refusals, file-refusals, opening-refusals, look-refusals, charge-refusals, writer-refusals, call-refusals, Numbered, Refuses, Demand-1}
 use Rattle.demands.proofs.Refusals.{Reading, a-vip, a-register, a-convention, an-instruction, a-block, a-routine}
 use Rattle.fields.proofs.Only.{Only, accepts, next, next-is, unless, when, attempts}
 use Rattle.demands.proofs.Only.{created-only, removed-only, appended-only, edit-book-only, undo-book-only, opening-only, element-only, vips-only, registers-only}
@@ -129,6 +130,10 @@ module _ (s : State) where
   at-register i k j =
       next (look-convention i s) _ (at-convention i) λ c. next (register-list k c) (element j) (registers-only there k c) (element-only there j)
 
+charged : (rates : Rates) (s : State) → Only (In charge-refusals) (look-charge rates s)
+unfolding has choose
+charged rates s = next (held s) _ (held-only refl refl s) λ r. accepts _
+
 writes : (n : ℕ) (d : InstructionDesc) → Only (In writer-refusals) (writing n d)
 unfolding writing has choose
 writes n d =
@@ -158,5 +163,6 @@ demand-1 =
       at-vip = λ i k j s. numbered (at-vip s i k j);
       at-convention = λ i s. numbered (at-convention s i);
       at-register = λ i k j s. numbered (at-register s i k j);
+      charging = λ rates s. numbered (charged rates s);
       writing-value = writes-value;
     }

@@ -14,6 +14,7 @@ use Rattle.machine.specs.Edits as e
 use Rattle.machine.specs.Machine as m
 use Rattle.machine.specs.Journal as j
 use Rattle.machine.specs.Book as b
+use Rattle.machine.specs.Charge as c
 use Rattle.demands.specs.Instances.{Instances}
 
 pub instances : Instances
@@ -24,7 +25,7 @@ unfolding refuse-if refuse-unless what-is-read attempt bind choose le uint int p
     w.routine-head-bytes w.routine-bytes e.place last-of but-last e.remove-at e.insert-at e.change-at e.edited e.cost e.admit m.used-by m.machine-edit
     m.machine-undo m.machine-call m.machine-step m.machine-run tr.trailer-bytes tr.trailer j.read-size j.entry j.is-fresh j.or-spoiled j.whole
     j.undo-create j.undo-remove j.last-size-is j.without-last j.undo-append j.undo-entry j.undone put b.in-image b.opened b.opening b.open-book b.held
-    b.edit-book b.restored b.undo-book b.call-book b.step b.run
+    b.edit-book b.restored b.undo-book b.call-book b.step b.run c.group c.total c.cents
 instances =
     record {
       smallest-read = refl;
@@ -52,4 +53,8 @@ instances =
       library-removed-order = refl;
       library-taken-back = refl;
       library-taken-back-order = refl;
+      group-firsts = refl;
+      group-lasts = refl;
+      rounded = refl;
+      rounded-once = refl;
     }

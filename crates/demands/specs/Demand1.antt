@@ -16,7 +16,8 @@ use Rattle.machine.specs.Edits.{create, remove, append}
 use Rattle.machine.specs.Machine.{Call, edit, undo}
 use Rattle.machine.specs.Book.{State, unopened, open-book, step}
 use Rattle.machine.specs.CallList.{run-on, open-and-run}
-use Rattle.machine.specs.Look.{look-routine, look-block, look-instruction, look-vip, look-convention, look-register}
+use Rattle.machine.specs.Look.{look-routine, look-block, look-instruction, look-vip, look-convention, look-register, look-charge}
+use Rattle.machine.specs.Charge.{Rates}
 
 -- of reading an instruction, and a file
 abbrev pub instruction-refusals : List ℕ
@@ -36,6 +37,10 @@ opening-refusals = lending-too-large ∷ image-full ∷ file-refusals
 -- of looking: 10, 13, 15
 abbrev pub look-refusals : List ℕ
 look-refusals = lending-too-large ∷ spoiled-book ∷ no-such-block ∷ []
+
+-- of the charge: 10, 13
+abbrev pub charge-refusals : List ℕ
+charge-refusals = lending-too-large ∷ spoiled-book ∷ []
 
 -- of the writer: 10, 7, 8, 5, 6, 11
 abbrev pub writer-refusals : List ℕ
@@ -71,11 +76,12 @@ pub record Demand-1 : Type 0 where
   -- a run over a list, from an opening or on a book: 15 for words that are no list
   pub running : (file image journal words bytes : List ℕ) → Refuses (no-such-block ∷ opening-refusals) (unopened image journal) (open-and-run file image journal words bytes)
   pub running-on : (words bytes : List ℕ) (s : State) → Refuses (no-such-block ∷ []) s (run-on words bytes s)
-  -- a look leaves nothing
+  -- a look leaves nothing, nor does the charge
   pub at-routine : (s : State) → Numbered look-refusals (look-routine s)
   pub at-block : (i : ℕ) (s : State) → Numbered look-refusals (look-block i s)
   pub at-instruction : (i j : ℕ) (s : State) → Numbered look-refusals (look-instruction i j s)
   pub at-vip : (i k j : ℕ) (s : State) → Numbered look-refusals (look-vip i k j s)
   pub at-convention : (i : ℕ) (s : State) → Numbered look-refusals (look-convention i s)
   pub at-register : (i k j : ℕ) (s : State) → Numbered look-refusals (look-register i k j s)
+  pub charging : (rates : Rates) (s : State) → Numbered charge-refusals (look-charge rates s)
   pub writing-value : (image : List ℕ) (d : InstructionDesc) → Refuses writer-refusals image (write-instruction image d)

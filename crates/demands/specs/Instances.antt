@@ -1,8 +1,8 @@
--- Document 01's starred instances, as one claim about the layouts and the machine.
+-- Document 01's starred instances, and some of the charge, as one claim about the layouts, the machine and the charge.
 use Prim.Native.Nat.{ℕ, _+_}
 use mathlib.Core.Path.{_≡_}
 use mathlib.Core.Bool.{false}
-use mathlib.Core.List.{List, [], _∷_, _++_}
+use mathlib.Core.List.{List, [], _∷_, _++_, map}
 use lib.ListN.{length, take, getD, replicate}
 use lib.IntN.{pos}
 use Rattle.fields.specs.Parse.{ok, no, span}
@@ -15,9 +15,10 @@ use Rattle.pod.specs.Written.{bytes, instruction-bytes}
 use Rattle.pod.specs.declared.RegisterDesc.{RegisterDesc}
 use Rattle.pod.specs.declared.Operand.{Operand}
 use Rattle.pod.specs.declared.Operand.the-variants.{Imm, Reg}
-use Rattle.machine.specs.Edits.{create, remove}
+use Rattle.machine.specs.Edits.{create, remove, empty-block, with-instructions, with-blocks}
 use Rattle.machine.specs.Machine.{Call, edit, undo, Answer, start, machine-run}
 use Rattle.machine.specs.Book.{State, held, open-book, run}
+use Rattle.machine.specs.Charge.{group, sum, cents}
 
 -- a header: its marks, machine and pad
 abbrev pub header-of : ℕ → ℕ → ℕ → ℕ → List ℕ
@@ -109,6 +110,11 @@ library-vips-after cs = vips-of (held (library-run cs .1))
 abbrev pub answered : ℕ → ℕ → Answer
 answered written used = accepted (record { written = written; used = used })
 
+-- two blocks of one nop each
+abbrev pub two-nops : Routine
+two-nops =
+    with-blocks (with-instructions (plain 41 [] ∷ []) (empty-block 1) ∷ with-instructions (plain 41 [] ∷ []) (empty-block 2) ∷ []) smallest-routine
+
 pub record Instances : Type 0 where
   -- Header of machine 2 and 106 zeros: consumed 114. Its first 113: 1. Empty: 1
   pub smallest-read : read-file smallest ≡ ok smallest-routine 114
@@ -145,3 +151,9 @@ pub record Instances : Type 0 where
   pub library-removed-order : library-vips-after removes ≡ 7 ∷ 6 ∷ []
   pub library-taken-back : library-answer-to takes-back ≡ answered 222 60
   pub library-taken-back-order : library-vips-after takes-back ≡ 5 ∷ 6 ∷ 7 ∷ []
+  -- The groups by their first and their last operations
+  pub group-firsts : map group (0 ∷ 4 ∷ 15 ∷ 26 ∷ 37 ∷ 41 ∷ []) ≡ 0 ∷ 1 ∷ 2 ∷ 3 ∷ 4 ∷ 5 ∷ []
+  pub group-lasts : map group (3 ∷ 14 ∷ 25 ∷ 36 ∷ 40 ∷ 48 ∷ []) ≡ 0 ∷ 1 ∷ 2 ∷ 3 ∷ 4 ∷ 5 ∷ []
+  -- 0, 1, 99, 100 and 101 hundredths. Two blocks of one nop each at the rate 130: 3 cents; rounded for each block it would be 4, and without one block 2
+  pub rounded : map cents (0 ∷ 1 ∷ 99 ∷ 100 ∷ 101 ∷ []) ≡ 0 ∷ 1 ∷ 1 ∷ 1 ∷ 2 ∷ []
+  pub rounded-once : cents (sum (1 ∷ 2 ∷ 3 ∷ 4 ∷ 5 ∷ 130 ∷ []) two-nops) ≡ 3

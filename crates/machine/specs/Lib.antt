@@ -2,6 +2,7 @@ pub mod Trailer
 pub mod Edits
 pub mod Machine
 pub mod Journal
+pub mod Charge
 pub mod Book
 pub mod Look
 pub mod CallList

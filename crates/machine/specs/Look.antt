@@ -1,4 +1,4 @@
--- Looking at a book, by place from 0. Order 10, 13, 15: a list or place that isn't there is 15.
+-- Looking at a book, by place from 0. Order 10, 13, 15: a list or place that isn't there is 15. And the charge for its routine.
 use Prim.Native.Nat.{ℕ, zero, suc}
 use mathlib.Core.List.{List, [], _∷_}
 use lib.Dec.{eqb}
@@ -7,6 +7,7 @@ use Rattle.fields.specs.Outcome.{Outcome, refused, accepted, _>>=_}
 use Rattle.fields.specs.Lists.{choose}
 use Rattle.pod.specs.Values.{Instruction, RoutineConvention, BasicBlock, Routine}
 use Rattle.pod.specs.declared.RegisterDesc.{RegisterDesc}
+use Rattle.machine.specs.Charge.{Rates, sum, cents}
 use Rattle.machine.specs.Book.{State, held}
 
 -- the element at a place
@@ -61,3 +62,9 @@ look-register i k j s = do
   c ← look-convention i s
   registers ← register-list k c
   element j registers
+
+-- the charge for the routine, in cents: 10, then 13
+abbrev pub look-charge : Rates → State → Outcome ℕ
+look-charge rates s = do
+  r ← held s
+  accepted (cents (sum rates r))

@@ -9,9 +9,10 @@ ghost use Rattle.pod.specs.Descs.{write-instruction};
 ghost use Rattle.machine.specs.Edits.{create, remove, append};
 ghost use Rattle.machine.specs.Machine.{edit, undo};
 ghost use Rattle.machine.specs.Book.{open-book, step};
-ghost use Rattle.machine.specs.Look.{look-routine, look-block, look-instruction, look-vip, look-convention, look-register};
+ghost use Rattle.machine.specs.Look.{look-routine, look-block, look-instruction, look-vip, look-convention, look-register, look-charge};
 ghost use Rattle.book.specs.Says.{state, outcome};
 ghost use Rattle.look.specs.Answers.{routine-look, block-look, instruction-look, vip-look, convention-look, register-look};
+ghost use Rattle.charge.specs.Answers.{charge-look};
 ghost use Rattle.value.specs.Answers.{instruction-read};
 ghost use Rattle.pread.specs.Answers.{routine-read, convention-read, register-read, block-read, vip-read};
 ghost use Rattle.writer.specs.Answers.{write-answer};
@@ -21,7 +22,9 @@ ghost use Rattle.call_list.specs.Runs.{Runs};
 ghost use Rattle.vtil.specs.Check.{check-file};
 use book::Answer;
 use book::Book;
+use book::Rates;
 use call_list::RunAnswer;
+use charge::ChargeLook;
 use fields::Walked;
 use look::BlockLook;
 use look::ConventionLook;
@@ -201,6 +204,14 @@ pub extern "C" fn vtil_convention_register(
     ensures { λ r. ⌜ r ≡ register-look (look-register convention list place (state (now (image .entry)) (now (journal .entry)) book)) ⌝ }
 {
     look::conventions::look_register(book, image, journal, convention, list, place)
+}
+
+// The charge for the routine at the rates of the six groups, in whole cents.
+#[no_mangle]
+pub extern "C" fn vtil_charge(book: Book, image: &[u8], journal: &[u8], rates: Rates) -> ChargeLook
+    ensures { λ r. ⌜ r ≡ charge-look (look-charge (rates .rate) (state (now (image .entry)) (now (journal .entry)) book)) ⌝ }
+{
+    charge::charge(book, image, journal, rates)
 }
 
 // The edits, and undo: document 01's take back.

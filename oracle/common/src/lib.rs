@@ -2,6 +2,7 @@
 //! and lists of calls made from a seed.
 
 pub mod blocks;
+pub mod charge;
 pub mod draft;
 pub mod faults;
 pub mod generate;

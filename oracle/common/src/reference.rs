@@ -22,7 +22,7 @@ pub const NO_SUCH_BLOCK: Refusal = 15;
 
 /// The declarations of reference.h.
 mod c {
-    use super::{c_char, Answer, Book, Counted};
+    use super::{c_char, Answer, Book, Counted, Refusal};
 
     #[repr(C)]
     pub struct Operation {
@@ -37,6 +37,17 @@ mod c {
         pub image_len: usize,
         pub journal_len: usize,
         pub numbers: Book,
+    }
+
+    #[repr(C)]
+    pub struct Rates {
+        pub rate: [u32; 6],
+    }
+
+    #[repr(C)]
+    pub struct ChargeLook {
+        pub refusal: Refusal,
+        pub cents: u64,
     }
 
     #[repr(C)]
@@ -59,6 +70,7 @@ mod c {
         pub fn ref_is_text(bytes: *const u8, len: usize) -> bool;
         pub fn ref_list_counts(file: *const u8, len: usize) -> Counted;
         pub fn ref_open(book: *mut LentBook, file: *const u8, len: usize) -> Answer;
+        pub fn ref_charge(book: *const LentBook, rates: Rates) -> ChargeLook;
         pub fn ref_machine_start(file: *const u8, len: usize, image_len: usize, journal_len: usize) -> *mut Machine;
         pub fn ref_machine_step(machine: *mut Machine, call: *const Call) -> Answer;
         pub fn ref_machine_image(machine: *const Machine, image: *mut u8);
@@ -132,6 +144,22 @@ pub fn open(file: &[u8], image: &mut [u8], journal: &mut [u8]) -> Answer {
         numbers: Book::default(),
     };
     unsafe { c::ref_open(&mut book, file.as_ptr(), file.len()) }
+}
+
+/// The charge of a book in whole cents, or the refusal.
+pub fn charge(numbers: Book, image: &[u8], journal: &[u8], rate: [u32; 6]) -> Result<u64, Refusal> {
+    // Looking writes nothing; the struct is that of calls that do.
+    let book = c::LentBook {
+        image: image.as_ptr().cast_mut(),
+        journal: journal.as_ptr().cast_mut(),
+        image_len: image.len(),
+        journal_len: journal.len(),
+        numbers,
+    };
+    match unsafe { c::ref_charge(&book, c::Rates { rate }) } {
+        c::ChargeLook { refusal: 0, cents } => Ok(cents),
+        c::ChargeLook { refusal, .. } => Err(refusal),
+    }
 }
 
 /// The written form of an accepted file, which consumes this many bytes.

@@ -1,7 +1,8 @@
 //! Lists of calls: after every call the answer, the image and the journal beside the reference's routine machine,
-//! and the written bytes beside the Rust, which has create_block and remove_block of its own. Then the whole list again,
-//! in one call, and in two: from the opening to its middle, and on from there.
+//! and the written bytes and the charge beside the Rust, which has create_block and remove_block of its own. Then the
+//! whole list again, in one call, and in two: from the opening to its middle, and on from there.
 
+use crate::charges;
 use crate::report::{hex, lengths, number, shrink, Report};
 use oracle::lists::{self, List};
 use oracle::reference::{Call, Machine, Refusal, BLOCK_PRESENT, NO_SUCH_BLOCK};
@@ -121,11 +122,12 @@ impl Run<'_> {
         if self.book.journal() != self.machine.journal() {
             return Some("another journal than document 01's".to_string());
         }
-        let rust = replayed(&self.list.file, &self.history).into_bytes().expect("the sink has the routine's size");
-        if self.book.written() != rust {
+        let rust = replayed(&self.list.file, &self.history);
+        let charged = charges::difference(&self.book, &rust);
+        if self.book.written() != rust.into_bytes().expect("the sink has the routine's size") {
             return Some("other written bytes than the Rust's".to_string());
         }
-        None
+        charged
     }
 }
 

@@ -1,6 +1,7 @@
 //! Files: the library's check and its reading by offset, the reference and the Rust, each asked about the same bytes.
 
 use crate::aborts::Aborts;
+use crate::charges;
 use crate::opens;
 use crate::reads;
 use crate::report::{hex, shrink, Report};
@@ -17,7 +18,7 @@ pub enum Verdict {
     Different(String),
 }
 
-/// The Rust's answer beside the reference's, and where both accept, all parts beside the Rust's.
+/// The Rust's answer beside the reference's, and where both accept, all parts and the charge beside the Rust's.
 fn beside_the_rust(file: &[u8], due: Result<usize, Refusal>) -> Verdict {
     let answer = original::ask(file);
     let is_same = match (&answer, due) {
@@ -31,7 +32,8 @@ fn beside_the_rust(file: &[u8], due: Result<usize, Refusal>) -> Verdict {
     if !is_same {
         return Verdict::Different(format!("document 01 {due:?}, Rust {answer:?}"));
     }
-    match due.ok().and_then(|_| reads::difference(file)) {
+    let within = |length| reads::difference(file).or_else(|| charges::file_difference(file, length));
+    match due.ok().and_then(within) {
         Some(text) => Verdict::Different(text),
         None => Verdict::Same,
     }
