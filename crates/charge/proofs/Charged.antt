@@ -20,7 +20,7 @@ use Rattle.image.proofs.Inspects.{Ready}
 use Rattle.image.proofs.Stands.{blocks-at}
 use Rattle.charge.specs.Answers.{charge-look}
 use Rattle.charge.specs.Sums.{Table, Summable}
-use Rattle.charge.proofs.Bound.{most-rate, sum-bound}
+use Rattle.machine.proofs.Sums.{most-rate, sum-under}
 
 module _ (rates : Rates) where
   pub refused-charge : (s : State) {k : ℕ} → held s ≡ refused k → record { refusal = k; cents = 0 } ≡ charge-look (look-charge rates s)
@@ -41,4 +41,4 @@ module _ {s : State} (r : Ready s) {start count : ℕ} (p : start ≡ blocks-sta
 
   pub summable : (rates : Rates) {t : List ℕ} → Table rates t → ((g : ℕ) → getD rates g 0 ≤ most-rate) → Summable t (s .image) start count
   summable rates t h =
-      record { rates = rates; table = t; all = blocks; end = _; reads = blocks-read; fits = omega (arith, sum-bound rates h (r .routine), r .sound .room, r .sound .image-lent) }
+      record { rates = rates; table = t; all = blocks; end = _; reads = blocks-read; fits = omega (arith, sum-under rates h (r .routine) (omega (arith, r .sound .room, r .sound .image-lent))) }

@@ -2,7 +2,6 @@ pub mod Groups
 pub mod Tables
 pub mod Operation
 pub mod Totals
-pub mod Bound
 pub mod Rated
 pub mod InBlock
 pub mod Charged

@@ -8,7 +8,7 @@ use mir.Val.{Val}
 use denote.Array.{each}
 use denote.Builtin.{u32}
 use denote.Shadow.{shadow}
-use Rattle.charge.proofs.Bound.{most-rate}
+use Rattle.machine.proofs.Sums.{most-rate}
 
 pub rates-small : (xs : List ℕ) (us : List Val) → shadow (each ℕ (u32 .own) (map (λ v. v) xs) us) → (g : ℕ) → getD xs g 0 ≤ most-rate
 rates-small [] us t g = omega arith

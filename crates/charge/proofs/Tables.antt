@@ -12,10 +12,10 @@ use borrow.Author.Tests.{ltb-true, ltb-false}
 use Rattle.machine.specs.Charge.{Rates, group}
 
 -- the first n operations have their rates
-abbrev pub Filled : Rates → List ℕ → ℕ → Type 0
-Filled rates t n = (op : ℕ) → op < n → getD t op 0 ≡ getD rates (group op) 0
+abbrev pub Filled-to : Rates → List ℕ → ℕ → Type 0
+Filled-to rates t n = (op : ℕ) → op < n → getD t op 0 ≡ getD rates (group op) 0
 
-pub fill-more : (rates : Rates) (t : List ℕ) (n : ℕ) {g : ℕ} → n < length t → g ≡ group n → Filled rates t n → Filled rates (set t n (getD rates g 0)) (n + 1)
+pub fill-more : (rates : Rates) (t : List ℕ) (n : ℕ) {g : ℕ} → n < length t → g ≡ group n → Filled-to rates t n → Filled-to rates (set t n (getD rates g 0)) (n + 1)
 fill-more rates t n {g} l e f op h = go (ltb op n) refl
   where
     go : (b : Bool) → ltb op n ≡ b → getD (set t n (getD rates g 0)) op 0 ≡ getD rates (group op) 0

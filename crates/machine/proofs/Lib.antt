@@ -5,3 +5,4 @@ pub mod Held
 pub mod Simulation
 pub mod Parts
 pub mod Calls
+pub mod Sums

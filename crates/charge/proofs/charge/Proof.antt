@@ -4,7 +4,7 @@ use native.Mathlib.Omega.{arith}
 use lib.ListN.{getD}
 use Rattle.book.specs.Says.{state}
 use Rattle.image.proofs.Inspects.{Ready, ready, refused-by}
-use Rattle.charge.proofs.Bound.{most-rate}
+use Rattle.machine.proofs.Sums.{most-rate}
 use Rattle.charge.proofs.Rated.{rates-small}
 use Rattle.charge.proofs.Charged.{refused-charge, blocks-read, summable, accepted-charge}
 use borrow.Author.Needs.{needs}

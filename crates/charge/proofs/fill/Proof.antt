@@ -4,13 +4,13 @@ use Prim.Native.Nat.{_-_, _≤_, _<_}
 use native.Mathlib.Omega.{arith}
 use lib.ListN.{length, length-set}
 use Rattle.charge.proofs.Groups.{group-small}
-use Rattle.charge.proofs.Tables.{Filled, fill-more}
+use Rattle.charge.proofs.Tables.{Filled-to, fill-more}
 use borrow.Author.Needs.{needs}
 use Rattle.charge.proofs.fill.Statement.{statement}
 use Rattle.charge.proofs.fill.Tie as tie
 
 abbrev Inv-loop : tie.InvT-loop
-Inv-loop table₀ rate op₀ table op = (length table ≡ 49) × ((op ≤ 49) × Filled rate table op)
+Inv-loop table₀ rate op₀ table op = (length table ≡ 49) × ((op ≤ 49) × Filled-to rate table op)
 
 abbrev μ-loop : tie.MeasureT-loop
 μ-loop table₀ rate op₀ table op = length table - op

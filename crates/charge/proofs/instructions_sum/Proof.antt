@@ -9,7 +9,7 @@ use Rattle.pod.specs.Layout.{instruction}
 use Rattle.ends.proofs.Same.{instruction-ends}
 use Rattle.machine.specs.Charge.{Rates, total, rate-of}
 use Rattle.charge.specs.Sums.{Table}
-use Rattle.charge.proofs.Bound.{most-rate}
+use Rattle.machine.proofs.Sums.{most-rate}
 use Rattle.charge.proofs.Totals.{Left, begins, ends, goes-on}
 use borrow.Author.Needs.{needs}
 use Rattle.charge.proofs.instructions_sum.Statement.{statement}

@@ -15,7 +15,7 @@ returns c =
     let a = start d .args in
     λ i n e. op-is (a .s .now) (a .at) e (d .fast-code .ensures (c .if1 .taken) .is)
 
--- the way to the operation that is read field by field
+-- the way to the operation whose name is looked for among all
 abbrev reading : tie.At-match-keys1 → tie.After-op-at
 reading c = c .before
 

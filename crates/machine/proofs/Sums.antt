@@ -1,14 +1,16 @@
--- No sum wraps: at rates of 32 bits a routine comes to at most 2^32 - 1 for each 29 bytes of its written form, since every instruction has so many.
+-- No sum wraps: at rates of 32 bits a routine comes to at most 2^32 - 1 for each 29 bytes of its written form, since every instruction has so many. So one
+-- that fits an image comes to less than 2^52.
 -- Assumes nothing.
 use mathlib.Core.List.{List, [], _∷_}
-use Prim.Native.Nat.{ℕ, _*_, _≤_}
+use Prim.Native.Nat.{ℕ, _*_, _^_, _≤_, _<_}
 use native.Mathlib.Omega.{arith}
 use lib.ListN.{length, getD, length-append}
+use Rattle.fields.specs.Bytes.{most-lent}
 use Rattle.pod.specs.Values.{Instruction, BasicBlock, Routine}
 use Rattle.pod.specs.Written.{instruction-bytes, block-bytes, many-bytes}
 use Rattle.laws.proofs.Sizes.{instruction-size, block-size, routine-size}
 use Rattle.machine.specs.Edits.{size}
 use Rattle.machine.specs.Charge.{Rates, group, total, rate-of, block-sum, sum}
 
 -- the largest rate
 abbrev pub most-rate : ℕ
@@ -26,5 +28,8 @@ module _ (rates : Rates) (h : (g : ℕ) → getD rates g 0 ≤ most-rate) where
   block-bound : (b : BasicBlock) → 29 * block-sum rates b ≤ most-rate * length (block-bytes b)
   block-bound b = omega (arith, total-bound (rate-of rates) instruction-bytes instruction-bound (b .instructions), block-size b)
 
-  pub sum-bound : (r : Routine) → 29 * sum rates r ≤ most-rate * size r
+  sum-bound : (r : Routine) → 29 * sum rates r ≤ most-rate * size r
   sum-bound r = omega (arith, total-bound (block-sum rates) block-bytes block-bound (r .explored-blocks), routine-size r)
+
+  pub sum-under : (r : Routine) → size r ≤ most-lent → sum rates r < 2 ^ 52
+  sum-under r h = omega (arith, sum-bound r, h)
