@@ -77,6 +77,26 @@ enum status book_open(const char *name, size_t room, size_t journal_len, struct 
     return status;
 }
 
+/* The block with this vip, read where it lies in the image; refused where the routine has none. */
+static vtil_block_read find_block(const struct book *book, uint64_t vip)
+{
+    size_t len = (size_t)book->numbers.written;
+    vtil_routine_read routine = vtil_read_routine(book->image, len);
+    vtil_block_read block = vtil_read_block(book->image, len, routine.blocks_at);
+    while (block.refusal == 0 && block.vip != vip)
+        block = vtil_read_block(book->image, len, block.end);
+    return block;
+}
+
+uint32_t book_last_operation(const struct book *book, uint64_t vip)
+{
+    vtil_block_read block = find_block(book, vip);
+    vtil_instruction_read last = {.end = block.instructions_at};
+    for (uint64_t i = 0; i < block.instructions; i++)
+        last = vtil_read_instruction(book->image, (size_t)book->numbers.written, last.end);
+    return last.instruction.op;
+}
+
 void book_free(struct book *book)
 {
     free(book->image);

@@ -24,6 +24,9 @@ struct book {
  */
 enum status book_open(const char *name, size_t room, size_t journal_len, struct book *out);
 
+/* The operation of the last instruction of the block with this vip. The routine has this block, and it is not empty. */
+uint32_t book_last_operation(const struct book *book, uint64_t vip);
+
 void book_free(struct book *book);
 
 #endif

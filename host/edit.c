@@ -5,6 +5,7 @@
 #include <stdio.h>
 
 #include "book.h"
+#include "operations.h"
 #include "output.h"
 #include "printed.h"
 #include "script.h"
@@ -47,9 +48,19 @@ static void print_line(FILE *to, const struct line *line)
     }
 }
 
-static void print_answer(FILE *to, vtil_answer answer)
+/* The refusal's words name all operations that close a block; here it is said which one closes this block. */
+static void print_closed(FILE *to, const struct line *line, const struct book *book)
 {
-    if (answer.refusal != 0)
+    uint32_t last = book_last_operation(book, line->vip);
+    fprintf(to, ": refused %d: closed block: its last instruction is %s\n", VTIL_CLOSED_BLOCK, operation_name(last));
+}
+
+/* What the line was answered; a refused one left the book as it is. */
+static void print_answer(FILE *to, const struct line *line, const struct book *book, vtil_answer answer)
+{
+    if (answer.refusal == VTIL_CLOSED_BLOCK)
+        print_closed(to, line, book);
+    else if (answer.refusal != 0)
         fprintf(to, ": refused %" PRIu64 ": %s\n", answer.refusal, refusal_words((int64_t)answer.refusal));
     else
         fprintf(to, ": accepted, %" PRIu64 " bytes written, %" PRIu64 " of the journal used\n", answer.book.written,
@@ -61,9 +72,10 @@ static size_t run_lines(FILE *to, const struct script *script, struct book *book
 {
     size_t refused = 0;
     for (size_t i = 0; i < script->count; i++) {
-        vtil_answer answer = run_line(&script->lines[i], book);
-        print_line(to, &script->lines[i]);
-        print_answer(to, answer);
+        const struct line *line = &script->lines[i];
+        vtil_answer answer = run_line(line, book);
+        print_line(to, line);
+        print_answer(to, line, book, answer);
         refused += answer.refusal != 0;
         book->numbers = answer.book; /* after a refusal the one handed in */
     }

@@ -20,6 +20,7 @@ static const char *const words[] = {
     [VTIL_NO_SUCH_BLOCK] = "no such block, or no such place",
     [VTIL_NOTHING_TO_TAKE_BACK] = "nothing to take back",
     [VTIL_LEFTOVER] = "leftover: bytes after the appended instruction",
+    [VTIL_CLOSED_BLOCK] = "closed block: its last instruction is js, jmp, vexit or vxcall",
 };
 
 const char *refusal_words(int64_t number)

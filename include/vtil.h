@@ -58,7 +58,8 @@ enum vtil_refusal {
     VTIL_BLOCK_PRESENT = 14,        /* block present */
     VTIL_NO_SUCH_BLOCK = 15,        /* no such block, or no such place */
     VTIL_NOTHING_TO_TAKE_BACK = 16, /* nothing to take back */
-    VTIL_LEFTOVER = 17              /* leftover: bytes after the appended instruction */
+    VTIL_LEFTOVER = 17,             /* leftover: bytes after the appended instruction */
+    VTIL_CLOSED_BLOCK = 18          /* closed block: its last instruction is js, jmp, vexit or vxcall */
 };
 
 /* ==== Checking a file ============================================================ */
@@ -439,9 +440,16 @@ vtil_answer vtil_remove_block(vtil_book book, uint8_t *image, size_t image_len, 
  * vtil_write_instruction makes them. The image needs as many bytes more and the
  * journal 20.
  *
+ * A block is closed when its last instruction is js, jmp, vexit or vxcall, the
+ * operations 37 to 40: the engine leaves the block there, so it would never come to
+ * an instruction after that one. A closed block takes no more. An empty block is
+ * open, and so is a block in which one of the four is not the last instruction, as
+ * can come from a file. vtil_undo of the append that closed a block opens it again.
+ *
  * Refusals, in this order: 10, 13; 1, 2, 5, 6, 7 or 8, whichever field of the
  * instruction fails first (1: its bytes end too early); 17 when bytes are left
- * after the instruction; 15 when no block has this vip; 11, 12.
+ * after the instruction; 15 when no block has this vip; 18 when the block is
+ * closed; 11, 12.
  */
 vtil_answer vtil_append(vtil_book book, uint8_t *image, size_t image_len, uint8_t *journal, size_t journal_len,
                         uint64_t vip, const uint8_t *instruction, size_t instruction_len);

@@ -853,6 +853,15 @@ static uint64_t remove_block(const struct routine *routine, uint64_t vip, struct
     return 0;
 }
 
+/* The engine leaves a block at js (37), jmp (38), vexit (39) and vxcall (40): with one of them last it is closed. */
+static bool is_closed(const struct block *block)
+{
+    if (block->count == 0)
+        return false;
+    uint32_t last = block->instructions[block->count - 1].op;
+    return last == 37 || last == 38 || last == 39 || last == 40;
+}
+
 static void push_instruction(struct block *block, const vtil_instruction_desc *value)
 {
     vtil_instruction_desc *longer = keep(block->count + 1, sizeof *longer);
@@ -873,6 +882,8 @@ static uint64_t append(const struct routine *routine, const struct ref_call *cal
     uint64_t place = place_of(routine, call->vip);
     if (place == routine->blocks)
         return 15;
+    if (is_closed(&routine->block[place]))
+        return 18;
     out->routine = with_own_blocks(routine);
     push_instruction(&out->routine.block[place], &value);
     make_entry(out, NULL, call->vip, place, call->len, APPENDED);

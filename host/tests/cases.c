@@ -71,6 +71,17 @@ void put_operation(struct bytes *b, const void *name, size_t len, uint32_t count
     put(b, 4, count);
 }
 
+void put_instruction(struct bytes *b, uint32_t op, uint32_t kind)
+{
+    const struct ref_operation *operation = &ref_operations[op];
+    put_operation(b, operation->name, strlen(operation->name), operation->count);
+    for (uint32_t i = 0; i < operation->count; i++) {
+        put(b, 4, kind);
+        put_zeros(b, kind == 0 ? 12 : 24);
+    }
+    put_zeros(b, 21);
+}
+
 /* Made routines -------------------------------------------------------------- */
 
 static uint64_t fault_rate; /* one fault in so many fields; 0: none */

@@ -7,6 +7,11 @@ script="command_edits"
 # A nop: name size, name, operand count, vip, sp offset, sp index, sp reset.
 nop="03000000 6e6f70 00000000 0000000000000000 0000000000000000 00000000 00"
 
+# instruction NAME COUNT: the bytes of one whose operands are so many immediates; all else in it is 0.
+instruction() {
+    printf '%02x000000 %s %02x000000 %0*d' ${#1} "$(printf %s "$1" | od -An -tx1 | tr -d ' ')" "$2" $((2 * (16 * $2 + 21))) 0
+}
+
 write_script() {
     cat >"$scratch/script"
 }
@@ -38,8 +43,8 @@ line 8: undo: accepted, 254 bytes written, 80 of the journal used
 taken_back() {
     write_script <<END
 remove 0x1000
-append 0x1010 $nop
 create 18446744073709551615
+append 18446744073709551615 $nop
 remove 0x1010
 undo
 undo
@@ -47,11 +52,11 @@ undo
 undo
 END
     expect "edit and take all back" 0 "line 1: remove 0x1000: accepted, 708 bytes written, 446 of the journal used
-line 2: append 0x1010, 32 bytes: accepted, 740 bytes written, 466 of the journal used
-line 3: create 0xffffffffffffffff: accepted, 776 bytes written, 486 of the journal used
-line 4: remove 0x1010: accepted, 549 bytes written, 733 of the journal used
+line 2: create 0xffffffffffffffff: accepted, 744 bytes written, 466 of the journal used
+line 3: append 0xffffffffffffffff, 32 bytes: accepted, 776 bytes written, 486 of the journal used
+line 4: remove 0x1010: accepted, 581 bytes written, 701 of the journal used
 line 5: undo: accepted, 776 bytes written, 486 of the journal used
-line 6: undo: accepted, 740 bytes written, 466 of the journal used
+line 6: undo: accepted, 744 bytes written, 466 of the journal used
 line 7: undo: accepted, 708 bytes written, 446 of the journal used
 line 8: undo: accepted, 1134 bytes written, 0 of the journal used
 8 lines, 0 refused" "" "$routine" edit samples/blocks.vtil -s "$scratch/script" -o "$scratch/edited"
@@ -86,6 +91,69 @@ line 10: append 0x5, 5 bytes: refused 2: name not text: not well-formed UTF-8 (U
 line 11: append 0x5, 32 bytes: accepted, 182 bytes written, 40 of the journal used
 11 lines, 9 refused" "" "$routine" edit samples/minimal.vtil -s "$scratch/script" -o "$scratch/edited"
     expect "the accepted lines were done" 0 "$scratch/edited: accepted, 182 bytes consumed" "" "$routine" check "$scratch/edited"
+}
+
+# closed_by NAME COUNT SIZE: after that operation, whose instruction has so many bytes, a block takes no more until it is taken back.
+closed_by() {
+    write_script <<END
+create 5
+append 5 $nop
+append 5 $(instruction "$1" "$2")
+append 5 $nop
+append 5 $(instruction "$1" "$2")
+append 5 $nop 00
+append 6 $nop
+undo
+append 5 $nop
+END
+    expect "edit a block that $1 closes" 1 "line 1: create 0x5: accepted, 150 bytes written, 20 of the journal used
+line 2: append 0x5, 32 bytes: accepted, 182 bytes written, 40 of the journal used
+line 3: append 0x5, $3 bytes: accepted, $((182 + $3)) bytes written, 60 of the journal used
+line 4: append 0x5, 32 bytes: refused 18: closed block: its last instruction is $1
+line 5: append 0x5, $3 bytes: refused 18: closed block: its last instruction is $1
+line 6: append 0x5, 33 bytes: refused 17: leftover: bytes after the appended instruction
+line 7: append 0x6, 32 bytes: refused 15: no such block, or no such place
+line 8: undo: accepted, 182 bytes written, 40 of the journal used
+line 9: append 0x5, 32 bytes: accepted, 214 bytes written, 60 of the journal used
+9 lines, 4 refused" "" "$routine" edit samples/minimal.vtil -s "$scratch/script" -o "$scratch/edited"
+    expect "the lines after them were done" 0 "$scratch/edited: accepted, 214 bytes consumed" "" "$routine" check "$scratch/edited"
+}
+
+# The blocks of the one sample end with js, jmp and vexit. In the other these have instructions after them, as only a file can.
+closed_in_a_file() {
+    write_script <<END
+append 0x1000 $nop
+append 0x1010 $nop
+append 0x1020 $nop
+END
+    expect "edit the closed blocks of a file" 1 "line 1: append 0x1000, 32 bytes: refused 18: closed block: its last instruction is js
+line 2: append 0x1010, 32 bytes: refused 18: closed block: its last instruction is jmp
+line 3: append 0x1020, 32 bytes: refused 18: closed block: its last instruction is vexit
+3 lines, 3 refused" "" "$routine" edit samples/blocks.vtil -s "$scratch/script" -o "$scratch/edited"
+    passes "the routine is as it was" cmp samples/blocks.vtil "$scratch/edited"
+    expect "and is shown as it was" 0 "$(cat host/tests/blocks.shown)" "" "$routine" show "$scratch/edited"
+    write_script <<END
+remove 0x1000
+append 0x1020 $nop
+create 0x1000
+append 0x1000 $nop
+undo
+undo
+undo
+append 0x1000 $nop
+END
+    expect "edit closed blocks that are moved, removed and restored" 1 "line 1: remove 0x1000: accepted, 708 bytes written, 446 of the journal used
+line 2: append 0x1020, 32 bytes: refused 18: closed block: its last instruction is vexit
+line 3: create 0x1000: accepted, 744 bytes written, 466 of the journal used
+line 4: append 0x1000, 32 bytes: accepted, 776 bytes written, 486 of the journal used
+line 5: undo: accepted, 744 bytes written, 466 of the journal used
+line 6: undo: accepted, 708 bytes written, 446 of the journal used
+line 7: undo: accepted, 1134 bytes written, 0 of the journal used
+line 8: append 0x1000, 32 bytes: refused 18: closed block: its last instruction is js
+8 lines, 2 refused" "" "$routine" edit samples/blocks.vtil -s "$scratch/script"
+    printf 'append 1 %s\n' "$nop" >"$scratch/script"
+    expect "edit a block in which none of the four is last" 0 "line 1: append 0x1, 32 bytes: accepted, 4191 bytes written, 20 of the journal used
+1 line, 0 refused" "" "$routine" edit samples/all-operations.vtil -s "$scratch/script"
 }
 
 # Where it is written.
@@ -214,6 +282,11 @@ helps() {
 accepted_lines
 taken_back
 refused_lines
+closed_by js 3 79
+closed_by jmp 1 48
+closed_by vexit 1 50
+closed_by vxcall 1 51
+closed_in_a_file
 outputs
 bad_lines
 edit_fails

@@ -59,21 +59,13 @@ static void due_spoiled(const char *what, vtil_book numbers)
 
 /* Routines made by hand ----------------------------------------------------------------------- */
 
-/* Its operands are immediates. */
-static void put_instruction(struct bytes *b, uint32_t op)
-{
-    const struct ref_operation *operation = &ref_operations[op];
-    put_operation(b, operation->name, strlen(operation->name), operation->count);
-    put_zeros(b, 16 * operation->count + 21);
-}
-
 /* A block with one instruction of each operation from first to last, so many times. */
 static void put_block(struct bytes *b, uint64_t vip, uint32_t first, uint32_t last, uint32_t times)
 {
     put_block_front(b, vip, times * (last - first + 1));
     for (uint32_t i = 0; i < times; i++)
         for (uint32_t op = first; op <= last; op++)
-            put_instruction(b, op);
+            put_instruction(b, op, 0);
     put_zeros(b, 8);
 }
 
@@ -372,7 +364,7 @@ static uint8_t *make_fullest(size_t nops, size_t len)
     put_front(&front);
     put(&front, 4, 1);
     put_block_front(&front, 5, (uint32_t)nops);
-    put_instruction(&nop, NOP);
+    put_instruction(&nop, NOP, 0);
     memcpy(file, front.at, front.len);
     for (size_t i = 0; i < nops; i++)
         memcpy(file + front.len + i * nop.len, nop.at, nop.len);

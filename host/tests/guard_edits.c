@@ -6,20 +6,19 @@
 #include <stdlib.h>
 #include <string.h>
 
+#include "book_pair.h"
+#include "calls.h"
 #include "cases.h"
 #include "group.h"
 #include "lent.h"
 #include "reference.h"
-#include "book_pair.h"
 
 #define LISTS 350
-#define CALLS 60 /* in a list */
 #define DAMAGED_JOURNALS 6000
-#define RANDOM_WORDS 6000
+#define RANDOM_WORDS 10000
 
 static struct bytes *samples;
 static size_t sample_count;
-static struct room instruction_room;
 
 /* A number near `middle`, or an extreme one. */
 static uint64_t near(uint64_t middle)
@@ -27,43 +26,6 @@ static uint64_t near(uint64_t middle)
     uint64_t odd[EXTREMES];
     extremes(middle, odd);
     return below(3) == 0 ? odd[below(EXTREMES)] : middle + below(3) - 1;
-}
-
-/* One call in both ------------------------------------------------------------------------ */
-
-static vtil_answer library_call(vtil_book numbers, const struct ref_call *call)
-{
-    struct lent bytes = lend(&instruction_room, call->len, below(2) == 0);
-    memcpy(bytes.plain, call->bytes, call->len);
-    switch (call->kind) {
-    case VTIL_CREATE:
-        return vtil_create_block(numbers, image.writable, image.len, journal.writable, journal.len, call->vip);
-    case VTIL_REMOVE:
-        return vtil_remove_block(numbers, image.writable, image.len, journal.writable, journal.len, call->vip);
-    case VTIL_APPEND:
-        return vtil_append(numbers, image.writable, image.len, journal.writable, journal.len, call->vip, bytes.readable,
-                           bytes.len);
-    default:
-        return vtil_undo(numbers, image.writable, image.len, journal.writable, journal.len);
-    }
-}
-
-/* The same call on both books; holds the answers and what is left behind. Answers what was due. */
-static vtil_answer call_both(const struct ref_call *call)
-{
-    vtil_book before = twin.numbers;
-    vtil_answer want = ref_step(&twin, call);
-    next_case();
-    hold_answer(library_call(before, call), want);
-    hold_bytes();
-    return want;
-}
-
-static uint8_t no_bytes_at[1];
-
-static struct ref_call call_of(enum vtil_call kind, uint64_t vip)
-{
-    return (struct ref_call){kind, vip, no_bytes_at, 0};
 }
 
 /* Document 01's instances -------------------------------------------------------------------- */
@@ -181,107 +143,17 @@ static void take_all_back(const uint8_t *opened, uint64_t written)
     hold("the routine of the file", image.len, memcmp(image.plain, opened, image.len) == 0, 1);
 }
 
-/* Lists in one call ---------------------------------------------------------------------------- */
-
-static struct room words_room, bytes_room, file_room;
-static struct lent lent_words, lent_bytes, lent_file;
-
-#define LIST (const uint64_t *)(const void *)lent_words.readable, lent_words.len / 8, lent_bytes.readable, lent_bytes.len
-
-static void lend_list(const uint64_t *words, size_t count, const uint8_t *bytes, size_t len)
-{
-    lent_words = lend(&words_room, 8 * count, below(2) == 0);
-    lent_bytes = lend(&bytes_room, len, below(2) == 0);
-    memcpy(lent_words.plain, words, 8 * count);
-    memcpy(lent_bytes.plain, bytes, len);
-}
-
-/* Of the calls from the first one on: each one's words, and the bytes of all. */
-static void lend_calls(size_t first, size_t count)
-{
-    static uint64_t words[4 * CALLS];
-    static struct bytes bytes;
-    bytes.len = 0;
-    for (size_t i = 0; i < count; i++) {
-        const struct ref_call *call = &calls[first + i];
-        words[4 * i] = call->kind;
-        words[4 * i + 1] = call->vip;
-        words[4 * i + 2] = bytes.len;
-        put_bytes(&bytes, call->bytes, call->len);
-        words[4 * i + 3] = bytes.len;
-    }
-    lend_list(words, 4 * count, bytes.at, bytes.len);
-}
-
-static void lend_file(const struct bytes *file)
-{
-    lent_file = lend(&file_room, file->len, below(2) == 0);
-    memcpy(lent_file.plain, file->at, file->len);
-}
-
-/* What the reference answers and leaves, call by call. */
-static vtil_run_answer due_of_calls(size_t first, size_t count)
-{
-    vtil_run_answer due = {0, 0, twin.numbers};
-    for (size_t i = 0; i < count; i++) {
-        vtil_answer answer = ref_step(&twin, &calls[first + i]);
-        due.last = answer.refusal;
-        due.book = answer.book;
-    }
-    return due;
-}
-
-static void hold_run(vtil_run_answer got, vtil_run_answer want)
-{
-    next_case();
-    group.answers[want.refusal != 0 ? want.refusal : want.last]++;
-    hold("refusal", image.len, (int64_t)got.refusal, (int64_t)want.refusal);
-    hold("the last call's refusal", image.len, (int64_t)got.last, (int64_t)want.last);
-    hold_book(got.book, want.book);
-    hold_bytes();
-}
-
-static vtil_run_answer library_run(void)
-{
-    return vtil_run(lent_file.readable, lent_file.len, image.writable, image.len, journal.writable, journal.len, LIST);
-}
-
-static vtil_run_answer library_run_on(vtil_book numbers)
-{
-    return vtil_run_on(numbers, image.writable, image.len, journal.writable, journal.len, LIST);
-}
-
-/* The first calls by vtil_run, in an image and a journal of the same lengths. */
-static void run_list(const struct bytes *file, size_t count)
-{
-    lend_calls(0, count);
-    lend_file(file);
-    lend_book(image.len, journal.len);
-    vtil_answer opened = ref_open(&twin, file->at, file->len);
-    vtil_run_answer want = {opened.refusal, 0, opened.book};
-    hold_run(library_run(), opened.refusal != 0 ? want : due_of_calls(0, count));
-}
-
-/* The calls from the first one on by vtil_run_on, on the book as it is. */
-static void run_list_on(size_t first, size_t count)
-{
-    vtil_book before = twin.numbers;
-    lend_calls(first, count);
-    vtil_run_answer want = due_of_calls(first, count);
-    hold_run(library_run_on(before), want);
-}
-
 /* The list in one call; parted, both parts by a run; and parted, the first part call by call. */
 static void run_in_parts(const struct bytes *file)
 {
     size_t parted = below(CALLS + 1);
-    run_list(file, CALLS);
-    run_list(file, parted);
-    run_list_on(parted, CALLS - parted);
+    run_list(file, calls, CALLS);
+    run_list(file, calls, parted);
+    run_list_on(calls + parted, CALLS - parted);
     open_both(file);
     for (size_t i = 0; i < parted; i++)
         call_both(&calls[i]);
-    run_list_on(parted, CALLS - parted);
+    run_list_on(calls + parted, CALLS - parted);
 }
 
 static void one_list(const struct bytes *file)
@@ -307,7 +179,7 @@ static void one_list(const struct bytes *file)
 
 static void lists(void)
 {
-    static const int answers[] = {0, 1, 2, 5, 6, 7, 8, 11, 12, 14, 15, 16, 17, -1};
+    static const int answers[] = {0, 1, 2, 5, 6, 7, 8, 11, 12, 14, 15, 16, 17, 18, -1};
     static struct bytes b;
     begin("long lists of calls at tight lengths, against the machine, and the same by vtil_run and vtil_run_on");
     seed(7);
@@ -326,7 +198,7 @@ static void lists(void)
 /* An undo that a cut image has no room for is refused 13; all else is as it is at lengths that stay. */
 static void changed_lengths(void)
 {
-    static const int answers[] = {0, 11, 12, 13, 14, 15, 16, -1};
+    static const int answers[] = {0, 11, 12, 13, 14, 15, 16, 18, -1};
     static struct bytes b;
     begin("lists of calls between which image and journal are lengthened or cut");
     seed(12);
@@ -356,14 +228,14 @@ static void odd_runs(void)
         int64_t size = ref_check(samples[i].at, samples[i].len);
         lend_book(size < 0 ? 100 : (size_t)size + 40, 60);
         calls[0] = call_of(VTIL_CREATE, 77);
-        run_list(&samples[i], 0);
-        run_list_on(0, 0);
-        run_list(&samples[i], 1);
-        run_list_on(0, 0);
+        run_list(&samples[i], calls, 0);
+        run_list_on(calls, 0);
+        run_list(&samples[i], calls, 1);
+        run_list_on(calls, 0);
         lend_book(size < 1 ? 0 : (size_t)size - 1, 60);
-        run_list(&samples[i], 1);
-        run_list_on(0, 0);
-        run_list_on(0, 1);
+        run_list(&samples[i], calls, 1);
+        run_list_on(calls, 0);
+        run_list_on(calls, 1);
     }
     end();
 }
@@ -404,15 +276,14 @@ static void hold_one_call(const uint64_t *words, const struct ref_call *call)
 {
     static struct bytes smallest;
     make_smallest(&smallest);
-    calls[0] = *call;
     lend_book(200, 60);
     lend_list(words, 4, four_bytes, sizeof four_bytes);
     lend_file(&smallest);
     ref_open(&twin, smallest.at, smallest.len);
-    vtil_run_answer want = due_of_calls(0, 1);
+    vtil_run_answer want = due_of_calls(call, 1);
     hold_run(library_run(), want);
     vtil_book before = twin.numbers;
-    want = due_of_calls(0, 1);
+    want = due_of_calls(call, 1);
     hold_run(library_run_on(before), want);
 }
 
@@ -453,7 +324,7 @@ static void odd_words(void)
 /* Words of all sorts, of which some are lists: what they are, and what their calls do, is what the reference says. */
 static void random_words(void)
 {
-    static const int answers[] = {0, 1, 11, 12, 14, 15, 16, 17, -1};
+    static const int answers[] = {0, 1, 11, 12, 14, 15, 16, 17, 18, -1};
     static struct bytes b, bytes;
     uint64_t words[24]; /* whole calls are made, of which the last may be cut */
     begin("random words, by vtil_run and then others by vtil_run_on");
@@ -522,7 +393,7 @@ static void call_each(vtil_book numbers)
         copy_twin();
     }
     twin.numbers = numbers;
-    run_list_on(0, 4);
+    run_list_on(calls, 4);
     memcpy(twin.image, kept_image, image.len);
     memcpy(twin.journal, kept_journal, journal.len);
     copy_twin();
@@ -697,7 +568,7 @@ static void hold_each(uint8_t *at, size_t image_len, uint8_t *to, size_t journal
     const vtil_answer got[] = {
         vtil_create_block(book, at, image_len, to, journal_len, 5),
         vtil_remove_block(book, at, image_len, to, journal_len, 5),
-        vtil_append(book, at, image_len, to, journal_len, 5, no_bytes_at, 0),
+        vtil_append(book, at, image_len, to, journal_len, 5, NULL, 0),
         vtil_undo(book, at, image_len, to, journal_len),
     };
     for (int i = 0; i < 4; i++) {
@@ -778,10 +649,7 @@ int main(int argc, char **argv)
     set_up_groups("guard_edits");
     sample_count = load_samples(argv + 1, &samples);
     set_up_book_pair();
-    instruction_room = make_room(BYTES_MAX);
-    words_room = make_room(4 * CALLS * sizeof(uint64_t));
-    bytes_room = make_room(BYTES_MAX);
-    file_room = make_room(BYTES_MAX);
+    set_up_calls();
     struct room untouched = make_room(1);
 
     instances();

@@ -267,8 +267,12 @@ impl<M: AsMut<[u8]>> Book<M> {
     /// Adds an instruction, as a file holds it, after the last one of the block. The image needs its size more and
     /// the journal 20 bytes.
     ///
+    /// A block is closed when its last instruction is js, jmp, vexit or vxcall (37 to 40 of
+    /// [`OPERATIONS`](crate::OPERATIONS)): the engine leaves the block there, so the block takes no more. An empty block
+    /// is open, and [`Book::undo`] of the append that closed a block opens it again.
+    ///
     /// Refusals: 1, 2, 5 to 8, whichever field fails first; 17, bytes are left after it; 15, no block has this vip;
-    /// 11, the image is full; 12, the journal is full.
+    /// 18, the block is closed; 11, the image is full; 12, the journal is full.
     pub fn append(&mut self, vip: Vip, instruction: &[u8]) -> Result<(), Refusal> {
         // SAFETY: as in `reopen`.
         self.call(|book, image, journal| unsafe {

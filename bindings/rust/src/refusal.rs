@@ -21,6 +21,7 @@ pub enum Refusal {
     NoSuchBlock = 15,
     NothingToTakeBack = 16,
     Leftover = 17,
+    ClosedBlock = 18,
 }
 
 use Refusal::*;
@@ -43,6 +44,7 @@ const ALL: &[Refusal] = &[
     NoSuchBlock,
     NothingToTakeBack,
     Leftover,
+    ClosedBlock,
 ];
 
 impl Refusal {
@@ -76,6 +78,7 @@ impl Refusal {
             NoSuchBlock => "no such block, or no such place",
             NothingToTakeBack => "nothing to take back",
             Leftover => "leftover: bytes after the appended instruction",
+            ClosedBlock => "closed block: its last instruction is js, jmp, vexit or vxcall",
         }
     }
 }

@@ -77,10 +77,11 @@ impl Routine {
         self.edit(|book| book.remove_block(vip))
     }
 
-    /// Adds an instruction, as a file holds it, after the last one of the block.
+    /// Adds an instruction, as a file holds it, after the last one of the block. A block whose last instruction is js,
+    /// jmp, vexit or vxcall is closed and takes no more, as [`Book::append`] says.
     ///
     /// Refusals, in this order: 1, 2, 5 to 8, whichever field fails first; 17, bytes are left after it; 15, no block
-    /// has this vip; 11 and 12 at the limit.
+    /// has this vip; 18, the block is closed; 11 and 12 at the limit.
     pub fn append(&mut self, vip: Vip, instruction: &[u8]) -> Result<(), Refusal> {
         self.edit(|book| book.append(vip, instruction))
     }

@@ -1,6 +1,8 @@
 //! Books over lent memory: what each call leaves in it, and every refusal at exact lengths.
 
-use vtil::{check, check_raw, operation, Book, Call, Instruction, Lengths, Refusal, Routine, Vip, MOST_LENT};
+use vtil::{
+    check, check_raw, operation, Book, Call, Immediate, Instruction, Lengths, Operand, Refusal, Routine, Vip, MOST_LENT,
+};
 
 const MINIMAL: usize = 114;
 
@@ -11,6 +13,12 @@ fn sample(name: &str) -> Vec<u8> {
 
 fn nop() -> Instruction {
     Instruction { op: operation("nop").unwrap(), ..Default::default() }
+}
+
+/// A jmp of 48 bytes, which closes a block.
+fn jmp() -> Instruction {
+    let operands = vec![Operand::Immediate(Immediate::default())];
+    Instruction { op: operation("jmp").unwrap(), operands, ..Default::default() }
 }
 
 fn lengths(written: usize, used: usize) -> Lengths {
@@ -108,6 +116,55 @@ fn edits_are_refused_at_exact_lengths() {
     };
     assert_eq!(remove(20 + 20 + 36), Ok(()));
     assert_eq!(remove(20 + 20 + 35), Err(Refusal::JournalFull));
+}
+
+/// A closed block is refused before a full image and a full journal, and after all that is wrong with the call itself.
+#[test]
+fn a_closed_block_is_refused_in_its_order() {
+    let (nop, jmp) = (nop().to_bytes().unwrap(), jmp().to_bytes().unwrap());
+    let longer = [&nop[..], &[0]].concat();
+    for (image, journal) in [(0, 0), (0, 20), (32, 0), (31, 19), (32, 20), (500, 500)] {
+        let image = image_before(MINIMAL + 36 + jmp.len() + image);
+        let mut book = Book::open(&sample("minimal"), image, journal_before(40 + journal)).unwrap();
+        book.create_block(Vip(1)).unwrap();
+        book.append(Vip(1), &jmp).unwrap();
+        let before = book.clone();
+        assert_eq!(book.append(Vip(1), &nop[..31]), Err(Refusal::ShortFile));
+        assert_eq!(book.append(Vip(1), b"\x03\0\0\0zzz\0\0\0\0"), Err(Refusal::UnknownOperation));
+        assert_eq!(book.append(Vip(1), &longer), Err(Refusal::Leftover));
+        assert_eq!(book.append(Vip(2), &nop), Err(Refusal::NoSuchBlock));
+        assert_eq!(book.append(Vip(1), &nop), Err(Refusal::ClosedBlock));
+        assert_eq!(book.lengths(), before.lengths());
+        assert_eq!((book.image(), book.journal()), (before.image(), before.journal()));
+        book.undo().unwrap();
+        assert_eq!(book.append(Vip(1), &nop), Ok(()));
+    }
+}
+
+/// What a list of calls answers of a closed block is what the single calls answer.
+#[test]
+fn a_list_meets_a_closed_block() {
+    let (file, nop, jmp) = (sample("minimal"), nop().to_bytes().unwrap(), jmp().to_bytes().unwrap());
+    let calls = [
+        (Call::Create(Vip(1)), Ok(())),
+        (Call::Append(Vip(1), &nop), Ok(())),
+        (Call::Append(Vip(1), &jmp), Ok(())),
+        (Call::Append(Vip(1), &nop), Err(Refusal::ClosedBlock)),
+        (Call::Append(Vip(1), &jmp), Err(Refusal::ClosedBlock)),
+        (Call::Undo, Ok(())),
+        (Call::Append(Vip(1), &nop), Ok(())),
+        (Call::Append(Vip(1), &jmp), Ok(())),
+        (Call::Append(Vip(1), &nop), Err(Refusal::ClosedBlock)),
+    ];
+    let list: Vec<Call> = calls.iter().map(|(call, _)| *call).collect();
+    let mut one_by_one = Book::open(&file, image_before(400), journal_before(200)).unwrap();
+    for (place, (call, due)) in calls.iter().enumerate() {
+        assert_eq!(one_by_one.run_on(&[*call]), *due, "call {place}");
+        let mut whole = Book::resume(Lengths::default(), image_before(400), journal_before(200));
+        assert_eq!(whole.run(&file, &list[..=place]), Ok(*due), "up to call {place}");
+        assert_eq!(whole.lengths(), one_by_one.lengths());
+        assert_eq!((whole.image(), whole.journal()), (one_by_one.image(), one_by_one.journal()));
+    }
 }
 
 #[test]

@@ -65,8 +65,8 @@ fn each_operation_counts_the_rate_of_its_group() {
 #[test]
 fn every_instruction_of_every_block_counts() {
     let all: Vec<Instruction> = (0..OPERATIONS.len()).map(instruction).collect();
-    let (first, second) = all.split_at(20);
-    let routine = routine_of(&[first, &[], second]);
+    // Nothing is appended after the operations 37 to 40: each is the last of its block.
+    let routine = routine_of(&[&all[..20], &[], &all[20..38], &all[38..39], &all[39..40], &all[40..41], &all[41..]]);
     for (group, operations) in GROUPS.into_iter().enumerate() {
         assert_eq!(routine.charge(alone(group, 100)), operations.count() as u64, "group {group}");
     }
@@ -100,12 +100,14 @@ fn edits_change_the_charge() {
     let mut routine = Routine::open(&file).unwrap();
     let before = routine.charge(DIFFERENT);
     assert_eq!(before, 2 + 2 + 4 + 4 * 5 + 6);
-    routine.append_instruction(Vip(0x1010), &nop()).unwrap();
+    routine.create_block(Vip(0x1030)).unwrap();
+    routine.append_instruction(Vip(0x1030), &nop()).unwrap();
     assert_eq!(routine.charge(DIFFERENT), before + 6);
     routine.remove_block(Vip(0x1010)).unwrap();
-    assert_eq!(routine.charge(DIFFERENT), before - (2 + 6 + 5));
-    routine.undo().unwrap();
-    routine.undo().unwrap();
+    assert_eq!(routine.charge(DIFFERENT), before + 6 - (2 + 6 + 5));
+    for _ in 0..3 {
+        routine.undo().unwrap();
+    }
     assert_eq!(routine.charge(DIFFERENT), before);
 }
 

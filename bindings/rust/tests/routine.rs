@@ -2,7 +2,7 @@
 
 use vtil::{
     check, operation, Immediate, Instruction, Links, Operand, Overview, Refusal, Register, Registers, Routine, Vip,
-    LONGEST_INSTRUCTION,
+    LONGEST_INSTRUCTION, OPERATIONS,
 };
 
 fn sample(name: &str) -> Vec<u8> {
@@ -12,6 +12,12 @@ fn sample(name: &str) -> Vec<u8> {
 
 fn nop() -> Instruction {
     Instruction { op: operation("nop").unwrap(), ..Default::default() }
+}
+
+/// Its operands are immediates.
+fn instruction(op: usize) -> Instruction {
+    let operands = vec![Operand::Immediate(Immediate::default()); OPERATIONS[op].1];
+    Instruction { op: op as u32, operands, ..Default::default() }
 }
 
 fn vips(routine: &Routine) -> Vec<u64> {
@@ -35,13 +41,13 @@ fn samples_are_accepted_or_refused() {
 
 #[test]
 fn refusals_have_numbers_and_words() {
-    for number in 1..=17 {
+    for number in 1..=18 {
         let refusal = Refusal::from_number(number).unwrap();
         assert_eq!(refusal.number(), number);
         assert_eq!(refusal.to_string(), format!("refused {number}: {}", refusal.words()));
     }
     assert_eq!(Refusal::from_number(0), None);
-    assert_eq!(Refusal::from_number(18), None);
+    assert_eq!(Refusal::from_number(19), None);
 }
 
 #[test]
@@ -123,23 +129,84 @@ fn refused_instructions() {
     assert_eq!(routine.written(), before);
 }
 
+/// Each in a block of its own, since some of them close it.
 #[test]
 fn every_operation_is_written_and_read() {
     let mut routine = Routine::open(&sample("minimal")).unwrap();
-    routine.create_block(Vip(0)).unwrap();
-    let zero = Operand::Immediate(Immediate::default());
     let register = Operand::Register(Register::default());
     let mut longest = 0;
-    for (op, (name, count)) in vtil::OPERATIONS.into_iter().enumerate() {
-        let instruction = Instruction { op: op as u32, operands: vec![zero; count], ..Default::default() };
+    for (op, (name, count)) in OPERATIONS.into_iter().enumerate() {
+        let instruction = instruction(op);
         assert_eq!(instruction.name(), Some(name));
         assert_eq!(&instruction.to_bytes().unwrap()[4..4 + name.len()], name.as_bytes());
-        routine.append_instruction(Vip(0), &instruction).unwrap();
-        assert_eq!(routine.instruction(0, op as u64), Ok(instruction));
+        routine.create_block(Vip(op as u64)).unwrap();
+        routine.append_instruction(Vip(op as u64), &instruction).unwrap();
+        assert_eq!(routine.instruction(op as u64, 0), Ok(instruction));
         let longer = Instruction { op: op as u32, operands: vec![register; count], ..Default::default() };
         longest = longest.max(longer.to_bytes().unwrap().len());
     }
     assert_eq!(longest, LONGEST_INSTRUCTION);
+}
+
+/// Exactly js, jmp, vexit and vxcall close a block, whatever stands before them and whatever is appended next.
+#[test]
+fn a_closed_block_takes_no_more() {
+    for before in [None, Some(nop())] {
+        for (op, (name, _)) in OPERATIONS.into_iter().enumerate() {
+            let mut routine = Routine::open(&sample("minimal")).unwrap();
+            routine.create_block(Vip(5)).unwrap();
+            before.iter().for_each(|nop| routine.append_instruction(Vip(5), nop).unwrap());
+            routine.append_instruction(Vip(5), &instruction(op)).unwrap();
+            let closed = ["js", "jmp", "vexit", "vxcall"].contains(&name);
+            let due = if closed { Err(Refusal::ClosedBlock) } else { Ok(()) };
+            let written = routine.written().to_vec();
+            for next in [nop(), instruction(op)] {
+                assert_eq!(routine.append_instruction(Vip(5), &next), due, "{name}");
+                if closed {
+                    assert_eq!(routine.written(), written);
+                } else {
+                    routine.undo().unwrap();
+                }
+            }
+        }
+    }
+}
+
+#[test]
+fn undo_opens_a_closed_block() {
+    for op in 37..=40 {
+        let mut routine = Routine::open(&sample("odd-flags")).unwrap();
+        routine.append_instruction(Vip(5), &instruction(op)).unwrap();
+        assert_eq!(routine.append_instruction(Vip(5), &nop()), Err(Refusal::ClosedBlock));
+        routine.undo().unwrap();
+        assert_eq!(routine.append_instruction(Vip(5), &nop()), Ok(()));
+        assert_eq!(routine.append_instruction(Vip(5), &instruction(op)), Ok(()));
+        assert_eq!(routine.append_instruction(Vip(5), &instruction(op)), Err(Refusal::ClosedBlock));
+    }
+}
+
+/// The blocks of the one sample end with js, jmp and vexit; in the other, each of the four has instructions after it.
+#[test]
+fn closed_blocks_of_a_file() {
+    let file = sample("blocks");
+    let mut routine = Routine::open(&file).unwrap();
+    for vip in vips(&routine) {
+        assert_eq!(routine.append_instruction(Vip(vip), &nop()), Err(Refusal::ClosedBlock), "{vip:#x}");
+    }
+    assert_eq!(routine.written(), file);
+    // A block that comes back is closed as before; one that is made in its place is empty, so it is open.
+    routine.remove_block(Vip(0x1010)).unwrap();
+    assert_eq!(routine.append_instruction(Vip(0x1010), &nop()), Err(Refusal::NoSuchBlock));
+    routine.create_block(Vip(0x1010)).unwrap();
+    routine.append_instruction(Vip(0x1010), &nop()).unwrap();
+    for _ in 0..3 {
+        routine.undo().unwrap();
+    }
+    assert_eq!(routine.append_instruction(Vip(0x1010), &nop()), Err(Refusal::ClosedBlock));
+    assert_eq!(routine.written(), file);
+
+    let mut open = Routine::open(&sample("all-operations")).unwrap();
+    assert_eq!(open.append_instruction(Vip(1), &nop()), Ok(()));
 }
 
 #[test]

@@ -1,12 +1,13 @@
 -- Appending an instruction: the bytes that are one, the image that it leaves, and what the edit and its entry are. What stands from the end of the
 -- block's instructions on moves up by the instruction's size, over zeros, and the instruction goes into the gap.
 -- Assumes nothing.
-use mathlib.Core.Path.{_≡_, refl, sym, ap, _∙_}
+use mathlib.Core.Path.{_≡_, refl, sym, ap, ap₂, _∙_}
 use mathlib.Core.Bool.{Bool, true, false}
 use mathlib.Core.List.{List, [], _∷_, _++_, append-assoc, append-nil}
 use Prim.Native.Nat.{ℕ, _+_, _-_, _*_, _≤_, _<_}
 use native.Mathlib.Omega.{arith}
 use lib.ListN.{length, take, drop, length-append, length-replicate}
+use lib.Seq.{take-length}
 use lib.Dec.{ltb}
 use borrow.Author.Tests.{lt-ltb, le-ltb, ltb-false}
 use Rattle.fields.specs.Bytes.{zeros, put, Bytes}
@@ -23,7 +24,7 @@ use Rattle.laws.proofs.Place.{many-append}
 use Rattle.laws.proofs.Sizes.{instruction-size}
 use Rattle.ends.specs.Ends.{word}
 use Rattle.value.proofs.Refusal.{told-instruction}
-use Rattle.machine.specs.Edits.{append, edited, place, append-to, size}
+use Rattle.machine.specs.Edits.{append, edited, place, block-at, append-to, is-closed, size}
 use Rattle.machine.specs.Journal.{entry, read-size}
 use Rattle.machine.specs.Trailer.{trailer-with, trailer-bytes}
 use Rattle.machine.specs.Book.{in-image}
@@ -86,13 +87,19 @@ module _ {t : List ℕ} (b : Bytes t) (y : Whole t) where
   at-least = omega (arith, sized, instruction-size (y .x))
 
 -- The image
-module _ {image : List ℕ} {w at : ℕ} {r : Routine} {i : ℕ} (g : Target image w at r i) where
+module _ {image : List ℕ} {w at end : ℕ} {r : Routine} {i : ℕ} (g : Target image w at end r i) where
   abbrev is : List Instruction
   is = the-block r i .instructions
 
   -- where its instructions end, and how many they are
-  pub ends-within : at + 28 + length (code-of is) + length (behind r i) ≡ w
-  ends-within = omega (arith, filled-ends (g .filled) i (g .there), g .begins)
+  end-is : end ≡ at + 28 + length (code-of is)
+  end-is = g .ends ∙ ap₂ (λ a l. a + 28 + length (code-of l)) (sym (g .begins)) (take-length is)
+
+  pub ends-within : end + length (behind r i) ≡ w
+  ends-within = omega (arith, filled-ends (g .filled) i (g .there), g .begins, end-is)
+
+  pub head-within : at + 28 ≤ w
+  head-within = omega (arith, ends-within, end-is)
 
   pub count-read : word 4 image (at + 24) ≡ length is
   count-read = ap (λ a. word 4 image (a + 24)) (g .begins) ∙ filled-count (g .filled) i (g .there)
@@ -110,13 +117,13 @@ module _ {image : List ℕ} {w at : ℕ} {r : Routine} {i : ℕ} (g : Target ima
         let e : length (code-of (is ++ (x ∷ []))) ≡ length (code-of is) + length (instruction-bytes x)
         = ap length (many-append instruction-bytes is (x ∷ []) ∙ ap (λ l. code-of is ++ l) (append-nil (instruction-bytes x)))
         ∙ length-append (code-of is) (instruction-bytes x) in
-        omega (arith, ap size changed, cut-size r i (g .there) (is ++ (x ∷ [])), ends-within, g .begins)
+        omega (arith, ap size changed, cut-size r i (g .there) (is ++ (x ∷ [])), ends-within, end-is, g .begins)
 
-    pub appended-image : w + length (instruction-bytes x) ≤ length image → {end : ℕ} → end ≡ at + 28 + length (code-of is)
+    pub appended-image : w + length (instruction-bytes x) ≤ length image
         → put (at + 24) (bytes 4 (length is + 1)) (put end (instruction-bytes x) (put (end + length (instruction-bytes x)) (take (w - end) (drop end image)) image))
         ≡ in-image (length image) (with-one r i x)
     unfolding in-image many-bytes
-    appended-image room {end} ee =
+    appended-image room =
         let X = instruction-bytes x in
         let k = length X in
         let B = before r i in
@@ -130,7 +137,7 @@ module _ {image : List ℕ} {w at : ℕ} {r : Routine} {i : ℕ} (g : Target ima
         let z : zeros (N - size r) ≡ zeros k ++ Z = zeros-split (N - size r) k _ n in
         let A = B ++ (C ++ I) in
         let la : length A ≡ end
-        = omega (arith, length-append B (C ++ I), length-append C I, before-size r i, length-bytes 4 (length is), g .begins) in
+        = omega (arith, length-append B (C ++ I), length-append C I, before-size r i, length-bytes 4 (length is), g .begins, end-is) in
         let c : image ≡ A ++ (T ++ (zeros k ++ Z)) = filled-cut (g .filled) i (g .there) ∙ rw z (simp append-assoc) in
         let lt : length T ≡ w - end = omega (arith, ends-within) in
         let p : put end X (put (end + k) (take (w - end) (drop end image)) image) ≡ A ++ (X ++ (T ++ Z))
@@ -145,7 +152,7 @@ module _ {image : List ℕ} {w at : ℕ} {r : Routine} {i : ℕ} (g : Target ima
         (simp (append-assoc, append-nil)) in
         ap (put (at + 24) D) (p ∙ q) ∙ u ∙ f
 
--- The edit: what the bytes refuse, 15, or the routine with the instruction
+-- The edit: what the bytes refuse, 15, 18, or the routine with the instruction
 module _ (r : Routine) (v : ℕ) (t : List ℕ) where
   abbrev blocks : List BasicBlock
   blocks = r .explored-blocks
@@ -172,9 +179,14 @@ module _ (r : Routine) (v : ℕ) (t : List ℕ) where
     unfolding edited what-is-read refuse-if refuse-unless choose after
     no-block h = rw (y .read, read-whole, absent-after v blocks h)
 
-    pub appends : place v blocks < length blocks → edited (append v t) r ≡ accepted (with-one r (place v blocks) (y .x))
-    unfolding edited what-is-read refuse-if refuse-unless choose after
-    appends h = rw (y .read, read-whole, present-before v blocks h)
+    module _ (h : place v blocks < length blocks) where
+      pub closed : is-closed (block-at (place v blocks) blocks) ≡ true → edited (append v t) r ≡ refused 18
+      unfolding edited what-is-read refuse-if refuse-unless choose after
+      closed c = rw (y .read, read-whole, present-before v blocks h, c)
+
+      pub appends : is-closed (block-at (place v blocks) blocks) ≡ false → edited (append v t) r ≡ accepted (with-one r (place v blocks) (y .x))
+      unfolding edited what-is-read refuse-if refuse-unless choose after
+      appends o = rw (y .read, read-whole, present-before v blocks h, o)
 
     -- its entry, and what it costs
     pub entry-is : entry (append v t) r ≡ trailer-bytes (trailer-with v (place v blocks) (length t) 3)

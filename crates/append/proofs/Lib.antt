@@ -1,2 +1,3 @@
 pub mod Flags
 pub mod Appends
+pub mod Closed

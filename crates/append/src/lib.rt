@@ -7,16 +7,18 @@ ghost use lib.ListN.{length};
 ghost use Rattle.fields.specs.Bytes.{put};
 ghost use Rattle.laws.specs.Normal.{normalise, last-flag};
 ghost use Rattle.pod.specs.Values.{Routine};
-ghost use Rattle.machine.specs.Edits.{append};
+ghost use Rattle.machine.specs.Edits.{append, block-at, leaves-block, is-closed};
 ghost use Rattle.machine.specs.Machine.{edit};
 ghost use Rattle.machine.specs.Book.{in-image, step};
 ghost use Rattle.book.specs.Says.{state, outcome, refusal-of};
-ghost use Rattle.book.specs.Holding.{Is-sound};
+ghost use Rattle.book.specs.Holding.{Is-sound, Holding};
+ghost use Rattle.image.specs.Places.{Last};
 ghost use Rattle.append.specs.Whole.{Whole, one-instruction};
 ghost use Rattle.append.specs.Target.{Target, Is-target, with-one};
 use book::Answer;
 use book::Book;
 use fields::Walked;
+use image::LastInstruction;
 use pod::Vip;
 
 // The refusal of bytes that are not one instruction, or 0: what reading them refuses, then 17.
@@ -46,21 +48,42 @@ fn put_instruction(image: &mut [u8], at: usize, instruction: &[u8])
     buffer::put_u8(image, at + last, reset);
 }
 
-// One instruction goes last in the block that begins at `at`: what stands after the block's instructions moves up to make room.
-fn insert_instruction(image: &mut [u8], at: usize, written: usize, instruction: &[u8])
-    requires { ⌜ Is-target (now image) written at × (Whole (now instruction) × (written + length (now instruction) ≤ length (now image))) ⌝ }
-    ensures { λ _. ⌜ ((x : Routine) (i : ℕ) (y : Whole (now (instruction .entry))) → Target (now (image .entry)) written at x i
+// One instruction goes last in the block that begins at `at` and whose instructions end at `end`: what stands from there on moves up to make room.
+fn insert_instruction(image: &mut [u8], at: usize, end: usize, written: usize, instruction: &[u8])
+    requires { ⌜ Is-target (now image) written at end × (Whole (now instruction) × (written + length (now instruction) ≤ length (now image))) ⌝ }
+    ensures { λ _. ⌜ ((x : Routine) (i : ℕ) (y : Whole (now (instruction .entry))) → Target (now (image .entry)) written at end x i
         → now (image .exit) ≡ in-image (length (now (image .entry))) (with-one x i (y .x))) ⌝ }
 {
     let size = instruction.len();
     let count = ends::word32(image, at + ends::BLOCK_HEAD_SIZE);
-    let end = image::instructions_end(image, at);
     buffer::move_within(image, end, end + size, written - end);
     put_instruction(image, end, instruction);
     buffer::put_u32(image, at + ends::BLOCK_HEAD_SIZE, count + 1);
 }
 
-// The instruction that `instruction` is, and nothing after it, goes last in the block with the vip: what reading refuses, 17, 15, then 11, 12.
+// Whether the engine leaves a block at the operation: js, jmp, vexit and vxcall.
+fn leaves_block(op: usize) -> bool
+    ensures { λ r. ⌜ r ≡ leaves-block op ⌝ }
+{
+    match op {
+        37..=40 => true,
+        _ => false,
+    }
+}
+
+// Whether the block is closed whose last instruction is `last`. A block without instructions is open.
+fn is_closed(image: &[u8], last: LastInstruction) -> bool
+    ensures { λ r. ⌜ ((x : Routine) (i : ℕ) → Holding (now (image .entry)) x → i < length (x .explored-blocks) → Last x i last
+        → r ≡ is-closed (block-at i (x .explored-blocks))) ⌝ }
+{
+    if last.from == last.end {
+        return false;
+    }
+    leaves_block(instruction::op_of(image, last.from))
+}
+
+// The instruction that `instruction` is, and nothing after it, goes last in the block with the vip: what reading refuses, 17, 15, 18, then 11, 12. The
+// walk to the block's last instruction also tells where the new one goes.
 pub fn append(
     book: Book,
     image: &mut [u8],
@@ -80,6 +103,10 @@ pub fn append(
     if found.count as usize <= place {
         return book::refuse(book, book::NO_SUCH_BLOCK);
     }
+    let last = image::last_instruction(image, found.at);
+    if is_closed(image, last) {
+        return book::refuse(book, book::CLOSED_BLOCK);
+    }
     let written = book.written as usize;
     let used = book.used as usize;
     let size = instruction.len();
@@ -89,7 +116,7 @@ pub fn append(
     if refusal != 0 {
         return book::refuse(book, refusal);
     }
-    insert_instruction(image, found.at, written, instruction);
+    insert_instruction(image, found.at, last.end, written, instruction);
     journal::put_trailer(
         journal,
         used,

@@ -1,6 +1,5 @@
 pub mod Groups
 pub mod Tables
-pub mod Operation
 pub mod Totals
 pub mod Rated
 pub mod InBlock

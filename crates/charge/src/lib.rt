@@ -14,7 +14,6 @@ ghost use Rattle.charge.specs.Answers.{charge-look};
 ghost use Rattle.charge.specs.Sums.{Table, Sums, Summable};
 use book::Book;
 use book::Rates;
-use instruction::OpRead;
 
 // The charge in whole cents. With a refusal they are 0.
 #[repr(C)]
@@ -43,22 +42,6 @@ fn group_of(op: usize) -> usize
     }
 }
 
-// The operation of the instruction at `at`, which was accepted before. The fast way is asked here first, though `op_at` asks it too: through that alone the
-// charge takes a tenth longer. Where it does not tell, as near the image's end, the name is looked for among all.
-fn op_of(s: &[u8], at: usize) -> usize
-    ensures { λ r. ⌜ ((i : Instruction) (n : ℕ) → instruction (now (s .entry)) at ≡ ok i n → r ≡ i .op) ⌝ }
-{
-    let code = instruction::fast_code(s, at);
-    if code < 256 {
-        return (code / 4) as usize;
-    }
-    if let OpRead::Value(op, _) = instruction::op_at(s, at) {
-        op
-    } else {
-        0
-    }
-}
-
 // The rate of each operation, that of its group. The walk looks here, and not at the groups' ranges: a test for each range is a jump that no processor
 // foresees.
 fn fill(table: &mut [u32], rates: Rates)
@@ -77,7 +60,7 @@ fn fill(table: &mut [u32], rates: Rates)
 fn rate_at(s: &[u8], at: usize, table: &[u32]) -> u32
     ensures { λ r. ⌜ ((rates : charges.Rates) → Table rates (now (table .entry)) → (i : Instruction) (n : ℕ) → instruction (now (s .entry)) at ≡ ok i n → r ≡ rate-of rates i) ⌝ }
 {
-    let op = op_of(s, at);
+    let op = instruction::op_of(s, at);
     if op < table.len() { table[op] } else { 0 }
 }
 

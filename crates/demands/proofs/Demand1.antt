@@ -61,7 +61,7 @@ module _ (s : State) where
   calls (edit (create v)) = edit-calls (create v) refl refl refl (created-only refl v) (λ r r′ q x l. refl)
   calls (edit (remove v)) = edit-calls (remove v) refl refl refl (removed-only refl v) (λ r r′ q x l. absurd (removal-fits v r r′ q x l))
   calls (edit (append v t)) =
-      edit-calls (append v t) refl refl refl (appended-only refl refl v t (an-instruction t refl refl refl refl refl refl 0)) (λ r r′ q x l. refl)
+      edit-calls (append v t) refl refl refl (appended-only refl refl refl v t (an-instruction t refl refl refl refl refl refl 0)) (λ r r′ q x l. refl)
   calls undo = attempted s _ (next (held s) _ (held-only refl refl s) λ r. undo-book-only refl refl s r)
 
 file-numbered : (file : List ℕ) → Reading (In file-refusals) (read-file file)

@@ -35,7 +35,7 @@ edited-unspoiled : (e : Edit) (m : Machine) → Only Sound-refusal (edited e (m 
 edited-unspoiled (create v) m = created-only (λ q. omega arith, λ q. omega arith) v (m .now)
 edited-unspoiled (remove v) m = removed-only (λ q. omega arith, λ q. omega arith) v (m .now)
 edited-unspoiled (append v s) m =
-    appended-only (λ q. omega arith, λ q. omega arith) (λ q. omega arith, λ q. omega arith) v s
+    appended-only (λ q. omega arith, λ q. omega arith) (λ q. omega arith, λ q. omega arith) (λ q. omega arith, λ q. omega arith) v s
     (an-instruction s (other _ (omega arith)) (other _ (omega arith)) (other _ (omega arith)) (other _ (omega arith)) (other _ (omega arith)) (other _ (omega arith)) 0) (m .now)
 
 module _ (lent : Lengths) where

@@ -3,7 +3,7 @@ use mathlib.Core.Path.{refl}
 use Rattle.fields.specs.Parse.{bind, le, uint, int, part, many, span, pad, flag}
 use Rattle.fields.specs.Bytes.{put}
 use Rattle.fields.specs.Outcome.{after, refuse-if, refuse-unless, what-is-read, attempt}
-use Rattle.fields.specs.Lists.{choose, same, has, last-of, but-last}
+use Rattle.fields.specs.Lists.{choose, same, has, last-of, but-last, last-is}
 use Rattle.op.specs.Ops.{names, counts, index-of}
 use Rattle.op.specs.Text.{lead, next-state, text}
 use Rattle.pod.specs.Blocks.{repeats}
@@ -22,9 +22,9 @@ unfolding refuse-if refuse-unless what-is-read attempt bind choose le uint int p
     next-state text has repeats layout.header layout.register layout.immediate layout.operand layout.named layout.opcode layout.after-opcode
     layout.instruction layout.convention layout.block layout.blocks layout.routine w.bytes w.many-bytes w.counted-bytes w.header-bytes
     w.register-bytes w.immediate-bytes w.operand-bytes w.name-bytes w.instruction-bytes w.convention-bytes w.block-head-bytes w.block-bytes
-    w.routine-head-bytes w.routine-bytes e.place last-of but-last e.remove-at e.insert-at e.change-at e.edited e.cost e.admit m.used-by m.machine-edit
+    w.routine-head-bytes w.routine-bytes e.place last-of but-last last-is e.remove-at e.insert-at e.change-at e.leaves-block e.edited e.cost e.admit m.used-by m.machine-edit
     m.machine-undo m.machine-call m.machine-step m.machine-run tr.trailer-bytes tr.trailer j.read-size j.entry j.is-fresh j.or-spoiled j.whole
-    j.undo-create j.undo-remove j.last-size-is j.without-last j.undo-append j.undo-entry j.undone put b.in-image b.opened b.opening b.open-book b.held
+    j.undo-create j.undo-remove j.without-last j.undo-append j.undo-entry j.undone put b.in-image b.opened b.opening b.open-book b.held
     b.edit-book b.restored b.undo-book b.call-book b.step b.run c.group c.total c.cents
 instances =
     record {
@@ -57,4 +57,13 @@ instances =
       group-lasts = refl;
       rounded = refl;
       rounded-once = refl;
+      leaving-numbers = refl;
+      leaving = refl;
+      closed = refl;
+      closing = refl;
+      closed-refused = refl;
+      opened-again = refl;
+      library-closing = refl;
+      library-closed-refused = refl;
+      library-opened-again = refl;
     }

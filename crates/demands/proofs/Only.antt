@@ -49,9 +49,10 @@ module _ {P : ℕ → Type 0} where
     unfolding edited
     removed-only v r = next _ _ (unless _ 15 p₁₅) λ u. accepts _
 
-    pub appended-only : P 17 → (v : ℕ) (s : List ℕ) → Reading P (instruction s 0) → (r : Routine) → Only P (edited (append v s) r)
+    pub appended-only : P 17 → P 18 → (v : ℕ) (s : List ℕ) → Reading P (instruction s 0) → (r : Routine) → Only P (edited (append v s) r)
     unfolding edited
-    appended-only p₁₇ v s h r = next _ _ (reads _ h) λ x. next _ _ (when _ 17 p₁₇) λ u. next _ _ (unless _ 15 p₁₅) λ w. accepts _
+    appended-only p₁₇ p₁₈ v s h r =
+        next _ _ (reads _ h) λ x. next _ _ (when _ 17 p₁₇) λ u. next _ _ (unless _ 15 p₁₅) λ w. next _ _ (when _ 18 p₁₈) λ w. accepts _
 
   -- what follows them
   pub edit-book-only : P 12 → (e : Edit) (s : State) (r : Routine) → Only P (edited e r) → ((r′ : Routine) → edited e r ≡ accepted r′ → length (s .image) < size r′ → P 11)

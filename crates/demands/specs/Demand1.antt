@@ -1,11 +1,11 @@
 -- Demand 1. That no call reads or writes outside lent memory, and that every call ends, is part of what a proof of a function means. What is left to say
--- is what a refusal is: one of the numbers that document 01 has for the call, and all as it was.
+-- is what a refusal is: one of the numbers that documents 01 and 02 have for the call, and all as it was.
 use Prim.Native.Nat.{ℕ}
 use mathlib.Core.Path.{_≡_}
 use mathlib.Core.Bool.{true}
 use mathlib.Core.List.{List, [], _∷_}
 use Rattle.fields.specs.Refusals.{short-file, name-not-text, wrong-mark, unknown-machine, foreign-register, unknown-operand-kind, unknown-operation, wrong-operand-count, repeated-block}
-use Rattle.fields.specs.Refusals.{lending-too-large, image-full, journal-full, spoiled-book, block-present, no-such-block, nothing-to-take-back, leftover}
+use Rattle.fields.specs.Refusals.{lending-too-large, image-full, journal-full, spoiled-book, block-present, no-such-block, nothing-to-take-back, leftover, closed-block}
 use Rattle.fields.specs.Parse.{no, u64}
 use Rattle.fields.specs.Outcome.{Outcome, refused}
 use Rattle.fields.specs.Lists.{has}
@@ -46,11 +46,12 @@ charge-refusals = lending-too-large ∷ spoiled-book ∷ []
 abbrev pub writer-refusals : List ℕ
 writer-refusals = lending-too-large ∷ unknown-operation ∷ wrong-operand-count ∷ foreign-register ∷ unknown-operand-kind ∷ image-full ∷ []
 
--- of each call on a book, after 10 and 13: create 14, 11, 12; remove 15, 12; append the instruction's, 17, 15, 11, 12; take back 16
+-- of each call on a book, after 10 and 13: create 14, 11, 12; remove 15, 12; append the instruction's, 17, 15, 18, 11, 12; take back 16
 abbrev pub call-refusals : Call → List ℕ
 call-refusals (edit (create v)) = lending-too-large ∷ spoiled-book ∷ block-present ∷ image-full ∷ journal-full ∷ []
 call-refusals (edit (remove v)) = lending-too-large ∷ spoiled-book ∷ no-such-block ∷ journal-full ∷ []
-call-refusals (edit (append v s)) = lending-too-large ∷ spoiled-book ∷ leftover ∷ no-such-block ∷ image-full ∷ journal-full ∷ instruction-refusals
+call-refusals (edit (append v s)) =
+    lending-too-large ∷ spoiled-book ∷ leftover ∷ no-such-block ∷ closed-block ∷ image-full ∷ journal-full ∷ instruction-refusals
 call-refusals undo = lending-too-large ∷ spoiled-book ∷ nothing-to-take-back ∷ []
 
 -- a refusal is one of the numbers

@@ -1,13 +1,14 @@
--- Document 01's starred instances, and some of the charge, as one claim about the layouts, the machine and the charge.
+-- Document 01's starred instances, and some of the charge and of closed blocks, as one claim about the layouts, the machine and the charge.
 use Prim.Native.Nat.{ℕ, _+_}
 use mathlib.Core.Path.{_≡_}
-use mathlib.Core.Bool.{false}
+use mathlib.Core.Bool.{Bool, true, false}
 use mathlib.Core.List.{List, [], _∷_, _++_, map}
 use lib.ListN.{length, take, getD, replicate}
 use lib.IntN.{pos}
 use Rattle.fields.specs.Parse.{ok, no, span}
 use Rattle.fields.specs.Bytes.{zeros}
 use Rattle.fields.specs.Outcome.{Outcome, refused, accepted}
+use Rattle.op.specs.Ops.{number}
 use Rattle.pod.specs.Values.{Instruction, RoutineConvention, Routine}
 use Rattle.pod.specs.Blocks.{vips}
 use Rattle.pod.specs.Layout.{instruction, read-file}
@@ -15,7 +16,7 @@ use Rattle.pod.specs.Written.{bytes, instruction-bytes}
 use Rattle.pod.specs.declared.RegisterDesc.{RegisterDesc}
 use Rattle.pod.specs.declared.Operand.{Operand}
 use Rattle.pod.specs.declared.Operand.the-variants.{Imm, Reg}
-use Rattle.machine.specs.Edits.{create, remove, empty-block, with-instructions, with-blocks}
+use Rattle.machine.specs.Edits.{create, remove, append, empty-block, with-instructions, with-blocks, leaves-block, is-closed}
 use Rattle.machine.specs.Machine.{Call, edit, undo, Answer, start, machine-run}
 use Rattle.machine.specs.Book.{State, held, open-book, run}
 use Rattle.machine.specs.Charge.{group, sum, cents}
@@ -115,6 +116,37 @@ abbrev pub two-nops : Routine
 two-nops =
     with-blocks (with-instructions (plain 41 [] ∷ []) (empty-block 1) ∷ with-instructions (plain 41 [] ∷ []) (empty-block 2) ∷ []) smallest-routine
 
+-- js, jmp, vexit, vxcall
+abbrev pub leaving-names : List (List ℕ)
+leaving-names =
+    (106 ∷ 115 ∷ []) ∷ (106 ∷ 109 ∷ 112 ∷ []) ∷ (118 ∷ 101 ∷ 120 ∷ 105 ∷ 116 ∷ []) ∷ (118 ∷ 120 ∷ 99 ∷ 97 ∷ 108 ∷ 108 ∷ []) ∷ []
+
+-- a nop, and a jmp to an immediate
+abbrev pub a-nop : Instruction
+a-nop = plain 41 []
+
+abbrev pub a-jmp : Instruction
+a-jmp = plain 38 (Imm (record { value = 1; «bit_count» = 64 }) ∷ [])
+
+-- a block of these instructions is closed
+abbrev pub closed-with : List Instruction → Bool
+closed-with is = is-closed (with-instructions is (empty-block 5))
+
+abbrev pub append-to-5 : Instruction → Call
+append-to-5 i = edit (append 5 (instruction-bytes i))
+
+-- create 5, and append a jmp to it
+abbrev pub closes : List Call
+closes = edit (create 5) ∷ append-to-5 a-jmp ∷ []
+
+-- and then append a nop, which 222 bytes have no room for
+abbrev pub appends-behind : List Call
+appends-behind = closes ++ (append-to-5 a-nop ∷ [])
+
+-- or take the jmp back and append the nop
+abbrev pub opens-again : List Call
+opens-again = closes ++ (undo ∷ append-to-5 a-nop ∷ [])
+
 pub record Instances : Type 0 where
   -- Header of machine 2 and 106 zeros: consumed 114. Its first 113: 1. Empty: 1
   pub smallest-read : read-file smallest ≡ ok smallest-routine 114
@@ -157,3 +189,15 @@ pub record Instances : Type 0 where
   -- 0, 1, 99, 100 and 101 hundredths. Two blocks of one nop each at the rate 130: 3 cents; rounded for each block it would be 4, and without one block 2
   pub rounded : map cents (0 ∷ 1 ∷ 99 ∷ 100 ∷ 101 ∷ []) ≡ 0 ∷ 1 ∷ 1 ∷ 1 ∷ 2 ∷ []
   pub rounded-once : cents (sum (1 ∷ 2 ∷ 3 ∷ 4 ∷ 5 ∷ 130 ∷ []) two-nops) ≡ 3
+  -- The four operations at which the engine leaves a block by name, and those before and after them. A block closed by its last instruction alone
+  pub leaving-numbers : map number leaving-names ≡ 37 ∷ 38 ∷ 39 ∷ 40 ∷ []
+  pub leaving : map leaves-block (36 ∷ 37 ∷ 38 ∷ 39 ∷ 40 ∷ 41 ∷ []) ≡ false ∷ true ∷ true ∷ true ∷ true ∷ false ∷ []
+  pub closed : map closed-with ([] ∷ (a-jmp ∷ []) ∷ (a-jmp ∷ a-nop ∷ []) ∷ (a-nop ∷ a-jmp ∷ []) ∷ []) ≡ false ∷ true ∷ false ∷ true ∷ []
+  -- On the 114 bytes, image 222 and journal 116, create 5 and append a jmp: length 198, used 40. Append a nop: 18, and not 11. After taking the jmp
+  -- back: length 182, used 40
+  pub closing : answer-to closes ≡ answered 198 40
+  pub closed-refused : answer-to appends-behind ≡ refused 18
+  pub opened-again : answer-to opens-again ≡ answered 182 40
+  pub library-closing : library-answer-to closes ≡ answered 198 40
+  pub library-closed-refused : library-answer-to appends-behind ≡ refused 18
+  pub library-opened-again : library-answer-to opens-again ≡ answered 182 40

@@ -44,3 +44,8 @@ last-of x (y ∷ ys) = last-of y ys
 unfoldable pub but-last : {A : Type 0} → A → List A → List A
 but-last x [] = []
 but-last x (y ∷ ys) = x ∷ but-last y ys
+
+-- there is a last element, and it passes the test
+unfoldable pub last-is : {A : Type 0} → (A → Bool) → List A → Bool
+last-is f [] = false
+last-is f (x ∷ xs) = f (last-of x xs)

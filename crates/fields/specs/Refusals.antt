@@ -1,4 +1,4 @@
--- The refusals: document 01's table, each number with its words.
+-- The refusals: document 01's table and what document 02 adds to it, each number with its words.
 use Prim.Native.Nat.{ℕ}
 
 -- a field or name passes the end
@@ -67,3 +67,7 @@ nothing-to-take-back = 16
 -- bytes after the appended instruction
 abbrev pub leftover : ℕ
 leftover = 17
+
+-- the last instruction of the block to append to is js, jmp, vexit or vxcall
+abbrev pub closed-block : ℕ
+closed-block = 18

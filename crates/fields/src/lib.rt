@@ -43,6 +43,8 @@ pub const NOTHING_TO_TAKE_BACK: u8 = 16;
 
 pub const LEFTOVER: u8 = 17;
 
+pub const CLOSED_BLOCK: u8 = 18;
+
 // An image or a journal is at most this long.
 pub const MOST_LENT: usize = 16_777_216;
 

@@ -1,26 +1,42 @@
 -- Where the parts of a block stand, and that the walk comes to its instructions.
 -- Assumes nothing.
-use mathlib.Core.Path.{_≡_, sym, ap, ap₂, _∙_}
-use mathlib.Core.List.{List, _++_}
-use Prim.Native.Nat.{ℕ, _+_, _*_, _≤_, _<_}
+use mathlib.Core.Path.{_≡_, refl, sym, ap, ap₂, _∙_}
+use mathlib.Core.Bool.{false}
+use mathlib.Core.List.{List, [], _++_}
+use Prim.Native.Nat.{ℕ, zero, suc, _+_, _*_, _≤_, _<_}
 use native.Mathlib.Omega.{arith}
-use lib.ListN.{length, take}
+use lib.IntN.{pos}
+use lib.ListN.{length, take, getD}
 use mir.Syntax.{w64}
 use mir.Val.{ofZ}
 use mir.ValLaws.{ofZ-fits}
-use Rattle.laws.specs.Holds.{Block-holds}
+use Rattle.fields.specs.Parse.{ok}
+use Rattle.laws.specs.Holds.{Block-holds, Instruction-holds}
 use Rattle.laws.proofs.At.{fits, left, right}
 use Rattle.laws.proofs.Back.{length-bytes}
+use Rattle.laws.proofs.Layouts.{instruction-layout}
 use Rattle.laws.proofs.Sizes.{block-head-size, counted-size, vips-size}
 use Rattle.laws.specs.At.{At}
-use Rattle.pod.specs.Values.{BasicBlock, Routine}
+use Rattle.pod.specs.Values.{Instruction, BasicBlock, Routine}
+use Rattle.pod.specs.Layout.{instruction}
 use Rattle.pod.specs.Written.{bytes, block-bytes, block-head-bytes, instruction-bytes, many-bytes, counted-bytes}
 use Rattle.machine.specs.Edits.{block-at}
+use Rattle.machine.proofs.Lists.{each-at}
 use Rattle.book.specs.Holding.{Holding, block-start}
 use Rattle.ends.specs.Ends.{jump, word, times, instructionEnd}
 use Rattle.ends.proofs.Steps.{jump-in}
 use Rattle.image.specs.Places.{instruction-start}
-use Rattle.image.proofs.Stands.{named, word-at, jump-at, times-at, instruction-far, block-stands, block-holds}
+use Rattle.image.proofs.Stands.{named, word-at, jump-at, element-at, times-at, instruction-far, block-stands, block-holds}
+
+-- an instruction for where there is none
+abbrev pub any-instruction : Instruction
+any-instruction = record { op = 0; operands = []; vip = 0; sp-offset = pos 0; sp-index = 0; sp-reset = false }
+
+-- f once more, after n times
+times-last : (f : ℕ → ℕ) (n o : ℕ) → times f (suc n) o ≡ f (times f n o)
+unfolding times
+times-last f zero o = refl
+times-last f (suc n) o = times-last f n (f o)
 
 -- of a block anywhere
 module _ {s : List ℕ} {o : ℕ} (b : BasicBlock) (t : At s o (block-bytes b)) where
@@ -102,11 +118,29 @@ module _ {s : List ℕ} (x : Routine) (i : ℕ) (h : Holding s x) (l : i < lengt
       → r ≡ instruction-start x i k
   instruction-found {k} m p q = q ∙ ap (times (instructionEnd s) k) (p ∙ past-start _ stands-here (block-holds h i l)) ∙ found k m
 
+  -- how many there are
+  pub count-found : {a n : ℕ} → a ≡ jump s o 24 → n ≡ word 4 s a → n ≡ length (block-at i (x .explored-blocks) .instructions)
+  count-found p q =
+      let there = block-holds h i l in
+      q ∙ ap (word 4 s) (p ∙ to-count _ stands-here there) ∙ instruction-count _ stands-here there
+
   pub instructions-found : {a n b r : ℕ} → a ≡ jump s o 24 → n ≡ word 4 s a → b ≡ jump s a 4 → r ≡ times (instructionEnd s) n b
       → r ≡ instruction-start x i (length (block-at i (x .explored-blocks) .instructions))
   instructions-found {a} {n} {b} {r} p q f g =
       let there = block-holds h i l in
-      let a-is : a ≡ o + 24 = p ∙ to-count _ stands-here there in
-      let n-is : n ≡ length (block-at i (x .explored-blocks) .instructions) = q ∙ ap (word 4 s) a-is ∙ instruction-count _ stands-here there in
-      let b-is : b ≡ o + 28 = f ∙ ap (λ j. jump s j 4) a-is ∙ past-count _ stands-here there in
-      g ∙ ap₂ (times (instructionEnd s)) n-is b-is ∙ found _ (omega arith)
+      let b-is : b ≡ o + 28 = f ∙ ap (λ j. jump s j 4) (p ∙ to-count _ stands-here there) ∙ past-count _ stands-here there in
+      g ∙ ap₂ (times (instructionEnd s)) (count-found p q) b-is ∙ found _ (omega arith)
+
+  -- one ends where the next begins
+  pub instruction-next : (k : ℕ) → k < length (block-at i (x .explored-blocks) .instructions)
+      → instructionEnd s (instruction-start x i k) ≡ instruction-start x i (suc k)
+  instruction-next k m = ap (instructionEnd s) (sym (found k (omega arith))) ∙ sym (times-last (instructionEnd s) k (o + 28)) ∙ found (suc k) m
+
+  -- and each is read where it stands
+  pub instruction-read : (k : ℕ) → k < length (block-at i (x .explored-blocks) .instructions)
+      → (n : ℕ) × (instruction s (instruction-start x i k) ≡ ok (getD (block-at i (x .explored-blocks) .instructions) k any-instruction) n)
+  instruction-read k m =
+      let is = block-at i (x .explored-blocks) .instructions in
+      let holds = each-at Instruction-holds any-instruction k is (block-holds h i l .instructions .each) m in
+      let t = element-at instruction-bytes any-instruction (o + 28) k is m (instructions-at _ stands-here) in
+      (_, instruction-layout .back (getD is k any-instruction) holds s _ (named (ap (λ p. p + 28 + length (many-bytes instruction-bytes (take k is))) e) t))

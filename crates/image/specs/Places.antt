@@ -1,5 +1,5 @@
 -- What is found in an image that holds a routine.
-use Prim.Native.Nat.{ℕ, zero, suc, _+_}
+use Prim.Native.Nat.{ℕ, zero, suc, _+_, _-_}
 use mathlib.Core.Path.{_≡_}
 use mathlib.Core.Bool.{Bool, false, _&&_}
 use mathlib.Core.List.{List}
@@ -12,6 +12,7 @@ use Rattle.pod.specs.Written.{convention-bytes, instruction-bytes, many-bytes, 
 use Rattle.machine.specs.Edits.{place as place-of, block-at}
 use Rattle.book.specs.Holding.{block-start}
 use Rattle.image.specs.declared.Found.{Found}
+use Rattle.image.specs.declared.LastInstruction.{LastInstruction}
 
 -- what was walked over ends at n, and is in written form
 abbrev pub ends-at : ℕ → Res Bool → Bool
@@ -39,3 +40,8 @@ convention-start x (suc (suc i)) =
 -- where instruction k of the block at place i begins: the end of the last where k is their number
 abbrev pub instruction-start : Routine → ℕ → ℕ → ℕ
 instruction-start x i k = block-start x i + 28 + length (many-bytes instruction-bytes (take k (block-at i (x .explored-blocks) .instructions)))
+
+-- where the last instruction of the block at place i begins and ends; both are where the first would begin where there is none
+pub record Last (x : Routine) (i : ℕ) (r : LastInstruction) : Type 0 where
+  pub from : r .from ≡ instruction-start x i (length (block-at i (x .explored-blocks) .instructions) - 1)
+  pub end : r .end ≡ instruction-start x i (length (block-at i (x .explored-blocks) .instructions))

@@ -9,7 +9,7 @@ ghost use Rattle.machine.specs.Look.{conventions};
 ghost use Rattle.machine.specs.Book.{held};
 ghost use Rattle.book.specs.Says.{state, refusal-of};
 ghost use Rattle.book.specs.Holding.{Holding, blocks-start, block-start};
-ghost use Rattle.image.specs.Places.{is-routine, Finds, convention-start, instruction-start};
+ghost use Rattle.image.specs.Places.{is-routine, Finds, Last, convention-start, instruction-start};
 use book::Book;
 use fields::Walked;
 use pod::Vip;
@@ -65,6 +65,12 @@ pub struct Found {
     pub place: usize,
     pub at: usize,
     pub count: u32,
+}
+
+// Where the last instruction of a block begins and ends; in a block without instructions both are where its first would begin.
+pub struct LastInstruction {
+    pub from: usize,
+    pub end: usize,
 }
 
 // The number of special conventions, which stands after the routine's and the subroutine's.
@@ -161,4 +167,22 @@ pub fn instructions_end(image: &[u8], at: usize) -> usize
     let count = ends::word32(image, a);
     let b = ends::jump(image, a, ends::COUNT_SIZE);
     ends::instructions_end(image, b, count)
+}
+
+// The last instruction of the block at offset `at`, in one walk over those before it.
+pub fn last_instruction(image: &[u8], at: usize) -> LastInstruction
+    ensures { λ r. ⌜ ((x : Routine) (i : ℕ) → Holding (now (image .entry)) x → i < length (x .explored-blocks) → at ≡ block-start x i → Last x i r) ⌝ }
+{
+    let head = ends::jump(image, at, ends::BLOCK_HEAD_SIZE);
+    let count = ends::word32(image, head);
+    if count == 0 {
+        let first = instruction_offset(image, at, 0);
+        return LastInstruction {
+            from: first,
+            end: first,
+        };
+    }
+    let from = instruction_offset(image, at, count - 1);
+    let end = ends::instruction_end(image, from);
+    LastInstruction { from, end }
 }

@@ -21,7 +21,7 @@ use Rattle.pod.specs.Written.{many-bytes, instruction-bytes, block-bytes, routi
 use Rattle.laws.specs.Holds.{Instruction-holds, Block-holds, Routine-holds}
 use Rattle.laws.proofs.Layouts.{instruction-layout, read-holds, read-to, read-within}
 use Rattle.laws.proofs.Sizes.{instruction-size, block-size, block-least, block-empty, routine-size}
-use Rattle.machine.specs.Edits.{Edit, create, remove, append, present, place, empty-block, block-at, remove-at, change-at, append-to, with-blocks, edited, size}
+use Rattle.machine.specs.Edits.{Edit, create, remove, append, present, place, empty-block, block-at, remove-at, change-at, append-to, with-blocks, is-closed, edited, size}
 use Rattle.machine.specs.Machine.{edit, Sendable}
 use Rattle.machine.proofs.Lists.{total, total-snoc, total-least, many-total, total-remove, total-change, each-snoc, each-at, each-remove}
 use Rattle.machine.proofs.Lists.{each-change, one, one-same, one-other, found, absent-count, once-count, count-once}
@@ -47,7 +47,7 @@ did-append v s b r r′ d =
     let q = was-read (instruction s 0) (x .1) in
     let p = if-passed 17 _ (ltb (x .0 .1) (length s)) (x .2) in
     let t = unless-passed 15 _ (present v (r .explored-blocks)) (p .1) in
-    let y = t .1 in
+    let y = if-passed 18 _ (is-closed (block-at (place v (r .explored-blocks)) (r .explored-blocks))) (t .1) .1 in
     let l = ltb-false (x .0 .1) (length s) (p .0) in
     let h = read-within instruction-layout b q in
     let e : x .0 .1 ≡ length s = omega arith in

@@ -3,13 +3,13 @@
 use mathlib.Core.Path.{_≡_, refl, sym, ap, _∙_}
 use mathlib.Core.Bool.{Bool, true, false}
 use mathlib.Core.List.{List, [], _∷_, _++_}
-use Prim.Native.Nat.{ℕ, zero, suc, _+_, _*_, _≤_, _<_}
+use Prim.Native.Nat.{ℕ, zero, suc, _+_, _-_, _*_, _≤_, _<_}
 use native.Mathlib.Nat.{not-suc-le-zero, le-of-suc-le-suc}
 use native.Mathlib.Omega.{arith}
 use lib.ListN.{length, getD, length-append}
 use lib.Dec.{eqb}
 use borrow.Author.Tests.{eqb-true, eqb-false, eq-eqb, ne-eqb}
-use Rattle.fields.specs.Lists.{choose, has, Each, last-of, but-last}
+use Rattle.fields.specs.Lists.{choose, has, Each, last-of, but-last, last-is}
 use Rattle.pod.specs.Values.{BasicBlock}
 use Rattle.pod.specs.Blocks.{vips, repeats}
 use Rattle.pod.specs.Written.{many-bytes}
@@ -127,6 +127,31 @@ pub snoc-last : {A : Type 0} (x : A) (xs : List A) (y : A) → last-of x (xs ++ 
 unfolding last-of
 snoc-last x [] y = refl
 snoc-last x (z ∷ xs) y = snoc-last z xs y
+
+-- a test of the last element
+module _ {A : Type 0} (f : A → Bool) where
+  pub last-is-snoc : (xs : List A) (x : A) → last-is f (xs ++ (x ∷ [])) ≡ f x
+  unfolding last-is last-of
+  last-is-snoc [] x = refl
+  last-is-snoc (y ∷ xs) x = ap f (snoc-last y xs x)
+
+  pub last-is-none : (xs : List A) → length xs ≡ 0 → last-is f xs ≡ false
+  unfolding last-is
+  last-is-none [] h = refl
+  last-is-none (x ∷ xs) h = absurd (omega arith)
+
+  pub last-is-some : (xs : List A) → last-is f xs ≡ true → 0 < length xs
+  unfolding last-is
+  last-is-some [] h = let z : false ≡ true = h in let y : _≡_ {A = ℕ} 0 1 = cc in absurd (omega arith)
+  last-is-some (x ∷ xs) h = omega arith
+
+  pub last-is-at : (d : A) (xs : List A) → 0 < length xs → last-is f xs ≡ f (getD xs (length xs - 1) d)
+  unfolding last-is last-of
+  last-is-at d [] h = absurd (omega arith)
+  last-is-at d (x ∷ []) h = refl
+  last-is-at d (x ∷ y ∷ ys) h =
+      let e : suc (length (y ∷ ys) - 1) ≡ length (x ∷ y ∷ ys) - 1 = omega arith in
+      last-is-at d (y ∷ ys) (omega arith) ∙ ap (λ k. f (getD (x ∷ y ∷ ys) k d)) e
 
 -- the removed block put back
 pub insert-remove : (i : ℕ) (bs : List BasicBlock) → i < length bs → insert-at i (block-at i bs) (remove-at i bs) ≡ bs

@@ -22,7 +22,7 @@ use Rattle.laws.proofs.Layouts.{block-layout, read-all}
 use Rattle.machine.specs.Edits.{Edit, create, remove, append, present, place, empty-block, block-at, remove-at, insert-at, change-at, append-to, with-instructions, with-blocks, cost, size}
 use Rattle.machine.specs.Machine.{edit, Sendable}
 use Rattle.machine.specs.Journal.{read-size, entry, is-fresh, or-spoiled, whole, undo-create, undo-remove, last-size-is, without-last, undo-append, undo-entry, undone}
-use Rattle.machine.proofs.Lists.{total-remove, each-at, length-remove, length-change, at-change, snoc-but-last, snoc-last, insert-remove}
+use Rattle.machine.proofs.Lists.{total-remove, each-at, length-remove, length-change, at-change, snoc-but-last, last-is-snoc, insert-remove}
 use Rattle.machine.proofs.Lists.{change-back, one, one-same, Found, found, once-count, count-absent}
 use Rattle.machine.proofs.Held.{whole-yes, whole-only}
 use Rattle.machine.proofs.Keeps.{Did, weight, blocks-few, weight-at, removed-size, appended-size}
@@ -72,9 +72,7 @@ create-undone r v =
 
 -- the last instruction is the one that was appended, and without it the block is as it was
 last-appended : (x : Instruction) (is : List Instruction) → last-size-is (length (instruction-bytes x)) (is ++ (x ∷ [])) ≡ true
-unfolding last-size-is last-of
-last-appended x [] = eq-eqb (length (instruction-bytes x)) _ refl
-last-appended x (y ∷ is) = eq-eqb _ _ (ap (λ z. length (instruction-bytes z)) (snoc-last y is x))
+last-appended x is = last-is-snoc _ is x ∙ eq-eqb (length (instruction-bytes x)) _ refl
 
 pub without-appended : (x : Instruction) (a : BasicBlock) → without-last (append-to x a) ≡ a
 unfolding without-last but-last

@@ -5,9 +5,9 @@ use mathlib.Core.List.{List, [], _∷_, _++_}
 use lib.ListN.{length, getD}
 use lib.Dec.{eqb, leb, ltb}
 use lib.IntN.{pos}
-use Rattle.fields.specs.Refusals.{image-full, journal-full, block-present, no-such-block, leftover}
+use Rattle.fields.specs.Refusals.{image-full, journal-full, block-present, no-such-block, leftover, closed-block}
 use Rattle.fields.specs.Outcome.{Outcome, accepted, _>>=_, _>>_, refuse-if, refuse-unless, what-is-read}
-use Rattle.fields.specs.Lists.{choose, has, last-of, but-last}
+use Rattle.fields.specs.Lists.{choose, has, last-of, but-last, last-is}
 use Rattle.pod.specs.Values.{Instruction, BasicBlock, Routine}
 use Rattle.pod.specs.Blocks.{vips}
 use Rattle.pod.specs.Layout.{instruction}
@@ -85,13 +85,21 @@ with-blocks bs r =
 abbrev pub size : Routine → ℕ
 size r = length (routine-bytes r)
 
+-- Document 02, b. The engine leaves a block at js, jmp, vexit or vxcall
+unfoldable pub leaves-block : ℕ → Bool
+leaves-block op = has op (37 ∷ 38 ∷ 39 ∷ 40 ∷ [])
+
+-- a block whose last instruction is one of these four is closed; an empty block is open
+abbrev pub is-closed : BasicBlock → Bool
+is-closed b = last-is (λ i. leaves-block (i .op)) (b .instructions)
+
 -- create(vip), remove(vip), append(vip, bytes)
 pub data Edit : Type 0 where
   create : ℕ → Edit
   remove : ℕ → Edit
   append : ℕ → List ℕ → Edit
 
--- the routine after an edit, or why it is refused. create: 14. remove: 15. append: reading refusals, 17, 15
+-- the routine after an edit, or why it is refused. create: 14. remove: 15. append: reading refusals, 17, 15, 18
 unfoldable pub edited : Edit → Routine → Outcome Routine
 edited (create v) r = do
   refuse-if (present v (r .explored-blocks)) block-present
@@ -103,6 +111,7 @@ edited (append v s) r = do
   x ← what-is-read (instruction s 0)
   refuse-if (ltb (x .1) (length s)) leftover
   refuse-unless (present v (r .explored-blocks)) no-such-block
+  refuse-if (is-closed (block-at (place v (r .explored-blocks)) (r .explored-blocks))) closed-block
   accepted (with-blocks (change-at (place v (r .explored-blocks)) (append-to (x .0)) (r .explored-blocks)) r)
 
 -- what an edit costs: an entry's trailer, and for a removal the removed block's size

@@ -9,7 +9,7 @@ use mir.Val.{ofZ}
 use Rattle.fields.specs.Refusals.{spoiled-book}
 use Rattle.fields.specs.Parse.{Res, ok, no}
 use Rattle.fields.specs.Outcome.{Outcome, refused, accepted, _>>=_, _>>_, refuse-if, refuse-unless}
-use Rattle.fields.specs.Lists.{choose, same, none, last-of, but-last}
+use Rattle.fields.specs.Lists.{choose, same, none, but-last, last-is}
 use Rattle.pod.specs.Values.{Instruction, BasicBlock, Routine}
 use Rattle.pod.specs.Layout.{instruction, block}
 use Rattle.pod.specs.Written.{instruction-bytes, block-bytes}
@@ -41,9 +41,8 @@ is-fresh b =
     && (eqb (b .sp-index) 0 && (eqb (b .last-temporary-index) 0 && (none (b .instructions) && (none (b .prev-vip) && none (b .next-vip)))))
 
 -- the last instruction of a block has so many bytes
-unfoldable pub last-size-is : ℕ → List Instruction → Bool
-last-size-is n [] = false
-last-size-is n (i ∷ is) = eqb (length (instruction-bytes (last-of i is))) n
+abbrev pub last-size-is : ℕ → List Instruction → Bool
+last-size-is n is = last-is (λ i. eqb (length (instruction-bytes i)) n) is
 
 -- a block without its last instruction
 unfoldable pub without-last : BasicBlock → BasicBlock

@@ -7,14 +7,12 @@ use mathlib.Core.List.{List, [], _∷_, _++_, append-assoc, append-nil}
 use Prim.Native.Nat.{ℕ, suc, _+_, _-_, _≤_, _<_}
 use native.Mathlib.Omega.{arith}
 use lib.Dec.{eqb, ltb}
-use lib.IntN.{pos}
 use lib.ListN.{length, take, drop, getD, length-append, length-replicate, drop-of-length-le}
 use lib.Seq.{split-at, length-take-le}
 use borrow.Author.Tests.{eqb-true}
 use Rattle.fields.specs.Bytes.{zeros, put}
 use Rattle.fields.specs.Refusals.{spoiled-book}
 use Rattle.fields.specs.Outcome.{Outcome, accepted, _>>_, refuse-unless}
-use Rattle.fields.specs.Lists.{last-of}
 use Rattle.pod.specs.Values.{Instruction, BasicBlock, Routine}
 use Rattle.pod.specs.Written.{bytes, many-bytes, instruction-bytes, routine-bytes}
 use Rattle.ends.specs.Ends.{word, instructionEnd}
@@ -26,37 +24,17 @@ use Rattle.machine.specs.Edits.{with-blocks, with-instructions, size}
 use Rattle.machine.specs.Journal.{last-size-is, without-last, undo-append}
 use Rattle.machine.specs.Book.{in-image}
 use Rattle.machine.specs.Trailer.{Trailer, trailer-size}
-use Rattle.machine.proofs.Lists.{snoc-last, each-at}
+use Rattle.machine.proofs.Lists.{last-is-some, last-is-at, each-at}
 use Rattle.machine.proofs.Parts.{change-parts}
 use Rattle.machine.proofs.Undo.{without-appended}
 use Rattle.image.proofs.Cuts.{before, behind, the-block, with-code, code-of, before-size, cut, cut-size, cut-here, here-size}
-use Rattle.image.proofs.Parts.{stands-here, instruction-count, instructions-at}
+use Rattle.image.proofs.Parts.{any-instruction, stands-here, instruction-count, instructions-at}
 use Rattle.image.proofs.Stands.{block-holds, element-at, instruction-far}
 use Rattle.undo_append.specs.Last.{Block-in, Last-in, shortened}
-
--- a list with a last element
-last-size : (n : ℕ) (is : List Instruction) (x : Instruction) → last-size-is n (is ++ (x ∷ [])) ≡ eqb (length (instruction-bytes x)) n
-unfolding last-size-is last-of
-last-size n [] x = refl
-last-size n (i ∷ is) x = ap (λ y. eqb (length (instruction-bytes y)) n) (snoc-last i is x)
-
-pub no-last : (n : ℕ) (is : List Instruction) → length is ≡ 0 → last-size-is n is ≡ false
-unfolding last-size-is last-of
-no-last n [] h = refl
-no-last n (i ∷ is) h = absurd (omega arith)
 
 -- the last instruction of a block, and those before it
 abbrev pub front : BasicBlock → List Instruction
 front b = take (length (b .instructions) - 1) (b .instructions)
-
-some-last : (n : ℕ) (is : List Instruction) → last-size-is n is ≡ true → 0 < length is
-unfolding last-size-is
-some-last n [] h = let z : false ≡ true = h in let y : _≡_ {A = ℕ} 0 1 = cc in absurd (omega arith)
-some-last n (i ∷ is) h = omega arith
-
--- an instruction for where there is none
-abbrev any-instruction : Instruction
-any-instruction = record { op = 0; operands = []; vip = 0; sp-offset = pos 0; sp-index = 0; sp-reset = false }
 
 abbrev pub final : BasicBlock → Instruction
 final b = getD (b .instructions) (length (b .instructions) - 1) any-instruction
@@ -76,7 +54,7 @@ module _ (b : BasicBlock) (h : 0 < length (b .instructions)) where
   without-final = ap (λ is. without-last (with-instructions is b)) is-snoc ∙ without-appended (final b) (with-instructions (front b) b)
 
   pub final-size : (n : ℕ) → last-size-is n (b .instructions) ≡ eqb (length (instruction-bytes (final b))) n
-  final-size n = ap (last-size-is n) is-snoc ∙ last-size n (front b) (final b)
+  final-size n = last-is-at _ any-instruction (b .instructions) h
 
   pub code-split : code-of (b .instructions) ≡ code-of (front b) ++ instruction-bytes (final b)
   unfolding many-bytes
@@ -120,7 +98,7 @@ module _ {image : List ℕ} {r : Routine} {i at n w : ℕ} (o : Last-in image r 
   h = o .block .within
 
   k : 0 < length (a .instructions)
-  k = some-last n (a .instructions) (o .last)
+  k = last-is-some _ (a .instructions) (o .last)
 
   pub sized : length (instruction-bytes (final a)) ≡ n
   sized = eqb-true _ n (sym (final-size a k n) ∙ o .last)

@@ -8,19 +8,19 @@ use lib.ListN.{length}
 use Rattle.fields.specs.Bytes.{put, Bytes}
 use Rattle.fields.specs.Outcome.{accepted}
 use Rattle.pod.specs.Values.{Routine}
-use Rattle.machine.specs.Edits.{Edit, append, edited, place, size}
+use Rattle.machine.specs.Edits.{Edit, append, edited, place, block-at, is-closed, size}
 use Rattle.machine.specs.Trailer.{trailer-with, trailer-bytes}
 use Rattle.machine.specs.Journal.{entry}
 use Rattle.machine.specs.Book.{State}
 use Rattle.book.specs.Says.{state}
 use Rattle.book.proofs.Answers.{refused-by, admits}
 use Rattle.book.proofs.Steps.{refused-step, not-admitted-step, admitted-step}
-use Rattle.image.specs.Places.{Finds}
+use Rattle.image.specs.Places.{Finds, Last}
 use Rattle.image.proofs.Inspects.{sound-holding}
 use Rattle.image.proofs.Fills.{sound-filled}
 use Rattle.append.specs.Whole.{Whole}
 use Rattle.append.specs.Target.{Target, with-one}
-use Rattle.append.proofs.Appends.{is-whole, sized, one-size, not-one, no-block, appends, entry-is, append-costs}
+use Rattle.append.proofs.Appends.{is-whole, sized, one-size, not-one, no-block, closed, appends, entry-is, append-costs}
 use borrow.Author.Needs.{needs}
 use Rattle.append.proofs.append.Statement.{statement}
 use Rattle.append.proofs.append.Tie as tie
@@ -38,7 +38,16 @@ passing c = c .before .before
 abbrev finding : tie.Else2 → tie.After-find
 finding c = c .before .before
 
-abbrev testing : tie.After-admit → tie.Else2
+abbrev reaching : tie.After-is-closed → tie.After-last-instruction
+reaching c = c .before .before
+
+abbrev asking : tie.Else3 → tie.After-is-closed
+asking c = c .before
+
+abbrev refusing : tie.After-refuse3 → tie.After-is-closed
+refusing c = c .before .before
+
+abbrev testing : tie.After-admit → tie.Else3
 testing c = c .before
 
 abbrev admitting : tie.After-insert-instruction-arg → tie.After-admit
@@ -84,25 +93,46 @@ at-block c = at-find (finding c)
 there : (c : tie.Else2) → I (at-block c) < length (R (at-block c) .explored-blocks)
 there c = let f = finds (finding c) in omega (arith, c .if2 .left, f .place, f .count)
 
-target : (c : tie.Else2) → Target (at-block c .args .image .now) (at-block c .args .book .written) (finding c .find .result .at) (R (at-block c)) (I (at-block c))
-target c = record { filled = sound-filled (at-block c .pre .sound); there = there c; begins = finds (finding c) .at }
+-- its last instruction was reached
+abbrev block : tie.After-last-instruction → tie.Else2
+block c = c .before .before
+
+abbrev at-last : tie.After-last-instruction → tie.Start
+at-last c = at-block (block c)
+
+last : (c : tie.After-last-instruction) → Last (R (at-last c)) (I (at-last c)) (c .last-instruction .result)
+last c = let s = at-last c in c .last-instruction .ensures (R s) (I s) (sound-holding (s .pre .sound)) (there (block c)) (finds (finding (block c)) .at)
+
+target : (c : tie.After-last-instruction) → let s = at-last c in
+    Target (s .args .image .now) (s .args .book .written) (finding (block c) .find .result .at) (c .last-instruction .result .end) (R s) (I s)
+target c = record { filled = sound-filled (at-last c .pre .sound); there = there (block c); begins = finds (finding (block c)) .at; ends = last c .end }
+
+-- and tells whether the block is closed
+told : (c : tie.After-is-closed) → let s = at-last (reaching c) in c .is-closed .result ≡ is-closed (block-at (I s) (R s .explored-blocks))
+told c =
+    let p = reaching c in
+    let s = at-last p in
+    c .is-closed .ensures (R s) (I s) (sound-holding (s .pre .sound)) (there (block p)) (last p)
 
 -- after the edit's own tests: what it makes of the routine, and what is written and used then
 module _ (c : tie.After-admit) where
+  abbrev p : tie.After-last-instruction
+  p = reaching (asking (testing c))
+
   abbrev s : tie.Start
-  s = at-block (testing c)
+  s = at-last p
 
   abbrev Y : Whole (s .args .instruction .now)
-  Y = whole (passing (finding (testing c)))
+  Y = whole (passing (finding (block p)))
 
   abbrev R′ : Routine
   R′ = with-one (R s) (I s) (Y .x)
 
   made : edited (E s) (R s) ≡ accepted R′
-  made = appends (R s) (s .args .vip .0) (s .args .instruction .now) Y (there (testing c))
+  made = appends (R s) (s .args .vip .0) (s .args .instruction .now) Y (there (block p)) (sym (told (asking (testing c))) ∙ testing c .if3 .left)
 
   grown : s .args .book .written + length (s .args .instruction .now) ≡ size R′
-  grown = omega (arith, one-size (target (testing c)) (Y .x), sized (octets (reading (passing (finding (testing c))))) Y)
+  grown = omega (arith, one-size (target p) (Y .x), sized (octets (reading (passing (finding (block p))))) Y)
 
   spent : s .args .book .used + 20 ≡ s .args .book .used + length (entry (E s) (R s))
   spent = omega (arith, append-costs (R s) (s .args .vip .0) (s .args .instruction .now) Y)
@@ -113,7 +143,7 @@ module _ (c : tie.After-insert-instruction-arg) where
   t = s (admitting c)
 
   admitted : admitting c .admit .result ≡ 0
-  admitted = c .before .if3 .left
+  admitted = c .before .if4 .left
 
   room : (t .args .book .written + length (t .args .instruction .now) ≤ length (t .args .image .now)) × (t .args .book .used + 20 ≤ length (t .args .journal .now))
   room = admits _ _ _ (sym (admitting c .admit .ensures) ∙ admitted)
@@ -134,17 +164,28 @@ returns-2 c =
     c .refuse2 .ensures _ _ (omega arith)
     ∙ sym (refused-step (S s) (R s) (s .pre .sound) (E s) _ (no-block (R s) _ _ (whole (passing g)) (omega (arith, c .before .if2 .taken, f .place, f .count))))
 
+is-closed-requires : tie.Need-is-closed-requires
+is-closed-requires c κs = search needs
+
 returns-3 : tie.Need-returns-3
 returns-3 c =
+    let a = refusing c in
+    let p = reaching a in
+    let s = at-last p in
+    c .refuse3 .ensures _ _ (omega arith)
+    ∙ sym (refused-step (S s) (R s) (s .pre .sound) (E s) _ (closed (R s) _ _ (whole (passing (finding (block p)))) (there (block p)) (sym (told a) ∙ c .before .if3 .taken)))
+
+returns-4 : tie.Need-returns-4
+returns-4 c =
     let a = c .before .before in
     let s = s a in
-    c .refuse3 .ensures _ _ (omega arith)
-    ∙ not-admitted-step (S s) (R s) (s .pre .sound) (E s) (R′ a) (made a) (grown a) (spent a) (a .admit .ensures) (c .before .if3 .taken)
+    c .refuse4 .ensures _ _ (omega arith)
+    ∙ not-admitted-step (S s) (R s) (s .pre .sound) (E s) (R′ a) (made a) (grown a) (spent a) (a .admit .ensures) (c .before .if4 .taken)
 
 insert-instruction-requires : tie.Need-insert-instruction-requires
 insert-instruction-requires c κs =
-    let e = testing (admitting c) in
-    (record { x = R (t c); i = I (t c); target = target e }, (whole (passing (finding e)), room c .0))
+    let a = admitting c in
+    (record { x = R (t c); i = I (t c); target = target (p a) }, (Y a, room c .0))
 
 cast-put-trailer-2 : tie.Need-cast-put-trailer-2
 cast-put-trailer-2 c = let i = inserting c .before in omega (arith, room i .0, t i .pre .sound .image-lent)
@@ -152,19 +193,19 @@ cast-put-trailer-2 c = let i = inserting c .before in omega (arith, room i .0, t
 put-trailer-requires : tie.Need-put-trailer-requires
 put-trailer-requires c κs = room (inserting c .before) .1
 
-returns-4 : tie.Need-returns-4
-returns-4 c =
-    let p = noting c in
-    let n = inserting (p .before) in
+returns-5 : tie.Need-returns-5
+returns-5 c =
+    let o = noting c in
+    let n = inserting (o .before) in
     let i = n .before in
     let a = admitting i in
     let s = s a in
     let v = s .args .vip .0 in
     c .accept .ensures _ _
     ∙ admitted-step (S s) (R s) (s .pre .sound) (E s) (R′ a) (made a) (grown a) (spent a) (a .admit .ensures) (admitted i)
-    (n .insert-instruction .ensures (R s) (I s) (Y a) (target (testing a)))
-    (p .put-trailer .ensures
-    ∙ ap (λ j. put (s .args .book .used) (trailer-bytes (trailer-with v j (length (s .args .instruction .now)) 3)) (s .args .journal .now)) (finds (finding (testing a)) .place)
+    (n .insert-instruction .ensures (R s) (I s) (Y a) (target (p a)))
+    (o .put-trailer .ensures
+    ∙ ap (λ j. put (s .args .book .used) (trailer-bytes (trailer-with v j (length (s .args .instruction .now)) 3)) (s .args .journal .now)) (finds (finding (block (p a))) .place)
     ∙ ap (λ l. put (s .args .book .used) l (s .args .journal .now)) (sym (entry-is (R s) v (s .args .instruction .now) (Y a))))
 
 pub append-spec : {M : Type 1} → statement M
@@ -179,12 +220,17 @@ append-spec =
     (λ c κs. search needs)
     (λ c. search needs)
     returns-2
-    (λ c. search needs)
-    (λ c. search needs)
     (λ c κs. search needs)
+    is-closed-requires
     (λ c κs. search needs)
     (λ c. search needs)
     returns-3
+    (λ c. search needs)
+    (λ c. search needs)
+    (λ c κs. search needs)
+    (λ c κs. search needs)
+    (λ c. search needs)
+    returns-4
     insert-instruction-requires
     (λ c. search needs)
     cast-put-trailer-2
@@ -192,4 +238,4 @@ append-spec =
     (λ c κs. search needs)
     (λ c. search needs)
     (λ c. search needs)
-    returns-4)
+    returns-5)

@@ -3,7 +3,7 @@ use mathlib.Core.Path.{ap, _∙_}
 use native.Mathlib.Omega.{arith}
 use lib.ListN.{getD}
 use Rattle.fields.specs.Bytes.{Bytes}
-use Rattle.charge.proofs.Operation.{op-listed}
+use Rattle.instruction.proofs.Operation.{op-listed}
 use borrow.Author.Needs.{needs}
 use Rattle.charge.proofs.rate_at.Statement.{statement}
 use Rattle.charge.proofs.rate_at.Tie as tie

@@ -7,9 +7,10 @@ use lib.Dec.{eqb}
 use lib.ListN.{length, take}
 use Rattle.pod.specs.Values.{Routine}
 use Rattle.pod.specs.Written.{instruction-bytes}
+use Rattle.machine.proofs.Lists.{last-is-none}
 use Rattle.image.proofs.Cuts.{the-block, code-of}
 use Rattle.undo_append.specs.Last.{Block-in}
-use Rattle.undo_append.proofs.Unappends.{front, final, no-last, final-size, block-ends, room, final-end}
+use Rattle.undo_append.proofs.Unappends.{front, final, final-size, block-ends, room, final-end}
 use Rattle.undo_append.proofs.Unappends as U
 use borrow.Author.Needs.{needs}
 use Rattle.undo_append.proofs.last_size_is.Statement.{statement}
@@ -60,7 +61,7 @@ add-word32 : tie.Need-add-word32
 add-word32 c = let o = c .before .pre .block in omega (arith, block-ends o, room o)
 
 returns : tie.Need-returns
-returns c r i o = let w = c .before in sym (no-last (start w .args .size) (the-block r i .instructions) (sym (counted w o) ∙ c .if1 .taken))
+returns c r i o = let w = c .before in sym (last-is-none _ (the-block r i .instructions) (sym (counted w o) ∙ c .if1 .taken))
 
 sub-result : tie.Need-sub-result
 sub-result c = omega (arith, ended c (start₃ (beginning c) .pre .block))

@@ -1,10 +1,10 @@
 -- The operation is found as the layout reads it.
 use mathlib.Core.Path.{sym, ap, _∙_}
 use Rattle.instruction.specs.Answers.{of-op}
-use Rattle.charge.proofs.Operation.{op-is, op-accepted}
+use Rattle.instruction.proofs.Operation.{op-is, op-accepted}
 use borrow.Author.Needs.{needs}
-use Rattle.charge.proofs.op_of.Statement.{statement}
-use Rattle.charge.proofs.op_of.Tie as tie
+use Rattle.instruction.proofs.op_of.Statement.{statement}
+use Rattle.instruction.proofs.op_of.Tie as tie
 
 abbrev start : tie.After-fast-code → tie.Start
 start c = c .before .before

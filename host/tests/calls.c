@@ -1,0 +1,141 @@
+#include "calls.h"
+
+#include <string.h>
+
+#include "book_pair.h"
+#include "group.h"
+#include "lent.h"
+
+static struct room instruction_room, words_room, bytes_room, file_room;
+static struct lent lent_words, lent_bytes, lent_file;
+
+void set_up_calls(void)
+{
+    instruction_room = make_room(BYTES_MAX);
+    words_room = make_room(4 * CALLS * sizeof(uint64_t));
+    bytes_room = make_room(BYTES_MAX);
+    file_room = make_room(BYTES_MAX);
+}
+
+/* One call in both ------------------------------------------------------------------------ */
+
+static vtil_answer library_call(vtil_book numbers, const struct ref_call *call)
+{
+    struct lent bytes = lend(&instruction_room, call->len, below(2) == 0);
+    memcpy(bytes.plain, call->bytes, call->len);
+    switch (call->kind) {
+    case VTIL_CREATE:
+        return vtil_create_block(numbers, image.writable, image.len, journal.writable, journal.len, call->vip);
+    case VTIL_REMOVE:
+        return vtil_remove_block(numbers, image.writable, image.len, journal.writable, journal.len, call->vip);
+    case VTIL_APPEND:
+        return vtil_append(numbers, image.writable, image.len, journal.writable, journal.len, call->vip, bytes.readable,
+                           bytes.len);
+    default:
+        return vtil_undo(numbers, image.writable, image.len, journal.writable, journal.len);
+    }
+}
+
+vtil_answer call_both(const struct ref_call *call)
+{
+    vtil_book before = twin.numbers;
+    vtil_answer want = ref_step(&twin, call);
+    next_case();
+    hold_answer(library_call(before, call), want);
+    hold_bytes();
+    return want;
+}
+
+struct ref_call call_of(enum vtil_call kind, uint64_t vip)
+{
+    static const uint8_t no_bytes_at[1];
+    return (struct ref_call){kind, vip, no_bytes_at, 0};
+}
+
+/* Lists in one call ---------------------------------------------------------------------------- */
+
+#define LIST (const uint64_t *)(const void *)lent_words.readable, lent_words.len / 8, lent_bytes.readable, lent_bytes.len
+
+void lend_list(const uint64_t *words, size_t count, const uint8_t *bytes, size_t len)
+{
+    lent_words = lend(&words_room, 8 * count, below(2) == 0);
+    lent_bytes = lend(&bytes_room, len, below(2) == 0);
+    memcpy(lent_words.plain, words, 8 * count);
+    memcpy(lent_bytes.plain, bytes, len);
+}
+
+/* Each call's words, and the bytes of all. */
+static void lend_calls(const struct ref_call *calls, size_t count)
+{
+    static uint64_t words[4 * CALLS];
+    static struct bytes bytes;
+    bytes.len = 0;
+    for (size_t i = 0; i < count; i++) {
+        const struct ref_call *call = &calls[i];
+        words[4 * i] = call->kind;
+        words[4 * i + 1] = call->vip;
+        words[4 * i + 2] = bytes.len;
+        put_bytes(&bytes, call->bytes, call->len);
+        words[4 * i + 3] = bytes.len;
+    }
+    lend_list(words, 4 * count, bytes.at, bytes.len);
+}
+
+void lend_file(const struct bytes *file)
+{
+    lent_file = lend(&file_room, file->len, below(2) == 0);
+    memcpy(lent_file.plain, file->at, file->len);
+}
+
+vtil_run_answer library_run(void)
+{
+    return vtil_run(lent_file.readable, lent_file.len, image.writable, image.len, journal.writable, journal.len, LIST);
+}
+
+vtil_run_answer library_run_on(vtil_book numbers)
+{
+    return vtil_run_on(numbers, image.writable, image.len, journal.writable, journal.len, LIST);
+}
+
+vtil_run_answer due_of_calls(const struct ref_call *calls, size_t count)
+{
+    vtil_run_answer due = {0, 0, twin.numbers};
+    for (size_t i = 0; i < count; i++) {
+        vtil_answer answer = ref_step(&twin, &calls[i]);
+        due.last = answer.refusal;
+        due.book = answer.book;
+    }
+    return due;
+}
+
+void hold_run(vtil_run_answer got, vtil_run_answer want)
+{
+    next_case();
+    group.answers[want.refusal != 0 ? want.refusal : want.last]++;
+    hold("refusal", image.len, (int64_t)got.refusal, (int64_t)want.refusal);
+    hold("the last call's refusal", image.len, (int64_t)got.last, (int64_t)want.last);
+    hold_book(got.book, want.book);
+    hold_bytes();
+}
+
+vtil_run_answer run_list(const struct bytes *file, const struct ref_call *calls, size_t count)
+{
+    lend_calls(calls, count);
+    lend_file(file);
+    lend_book(image.len, journal.len);
+    vtil_answer opened = ref_open(&twin, file->at, file->len);
+    vtil_run_answer want = {opened.refusal, 0, opened.book};
+    if (opened.refusal == 0)
+        want = due_of_calls(calls, count);
+    hold_run(library_run(), want);
+    return want;
+}
+
+vtil_run_answer run_list_on(const struct ref_call *calls, size_t count)
+{
+    vtil_book before = twin.numbers;
+    lend_calls(calls, count);
+    vtil_run_answer want = due_of_calls(calls, count);
+    hold_run(library_run_on(before), want);
+    return want;
+}
