@@ -1,6 +1,7 @@
 pub mod Inspects
 pub mod Stands
 pub mod Parts
+pub mod Lasts
 pub mod Searches
 pub mod Swaps
 pub mod Laid

@@ -11,7 +11,7 @@ use borrow.Author.Tests.{eq-eqb, le-leb, lt-ltb}
 use Rattle.fields.specs.Parse.{ok}
 use Rattle.fields.specs.Outcome.{accepted, after, refuse-if, refuse-unless}
 use Rattle.fields.proofs.Only.{Only, accepts, next, unless, when}
-use Rattle.fields.specs.Lists.{choose, last-of, but-last}
+use Rattle.fields.specs.Lists.{choose, but-last}
 use Rattle.pod.specs.Values.{Instruction, BasicBlock, Routine}
 use Rattle.pod.specs.Layout.{block}
 use Rattle.pod.specs.Written.{instruction-bytes, block-bytes}

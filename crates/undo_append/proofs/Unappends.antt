@@ -2,12 +2,11 @@
 -- last instruction moves down over it, and zeros stand where that ended. By splitting the instructions before the last.
 -- Assumes nothing.
 use mathlib.Core.Path.{_≡_, refl, sym, ap, ap₂, _∙_}
-use mathlib.Core.Bool.{true, false}
 use mathlib.Core.List.{List, [], _∷_, _++_, append-assoc, append-nil}
 use Prim.Native.Nat.{ℕ, suc, _+_, _-_, _≤_, _<_}
 use native.Mathlib.Omega.{arith}
 use lib.Dec.{eqb, ltb}
-use lib.ListN.{length, take, drop, getD, length-append, length-replicate, drop-of-length-le}
+use lib.ListN.{length, take, drop, length-append, length-replicate, drop-of-length-le}
 use lib.Seq.{split-at, length-take-le}
 use borrow.Author.Tests.{eqb-true}
 use Rattle.fields.specs.Bytes.{zeros, put}
@@ -15,53 +14,50 @@ use Rattle.fields.specs.Refusals.{spoiled-book}
 use Rattle.fields.specs.Outcome.{Outcome, accepted, _>>_, refuse-unless}
 use Rattle.pod.specs.Values.{Instruction, BasicBlock, Routine}
 use Rattle.pod.specs.Written.{bytes, many-bytes, instruction-bytes, routine-bytes}
-use Rattle.ends.specs.Ends.{word, instructionEnd}
+use Rattle.ends.specs.Ends.{word}
 use Rattle.buffer.proofs.Put.{put-parts, closed, zeros-split}
-use Rattle.laws.specs.Holds.{Instruction-holds}
 use Rattle.laws.proofs.Back.{length-bytes}
 use Rattle.laws.proofs.Place.{many-append}
 use Rattle.machine.specs.Edits.{with-blocks, with-instructions, size}
 use Rattle.machine.specs.Journal.{last-size-is, without-last, undo-append}
 use Rattle.machine.specs.Book.{in-image}
 use Rattle.machine.specs.Trailer.{Trailer, trailer-size}
-use Rattle.machine.proofs.Lists.{last-is-some, last-is-at, each-at}
+use Rattle.machine.proofs.Lists.{last-is-some, last-is-at}
 use Rattle.machine.proofs.Parts.{change-parts}
 use Rattle.machine.proofs.Undo.{without-appended}
 use Rattle.image.proofs.Cuts.{before, behind, the-block, with-code, code-of, before-size, cut, cut-size, cut-here, here-size}
-use Rattle.image.proofs.Parts.{any-instruction, stands-here, instruction-count, instructions-at}
-use Rattle.image.proofs.Stands.{block-holds, element-at, instruction-far}
+use Rattle.image.proofs.Lasts.{final}
+use Rattle.image.proofs.Parts.{any-instruction, stands-here, instruction-count}
+use Rattle.image.proofs.Stands.{block-holds}
 use Rattle.undo_append.specs.Last.{Block-in, Last-in, shortened}
 
--- the last instruction of a block, and those before it
-abbrev pub front : BasicBlock → List Instruction
+-- the instructions of a block before its last
+abbrev front : BasicBlock → List Instruction
 front b = take (length (b .instructions) - 1) (b .instructions)
 
-abbrev pub final : BasicBlock → Instruction
-final b = getD (b .instructions) (length (b .instructions) - 1) any-instruction
-
 module _ (b : BasicBlock) (h : 0 < length (b .instructions)) where
-  pub is-snoc : b .instructions ≡ front b ++ (final b ∷ [])
+  is-snoc : b .instructions ≡ front b ++ (final b ∷ [])
   is-snoc =
       let k : length (b .instructions) - 1 < length (b .instructions) = omega arith in
       let m : length (b .instructions) ≤ suc (length (b .instructions) - 1) = omega arith in
       split-at (b .instructions) (length (b .instructions) - 1) any-instruction k
       ∙ ap (λ l. front b ++ (final b ∷ l)) (drop-of-length-le (b .instructions) m)
 
-  pub front-length : length (front b) ≡ length (b .instructions) - 1
+  front-length : length (front b) ≡ length (b .instructions) - 1
   front-length = length-take-le (length (b .instructions) - 1) (b .instructions) (omega arith)
 
   without-final : without-last b ≡ with-instructions (front b) b
   without-final = ap (λ is. without-last (with-instructions is b)) is-snoc ∙ without-appended (final b) (with-instructions (front b) b)
 
-  pub final-size : (n : ℕ) → last-size-is n (b .instructions) ≡ eqb (length (instruction-bytes (final b))) n
+  final-size : (n : ℕ) → last-size-is n (b .instructions) ≡ eqb (length (instruction-bytes (final b))) n
   final-size n = last-is-at _ any-instruction (b .instructions) h
 
-  pub code-split : code-of (b .instructions) ≡ code-of (front b) ++ instruction-bytes (final b)
+  code-split : code-of (b .instructions) ≡ code-of (front b) ++ instruction-bytes (final b)
   unfolding many-bytes
   code-split =
       ap code-of is-snoc ∙ many-append instruction-bytes (front b) (final b ∷ []) ∙ ap (λ l. code-of (front b) ++ l) (append-nil (instruction-bytes (final b)))
 
-  pub code-sum : length (code-of (b .instructions)) ≡ length (code-of (front b)) + length (instruction-bytes (final b))
+  code-sum : length (code-of (b .instructions)) ≡ length (code-of (front b)) + length (instruction-bytes (final b))
   code-sum = ap length code-split ∙ length-append (code-of (front b)) (instruction-bytes (final b))
 
 -- The block in the image
@@ -69,7 +65,7 @@ module _ {image : List ℕ} {r : Routine} {i at : ℕ} (o : Block-in image r i a
   abbrev b : BasicBlock
   b = the-block r i
 
-  pub block-ends : at + 28 + length (code-of (b .instructions)) + length (behind r i) ≡ size r
+  block-ends : at + 28 + length (code-of (b .instructions)) + length (behind r i) ≡ size r
   block-ends = omega (arith, here-size r i (o .within), o .at-is)
 
   pub room : size r ≤ length image
@@ -77,17 +73,6 @@ module _ {image : List ℕ} {r : Routine} {i at : ℕ} (o : Block-in image r i a
 
   pub counted : word 4 image (at + 24) ≡ length (b .instructions)
   counted = instruction-count b (stands-here r i (o .holding) (o .within) (o .at-is)) (block-holds (o .holding) i (o .within))
-
-  -- its last instruction ends where the walk says
-  pub final-end : 0 < length (b .instructions) → (from : ℕ) → from ≡ at + 28 + length (code-of (front b))
-      → instructionEnd image from ≡ from + length (instruction-bytes (final b))
-  final-end k from e =
-      let j = length (b .instructions) - 1 in
-      let l : j < length (b .instructions) = omega arith in
-      let t = instructions-at b (stands-here r i (o .holding) (o .within) (o .at-is)) in
-      let f : Instruction-holds (final b)
-      = each-at Instruction-holds any-instruction j (b .instructions) (block-holds (o .holding) i (o .within) .instructions .each) l in
-      rw e (instruction-far _ (final b) f (element-at instruction-bytes any-instruction (at + 28) j (b .instructions) l t))
 
 -- The image without that instruction
 module _ {image : List ℕ} {r : Routine} {i at n w : ℕ} (o : Last-in image r i at n w) where

@@ -23,13 +23,11 @@ fn last_size_is(image: &[u8], at: usize, size: usize) -> bool
     requires { ⌜ Has-block (now image) at ⌝ }
     ensures { λ y. ⌜ ((r : Routine) (i : ℕ) → Block-in (now (image .entry)) r i at → y ≡ last-size-is size (block-at i (r .explored-blocks) .instructions)) ⌝ }
 {
-    let count = ends::word32(image, at + ends::BLOCK_HEAD_SIZE);
-    if count == 0 {
+    let last = image::last_instruction(image, at);
+    if last.from == last.end {
         return false;
     }
-    let from = image::instruction_offset(image, at, count - 1);
-    let end = ends::instruction_end(image, from);
-    end - from == size
+    last.end - last.from == size
 }
 
 // The last instruction of the block at offset `at`, which has so many bytes, goes, and what stands after it moves down.
