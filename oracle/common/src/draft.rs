@@ -41,11 +41,13 @@ pub struct Shape {
     pub blocks: usize,
     pub instructions: usize,
     pub vips: usize,
+    /// Many instructions are such that a block takes no more after them.
+    pub closing: bool,
 }
 
-pub const SMALL: Shape = Shape { registers: 1, conventions: 1, blocks: 2, instructions: 2, vips: 1 };
-pub const MIDDLING: Shape = Shape { registers: 4, conventions: 3, blocks: 8, instructions: 6, vips: 4 };
-pub const MANY_BLOCKS: Shape = Shape { registers: 1, conventions: 1, blocks: 200, instructions: 1, vips: 1 };
+pub const SMALL: Shape = Shape { registers: 1, conventions: 1, blocks: 2, instructions: 2, vips: 1, closing: false };
+pub const MIDDLING: Shape = Shape { registers: 4, conventions: 3, blocks: 8, instructions: 6, vips: 4, closing: false };
+pub const MANY_BLOCKS: Shape = Shape { blocks: 200, instructions: 1, ..SMALL };
 
 /// One past the last id that is not foreign.
 pub const FOREIGN: u64 = 3 << 56;
@@ -139,10 +141,24 @@ impl Draft {
         self.bytes.push(flag(rng));
     }
 
-    pub fn instruction(&mut self, rng: &mut Rng) {
-        let (name, operands) = rng.pick(ops());
+    fn instruction_of(&mut self, rng: &mut Rng, (name, operands): (&str, u32)) {
         self.operation(name.as_bytes(), operands);
         self.operands_and_rest(rng, operands);
+    }
+
+    pub fn instruction(&mut self, rng: &mut Rng) {
+        let operation = rng.pick(ops());
+        self.instruction_of(rng, operation);
+    }
+
+    /// Half the time one of the four that close a block, js, jmp, vexit and vxcall, or of their neighbours ifs and nop,
+    /// which do not; else any.
+    pub fn closing_instruction(&mut self, rng: &mut Rng) {
+        if rng.one_in(2) {
+            return self.instruction(rng);
+        }
+        let operation = rng.pick(&ops()[36..=41]);
+        self.instruction_of(rng, operation);
     }
 
     fn registers(&mut self, rng: &mut Rng, most: usize) {
@@ -183,7 +199,11 @@ impl Draft {
         let count = rng.below(shape.instructions + 1);
         self.count(count);
         for _ in 0..count {
-            self.instruction(rng);
+            if shape.closing {
+                self.closing_instruction(rng);
+            } else {
+                self.instruction(rng);
+            }
         }
         self.vips(rng, shape.vips);
         self.vips(rng, shape.vips);

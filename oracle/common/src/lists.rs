@@ -1,6 +1,6 @@
 //! Lists of calls from a seed: a file, the lent lengths, and calls of which some are accepted and some refused.
 
-use crate::draft::{Draft, Field, MIDDLING, SMALL};
+use crate::draft::{Draft, Field, Shape, MIDDLING, SMALL};
 use crate::faults::{apply, places, FAULTS};
 use crate::reference::Call;
 use crate::rng::Rng;
@@ -19,10 +19,11 @@ fn vips_of(draft: &Draft) -> Vec<u64> {
     there.chain([5, 6, u64::MAX]).collect()
 }
 
-/// An instruction's bytes, now and then with a fault or with bytes left over.
+/// An instruction's bytes, now and then with a fault or with bytes left over. Many close the block, so that later calls
+/// meet it closed, opened again by an undo, removed, and restored.
 fn instruction(rng: &mut Rng) -> Vec<u8> {
     let mut draft = Draft::default();
-    draft.instruction(rng);
+    draft.closing_instruction(rng);
     match rng.below(8) {
         0 => draft.bytes.extend([0; 3]),
         1 => spoil(&mut draft, rng),
@@ -69,7 +70,7 @@ fn room(rng: &mut Rng, edges: &[usize], plenty: usize) -> usize {
 
 pub fn list(rng: &mut Rng) -> List {
     let shape = if rng.one_in(4) { MIDDLING } else { SMALL };
-    let draft = Draft::routine(rng, shape);
+    let draft = Draft::routine(rng, Shape { closing: true, ..shape });
     let calls = calls(rng, &vips_of(&draft));
     List {
         image_length: draft.bytes.len() + room(rng, &[0, 35, 36, 37, 71, 72], 4_000),

@@ -19,6 +19,7 @@ pub const WRONG_OPERAND_COUNT: Refusal = 8;
 pub const REPEATED_BLOCK: Refusal = 9;
 pub const BLOCK_PRESENT: Refusal = 14;
 pub const NO_SUCH_BLOCK: Refusal = 15;
+pub const CLOSED_BLOCK: Refusal = 18;
 
 /// The declarations of reference.h.
 mod c {

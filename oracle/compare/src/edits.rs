@@ -5,40 +5,34 @@
 use crate::charges;
 use crate::report::{hex, lengths, number, shrink, Report};
 use oracle::lists::{self, List};
-use oracle::reference::{Call, Machine, Refusal, BLOCK_PRESENT, NO_SUCH_BLOCK};
+use oracle::reference::{Call, Machine, Refusal, BLOCK_PRESENT, CLOSED_BLOCK, NO_SUCH_BLOCK};
 use oracle::rng::Rng;
 use scroll::Pread;
 use std::collections::BTreeMap;
 use vtil::{Book, Lengths};
-use vtil_parser::{Instruction, Routine, Vip};
+use vtil_parser::{Instruction, Op, Routine, Vip};
 
-/// Does an edit to the Rust's routine. False: it has no such block, or has it already.
-fn edit(routine: &mut Routine, call: &Call) -> bool {
+/// Does an edit to the Rust's routine. 14 and 15 are where the Rust's own calls answer `None`.
+fn edit(routine: &mut Routine, call: &Call) -> Result<(), Refusal> {
     match call {
-        Call::Create(vip) => routine.create_block(Vip(*vip)).is_some(),
-        Call::Remove(vip) => routine.remove_block(Vip(*vip)).is_some(),
+        Call::Create(vip) => routine.create_block(Vip(*vip)).map(|_| ()).ok_or(BLOCK_PRESENT),
+        Call::Remove(vip) => routine.remove_block(Vip(*vip)).map(|_| ()).ok_or(NO_SUCH_BLOCK),
         Call::Append(vip, bytes) => push(routine, *vip, bytes),
         Call::Undo => unreachable!("the history holds edits only"),
     }
 }
 
-/// The Rust has no append; its users push to the block's list.
-fn push(routine: &mut Routine, vip: u64, bytes: &[u8]) -> bool {
-    let Some(block) = routine.explored_blocks.get_mut(&Vip(vip)) else {
-        return false;
-    };
+/// The Rust has no append; its users push to the block's list. Nor has it closed blocks: whether a block is closed is
+/// seen in the Rust's own values.
+fn push(routine: &mut Routine, vip: u64, bytes: &[u8]) -> Result<(), Refusal> {
+    let block = routine.explored_blocks.get_mut(&Vip(vip)).ok_or(NO_SUCH_BLOCK)?;
+    let last = block.instructions.last().map(|instruction| &instruction.op);
+    if matches!(last, Some(Op::Js(..) | Op::Jmp(..) | Op::Vexit(..) | Op::Vxcall(..))) {
+        return Err(CLOSED_BLOCK);
+    }
     let instruction = bytes.pread_with::<Instruction>(0, scroll::LE).expect("document 01 accepts this instruction");
     block.instructions.push(instruction);
-    true
-}
-
-/// The Rust's routine is no value to keep: it is read again, and every edit that still stands is done again.
-fn replayed(file: &[u8], history: &[Call]) -> Routine {
-    let mut routine = Routine::from_vec(file).expect("document 01 accepts this file");
-    for call in history {
-        assert!(edit(&mut routine, call), "an accepted edit is one for the Rust too");
-    }
-    routine
+    Ok(())
 }
 
 /// What a call answers: the refusal (0: accepted), and what the book says after it.
@@ -62,11 +56,6 @@ fn note(history: &mut Vec<Call>, call: &Call) {
         }
         edit => history.push(edit.clone()),
     }
-}
-
-/// 14 and 15 are where the Rust's own calls answer `None`.
-fn rust_refuses(file: &[u8], history: &[Call], call: &Call) -> bool {
-    !edit(&mut replayed(file, history), call)
 }
 
 /// One list, in an image and a journal of exactly its lengths, as far as the first difference.
@@ -97,11 +86,21 @@ impl Run<'_> {
         Run { list, machine, history: vec![], book, last }
     }
 
+    /// The Rust's routine is no value to keep: it is read again, and every edit that still stands is done again.
+    fn replayed(&self) -> Result<Routine, Refusal> {
+        let mut routine = Routine::from_vec(&self.list.file).expect("document 01 accepts this file");
+        self.history.iter().try_for_each(|call| edit(&mut routine, call))?;
+        Ok(routine)
+    }
+
     fn difference_after(&mut self, call: &Call) -> Option<String> {
         let step = self.machine.step(call);
         match step.refusal {
-            BLOCK_PRESENT | NO_SUCH_BLOCK if !rust_refuses(&self.list.file, &self.history, call) => {
-                return Some("document 01 refuses what the Rust does".to_string());
+            BLOCK_PRESENT | NO_SUCH_BLOCK | CLOSED_BLOCK => {
+                let rust = self.replayed().and_then(|mut routine| edit(&mut routine, call));
+                if rust != Err(step.refusal) {
+                    return Some(format!("document 01 refuses {}, Rust {rust:?}", step.refusal));
+                }
             }
             0 => note(&mut self.history, call),
             _ => {}
@@ -122,7 +121,9 @@ impl Run<'_> {
         if self.book.journal() != self.machine.journal() {
             return Some("another journal than document 01's".to_string());
         }
-        let rust = replayed(&self.list.file, &self.history);
+        let Ok(rust) = self.replayed() else {
+            return Some("document 01 does what the Rust refuses".to_string());
+        };
         let charged = charges::difference(&self.book, &rust);
         if self.book.written() != rust.into_bytes().expect("the sink has the routine's size") {
             return Some("other written bytes than the Rust's".to_string());
