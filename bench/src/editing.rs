@@ -1,11 +1,11 @@
 //! Edits of an opened book. The Rust's way from bytes to bytes is from_vec, the edit and into_bytes; it has no undo.
 
 use crate::clock::{best_of_both, heading, print, print_one_side, time};
-use crate::inputs::{vip_of, with_size};
+use crate::inputs::{one_block, vip_of, with_size};
 use oracle::draft::Draft;
 use oracle::rng::Rng;
 use std::time::Duration;
-use vtil::{Book, Refusal};
+use vtil::{BlockRef, Book, Refusal};
 use vtil_parser::{Routine, Vip};
 
 /// A vip that no block has.
@@ -75,36 +75,54 @@ fn instruction() -> Vec<u8> {
     draft.bytes
 }
 
-fn edits_at(name: &str, size: usize) {
-    let file = with_size(size);
-    let blocks = u32::from_le_bytes(file[110..114].try_into().expect("four bytes")) as usize;
-    let middle = vip_of(blocks / 2);
-    let (mut image, mut journal) = (vec![1; file.len() + IMAGE_ROOM], vec![1; JOURNAL]);
-    let book = Book::open(&file, &mut image[..], &mut journal[..]).expect("the measured files can be opened");
-    let mut bench = Bench { file: &file, book };
+/// The first block from the middle on that is open. A closed one, whose last instruction is js, jmp, vexit or vxcall,
+/// takes no append: the time would be that of a refusal.
+fn open_block(file: &[u8]) -> u64 {
+    let blocks = vtil::read(file).expect("the measured files are accepted").explored_blocks();
+    let middle = blocks.len() / 2;
+    let is_closed = |block: &BlockRef| block.instructions().last().is_some_and(|last| (37..=40).contains(&last.op()));
+    blocks.skip(middle).find(|block| !is_closed(block)).expect("some block is open").vip().0
+}
 
-    let create_rust = |routine: &mut Routine| {
-        routine.create_block(Vip(NEW));
-    };
-    measure(&mut bench, &format!("{name}, create"), create_rust, |book| book.create_block(vtil::Vip(NEW)));
-
-    let remove_rust = |routine: &mut Routine| {
-        routine.remove_block(Vip(middle));
-    };
-    measure(&mut bench, &format!("{name}, remove"), remove_rust, |book| book.remove_block(vtil::Vip(middle)));
-
+fn append(bench: &mut Bench, name: &str) {
+    let vip = open_block(bench.file);
     let bytes = instruction();
     let append_rust = |routine: &mut Routine| {
-        let block = routine.explored_blocks.get_mut(&Vip(middle)).expect("the block is there");
+        let block = routine.explored_blocks.get_mut(&Vip(vip)).expect("the block is there");
         let instruction = scroll::Pread::pread_with(&bytes[..], 0, scroll::LE).expect("an instruction");
         block.instructions.push(instruction);
     };
-    measure(&mut bench, &format!("{name}, append"), append_rust, |book| book.append(vtil::Vip(middle), &bytes));
+    measure(bench, &format!("{name}, append"), append_rust, |book| book.append(vtil::Vip(vip), &bytes));
+}
+
+fn create_and_remove(bench: &mut Bench, name: &str) {
+    let create_rust = |routine: &mut Routine| {
+        routine.create_block(Vip(NEW));
+    };
+    measure(bench, &format!("{name}, create"), create_rust, |book| book.create_block(vtil::Vip(NEW)));
+
+    let blocks = vtil::read(bench.file).expect("the measured files are accepted").explored_blocks().len();
+    let middle = vip_of(blocks / 2);
+    let remove_rust = |routine: &mut Routine| {
+        routine.remove_block(Vip(middle));
+    };
+    measure(bench, &format!("{name}, remove"), remove_rust, |book| book.remove_block(vtil::Vip(middle)));
+}
+
+fn with_book(file: &[u8], measures: impl Fn(&mut Bench)) {
+    let (mut image, mut journal) = (vec![1; file.len() + IMAGE_ROOM], vec![1; JOURNAL]);
+    let book = Book::open(file, &mut image[..], &mut journal[..]).expect("the measured files can be opened");
+    measures(&mut Bench { file, book });
 }
 
 pub fn edits() {
     heading("edits", "from_vec, edit, into_bytes", "library call");
-    edits_at("10 kB", 10_000);
-    edits_at("1 MB", 1_000_000);
-    edits_at("16 MB", 16_000_000);
+    for (name, size) in [("10 kB", 10_000), ("1 MB", 1_000_000), ("16 MB", 16_000_000)] {
+        with_book(&with_size(size), |bench| {
+            create_and_remove(bench, name);
+            append(bench, name);
+        });
+    }
+    // The way to the end of a block's instructions passes all of them.
+    with_book(&one_block(), |bench| append(bench, "8 MB in one block"));
 }

@@ -7,16 +7,24 @@ use oracle::rng::Rng;
 const SEED: u64 = 1;
 const INSTRUCTIONS_A_BLOCK: usize = 25;
 
-fn put_block(file: &mut Vec<u8>, vip: u64, instructions: usize, rng: &mut Rng) {
-    file.extend(vip.to_le_bytes());
-    file.extend([0; 16]);
-    file.extend((instructions as u32).to_le_bytes());
+fn some_instructions(count: usize, rng: &mut Rng) -> Draft {
     let mut draft = Draft::default();
-    for _ in 0..instructions {
+    for _ in 0..count {
         draft.instruction(rng);
     }
-    file.extend(draft.bytes);
+    draft
+}
+
+fn put_block(file: &mut Vec<u8>, vip: u64, count: usize, instructions: Draft) {
+    file.extend(vip.to_le_bytes());
+    file.extend([0; 16]);
+    file.extend((count as u32).to_le_bytes());
+    file.extend(instructions.bytes);
     file.extend([0; 8]);
+}
+
+fn put_next_block(file: &mut Vec<u8>, place: usize, rng: &mut Rng) {
+    put_block(file, vip_of(place), INSTRUCTIONS_A_BLOCK, some_instructions(INSTRUCTIONS_A_BLOCK, rng));
 }
 
 /// Blocks of 25 instructions over all operations, their vips rising, as many as stay below `size` bytes.
@@ -26,7 +34,7 @@ pub fn with_size(size: usize) -> Vec<u8> {
     let mut blocks = 0;
     loop {
         let before = file.len();
-        put_block(&mut file, vip_of(blocks), INSTRUCTIONS_A_BLOCK, &mut rng);
+        put_next_block(&mut file, blocks, &mut rng);
         if file.len() > size {
             file.truncate(before);
             break;
@@ -42,10 +50,23 @@ pub fn instructions() -> Vec<u8> {
     const BLOCKS: usize = 4_000;
     let mut rng = Rng::new(SEED);
     let mut file = minimal_routine();
-    for i in 0..BLOCKS {
-        put_block(&mut file, vip_of(i), INSTRUCTIONS_A_BLOCK, &mut rng);
+    for place in 0..BLOCKS {
+        put_next_block(&mut file, place, &mut rng);
     }
     set_block_count(&mut file, BLOCKS);
+    file
+}
+
+/// 100,000 instructions in one block, some 8 MB. The last is a nop, so that the block is open and takes an append.
+pub fn one_block() -> Vec<u8> {
+    const INSTRUCTIONS: usize = 100_000;
+    let mut rng = Rng::new(SEED);
+    let mut file = minimal_routine();
+    let mut instructions = some_instructions(INSTRUCTIONS - 1, &mut rng);
+    instructions.operation(b"nop", 0);
+    instructions.operands_and_rest(&mut rng, 0);
+    put_block(&mut file, vip_of(0), INSTRUCTIONS, instructions);
+    set_block_count(&mut file, 1);
     file
 }
 
