@@ -330,8 +330,10 @@ int main(void)
     measure("vtil_convention_register", look_register);
     measure("vtil_charge", look_charge);
     measure("vtil_create_block", create);
-    measure("vtil_append", append);
+    measure("vtil_append, to an empty block", append);
+    measure("vtil_append, behind an instruction", append);
     measure("vtil_undo, an append", undo);
+    measure("vtil_undo, an append to an empty block", undo);
     measure("vtil_undo, a create", undo);
     measure("vtil_remove_block", remove_one);
     measure("vtil_undo, a remove", undo);
