@@ -443,8 +443,9 @@ vtil_answer vtil_remove_block(vtil_book book, uint8_t *image, size_t image_len, 
  * A block is closed when its last instruction is js, jmp, vexit or vxcall, the
  * operations 37 to 40: the engine leaves the block there, so it would never come to
  * an instruction after that one. A closed block takes no more. An empty block is
- * open, and so is a block in which one of the four is not the last instruction, as
- * can come from a file. vtil_undo of the append that closed a block opens it again.
+ * open, and so is one whose last instruction is another, whatever stands before it:
+ * a file may have one of the four in the middle of a block. vtil_undo of the append
+ * that closed a block opens it again.
  *
  * Refusals, in this order: 10, 13; 1, 2, 5, 6, 7 or 8, whichever field of the
  * instruction fails first (1: its bytes end too early); 17 when bytes are left

@@ -296,7 +296,7 @@ static void long_blocks(void)
     end();
 }
 
-/* Bytes that are a name size, that name and an operand count, as the last 11 of an immediate: its value and its width. */
+/* An immediate whose last 11 bytes are a name size, that name and an operand count. */
 static void put_disguised(const char *name, uint32_t count)
 {
     put(&file, 4, 0);

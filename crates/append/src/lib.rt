@@ -12,7 +12,7 @@ ghost use Rattle.machine.specs.Machine.{edit};
 ghost use Rattle.machine.specs.Book.{in-image, step};
 ghost use Rattle.book.specs.Says.{state, outcome, refusal-of};
 ghost use Rattle.book.specs.Holding.{Is-sound, Holding};
-ghost use Rattle.image.specs.Places.{Last};
+ghost use Rattle.image.specs.Places.{Finds-last};
 ghost use Rattle.append.specs.Whole.{Whole, one-instruction};
 ghost use Rattle.append.specs.Target.{Target, Is-target, with-one};
 use book::Answer;
@@ -73,7 +73,7 @@ fn leaves_block(op: usize) -> bool
 
 // Whether the block is closed whose last instruction is `last`. A block without instructions is open.
 fn is_closed(image: &[u8], last: LastInstruction) -> bool
-    ensures { λ r. ⌜ ((x : Routine) (i : ℕ) → Holding (now (image .entry)) x → i < length (x .explored-blocks) → Last x i last
+    ensures { λ r. ⌜ ((x : Routine) (i : ℕ) → Holding (now (image .entry)) x → i < length (x .explored-blocks) → Finds-last x i last
         → r ≡ is-closed (block-at i (x .explored-blocks))) ⌝ }
 {
     if last.from == last.end {

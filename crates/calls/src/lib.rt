@@ -31,7 +31,7 @@ pub fn remove_block(book: Book, image: &mut [u8], journal: &mut [u8], vip: Vip) 
     remove::remove_block(book, image, journal, vip)
 }
 
-// The instruction that the bytes say goes last in the block with the vip: what reading them refuses, 17, 15, then 11, 12.
+// The instruction that the bytes say goes last in the block with the vip: what reading them refuses, 17, 15, 18, then 11, 12.
 pub fn append(
     book: Book,
     image: &mut [u8],

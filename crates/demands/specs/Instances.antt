@@ -16,7 +16,7 @@ use Rattle.pod.specs.Written.{bytes, instruction-bytes}
 use Rattle.pod.specs.declared.RegisterDesc.{RegisterDesc}
 use Rattle.pod.specs.declared.Operand.{Operand}
 use Rattle.pod.specs.declared.Operand.the-variants.{Imm, Reg}
-use Rattle.machine.specs.Edits.{create, remove, append, empty-block, with-instructions, with-blocks, leaves-block, is-closed}
+use Rattle.machine.specs.Edits.{create, remove, append, edited, empty-block, with-instructions, with-blocks, leaves-block, is-closed}
 use Rattle.machine.specs.Machine.{Call, edit, undo, Answer, start, machine-run}
 use Rattle.machine.specs.Book.{State, held, open-book, run}
 use Rattle.machine.specs.Charge.{group, sum, cents}
@@ -135,6 +135,16 @@ closed-with is = is-closed (with-instructions is (empty-block 5))
 abbrev pub append-to-5 : Instruction → Call
 append-to-5 i = edit (append 5 (instruction-bytes i))
 
+-- three blocks: 5 and 7 of a nop, 6 of a jmp; and what an append of a nop to one of them makes of the routine
+abbrev pub closed-between : Routine
+closed-between =
+    with-blocks
+    (with-instructions (a-nop ∷ []) (empty-block 5) ∷ with-instructions (a-jmp ∷ []) (empty-block 6) ∷ with-instructions (a-nop ∷ []) (empty-block 7) ∷ [])
+    smallest-routine
+
+abbrev pub appended-to : ℕ → Outcome Routine
+appended-to v = edited (append v (instruction-bytes a-nop)) closed-between
+
 -- create 5, and append a jmp to it
 abbrev pub closes : List Call
 closes = edit (create 5) ∷ append-to-5 a-jmp ∷ []
@@ -193,6 +203,9 @@ pub record Instances : Type 0 where
   pub leaving-numbers : map number leaving-names ≡ 37 ∷ 38 ∷ 39 ∷ 40 ∷ []
   pub leaving : map leaves-block (36 ∷ 37 ∷ 38 ∷ 39 ∷ 40 ∷ 41 ∷ []) ≡ false ∷ true ∷ true ∷ true ∷ true ∷ false ∷ []
   pub closed : map closed-with ([] ∷ (a-jmp ∷ []) ∷ (a-jmp ∷ a-nop ∷ []) ∷ (a-nop ∷ a-jmp ∷ []) ∷ []) ≡ false ∷ true ∷ false ∷ true ∷ []
+  -- Of three blocks, nop, jmp and nop, only the second refuses an append
+  pub own-block-closed : appended-to 6 ≡ refused 18
+  pub others-open : map (λ v. vips-of (appended-to v)) (5 ∷ 7 ∷ []) ≡ (5 ∷ 6 ∷ 7 ∷ []) ∷ (5 ∷ 6 ∷ 7 ∷ []) ∷ []
   -- On the 114 bytes, image 222 and journal 116, create 5 and append a jmp: length 198, used 40. Append a nop: 18, and not 11. After taking the jmp
   -- back: length 182, used 40
   pub closing : answer-to closes ≡ answered 198 40

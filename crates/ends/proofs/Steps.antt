@@ -2,7 +2,7 @@
 use mathlib.Core.Path.{_≡_, refl, sym, ap, _∙_}
 use mathlib.Core.List.{List}
 use mathlib.Core.Bool.{Bool, true, false}
-use Prim.Native.Nat.{ℕ, suc, _+_, _*_, _-_, _≤_, _<_}
+use Prim.Native.Nat.{ℕ, zero, suc, _+_, _*_, _-_, _≤_, _<_}
 use native.Mathlib.Omega.{arith}
 use lib.ListN.{length}
 use lib.Dec.{leb}
@@ -35,6 +35,12 @@ word-is k s o = go (leb (o + k) (length s))
 pub word-in : (k : ℕ) (s : List ℕ) (o : ℕ) → o + k ≤ length s → word k s o ≡ le k s o
 unfolding word choose
 word-in k s o h = rw (le-leb _ _ h)
+
+-- f once more, after n times
+pub times-last : (f : ℕ → ℕ) (n o : ℕ) → times f (suc n) o ≡ f (times f n o)
+unfolding times
+times-last f zero o = refl
+times-last f (suc n) o = times-last f n (f o)
 
 -- a loop that counts down: what is left leads to q, as the whole does
 module _ (f : ℕ → ℕ) (n o : ℕ) {q : ℕ} (leads : times f n o ≡ q) where

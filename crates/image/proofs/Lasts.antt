@@ -13,10 +13,10 @@ use Rattle.pod.specs.Written.{instruction-bytes}
 use Rattle.laws.proofs.Sizes.{instruction-size}
 use Rattle.machine.specs.Edits.{block-at}
 use Rattle.book.specs.Holding.{Holding}
-use Rattle.image.specs.Places.{Last, instruction-start}
+use Rattle.image.specs.Places.{Finds-last, instruction-start}
 use Rattle.image.specs.declared.LastInstruction.{LastInstruction}
 use Rattle.image.proofs.Stands.{many-next}
-use Rattle.image.proofs.Parts.{any-instruction, instruction-read}
+use Rattle.image.proofs.Parts.{any-instruction, read-in-place}
 
 -- the last instruction of a block, where it has some
 abbrev pub final : BasicBlock → Instruction
@@ -29,7 +29,7 @@ module _ (x : Routine) (i : ℕ) where
   abbrev is : List Instruction
   is = b .instructions
 
-  module _ {last : LastInstruction} (z : Last x i last) where
+  module _ {last : LastInstruction} (z : Finds-last x i last) where
     pub final-size : 0 < length is → last .end ≡ last .from + length (instruction-bytes (final b))
     final-size n =
         let k : suc (length is - 1) ≡ length is = omega arith in
@@ -53,5 +53,5 @@ module _ (x : Routine) (i : ℕ) where
 
     pub final-read : {s : List ℕ} → Holding s x → i < length (x .explored-blocks) → 0 < length is → (n : ℕ) × (instruction s (last .from) ≡ ok (final b) n)
     final-read {s} h l n =
-        let r = instruction-read x i h l refl (length is - 1) (omega arith) in
+        let r = read-in-place x i h l refl (length is - 1) (omega arith) in
         (r .0, ap (instruction s) (z .from) ∙ r .1)

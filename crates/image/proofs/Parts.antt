@@ -1,9 +1,9 @@
 -- Where the parts of a block stand, and that the walk comes to its instructions.
 -- Assumes nothing.
-use mathlib.Core.Path.{_≡_, refl, sym, ap, ap₂, _∙_}
+use mathlib.Core.Path.{_≡_, sym, ap, ap₂, _∙_}
 use mathlib.Core.Bool.{false}
 use mathlib.Core.List.{List, [], _++_}
-use Prim.Native.Nat.{ℕ, zero, suc, _+_, _*_, _≤_, _<_}
+use Prim.Native.Nat.{ℕ, suc, _+_, _*_, _≤_, _<_}
 use native.Mathlib.Omega.{arith}
 use lib.IntN.{pos}
 use lib.ListN.{length, take, getD}
@@ -24,19 +24,13 @@ use Rattle.machine.specs.Edits.{block-at}
 use Rattle.machine.proofs.Lists.{each-at}
 use Rattle.book.specs.Holding.{Holding, block-start}
 use Rattle.ends.specs.Ends.{jump, word, times, instructionEnd}
-use Rattle.ends.proofs.Steps.{jump-in}
+use Rattle.ends.proofs.Steps.{jump-in, times-last}
 use Rattle.image.specs.Places.{instruction-start}
 use Rattle.image.proofs.Stands.{named, word-at, jump-at, element-at, times-at, instruction-far, block-stands, block-holds}
 
 -- an instruction for where there is none
 abbrev pub any-instruction : Instruction
 any-instruction = record { op = 0; operands = []; vip = 0; sp-offset = pos 0; sp-index = 0; sp-reset = false }
-
--- f once more, after n times
-times-last : (f : ℕ → ℕ) (n o : ℕ) → times f (suc n) o ≡ f (times f n o)
-unfolding times
-times-last f zero o = refl
-times-last f (suc n) o = times-last f n (f o)
 
 -- of a block anywhere
 module _ {s : List ℕ} {o : ℕ} (b : BasicBlock) (t : At s o (block-bytes b)) where
@@ -137,9 +131,9 @@ module _ {s : List ℕ} (x : Routine) (i : ℕ) (h : Holding s x) (l : i < lengt
   instruction-next k m = ap (instructionEnd s) (sym (found k (omega arith))) ∙ sym (times-last (instructionEnd s) k (o + 28)) ∙ found (suc k) m
 
   -- and each is read where it stands
-  pub instruction-read : (k : ℕ) → k < length (block-at i (x .explored-blocks) .instructions)
+  pub read-in-place : (k : ℕ) → k < length (block-at i (x .explored-blocks) .instructions)
       → (n : ℕ) × (instruction s (instruction-start x i k) ≡ ok (getD (block-at i (x .explored-blocks) .instructions) k any-instruction) n)
-  instruction-read k m =
+  read-in-place k m =
       let is = block-at i (x .explored-blocks) .instructions in
       let holds = each-at Instruction-holds any-instruction k is (block-holds h i l .instructions .each) m in
       let t = element-at instruction-bytes any-instruction (o + 28) k is m (instructions-at _ stands-here) in

@@ -42,6 +42,6 @@ abbrev pub instruction-start : Routine → ℕ → ℕ → ℕ
 instruction-start x i k = block-start x i + 28 + length (many-bytes instruction-bytes (take k (block-at i (x .explored-blocks) .instructions)))
 
 -- where the last instruction of the block at place i begins and ends; both are where the first would begin where there is none
-pub record Last (x : Routine) (i : ℕ) (r : LastInstruction) : Type 0 where
+pub record Finds-last (x : Routine) (i : ℕ) (r : LastInstruction) : Type 0 where
   pub from : r .from ≡ instruction-start x i (length (block-at i (x .explored-blocks) .instructions) - 1)
   pub end : r .end ≡ instruction-start x i (length (block-at i (x .explored-blocks) .instructions))

@@ -9,7 +9,7 @@ ghost use Rattle.machine.specs.Look.{conventions};
 ghost use Rattle.machine.specs.Book.{held};
 ghost use Rattle.book.specs.Says.{state, refusal-of};
 ghost use Rattle.book.specs.Holding.{Holding, blocks-start, block-start};
-ghost use Rattle.image.specs.Places.{is-routine, Finds, Last, convention-start, instruction-start};
+ghost use Rattle.image.specs.Places.{is-routine, Finds, Finds-last, convention-start, instruction-start};
 use book::Book;
 use fields::Walked;
 use pod::Vip;
@@ -171,7 +171,7 @@ pub fn instructions_end(image: &[u8], at: usize) -> usize
 
 // The last instruction of the block at offset `at`, in one walk over those before it.
 pub fn last_instruction(image: &[u8], at: usize) -> LastInstruction
-    ensures { λ r. ⌜ ((x : Routine) (i : ℕ) → Holding (now (image .entry)) x → i < length (x .explored-blocks) → at ≡ block-start x i → Last x i r) ⌝ }
+    ensures { λ r. ⌜ ((x : Routine) (i : ℕ) → Holding (now (image .entry)) x → i < length (x .explored-blocks) → at ≡ block-start x i → Finds-last x i r) ⌝ }
 {
     let head = ends::jump(image, at, ends::BLOCK_HEAD_SIZE);
     let count = ends::word32(image, head);

@@ -85,7 +85,7 @@ with-blocks bs r =
 abbrev pub size : Routine → ℕ
 size r = length (routine-bytes r)
 
--- Document 02, b. The engine leaves a block at js, jmp, vexit or vxcall
+-- Document 02, b. The engine leaves a block at js, jmp, vexit or vxcall: operations 37, 38, 39 and 40
 unfoldable pub leaves-block : ℕ → Bool
 leaves-block op = has op (37 ∷ 38 ∷ 39 ∷ 40 ∷ [])
 

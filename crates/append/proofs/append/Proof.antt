@@ -15,7 +15,7 @@ use Rattle.machine.specs.Book.{State}
 use Rattle.book.specs.Says.{state}
 use Rattle.book.proofs.Answers.{refused-by, admits}
 use Rattle.book.proofs.Steps.{refused-step, not-admitted-step, admitted-step}
-use Rattle.image.specs.Places.{Finds, Last}
+use Rattle.image.specs.Places.{Finds, Finds-last}
 use Rattle.image.proofs.Inspects.{sound-holding}
 use Rattle.image.proofs.Fills.{sound-filled}
 use Rattle.append.specs.Whole.{Whole}
@@ -100,7 +100,7 @@ block c = c .before .before
 abbrev at-last : tie.After-last-instruction → tie.Start
 at-last c = at-block (block c)
 
-last : (c : tie.After-last-instruction) → Last (R (at-last c)) (I (at-last c)) (c .last-instruction .result)
+last : (c : tie.After-last-instruction) → Finds-last (R (at-last c)) (I (at-last c)) (c .last-instruction .result)
 last c = let s = at-last c in c .last-instruction .ensures (R s) (I s) (sound-holding (s .pre .sound)) (there (block c)) (finds (finding (block c)) .at)
 
 target : (c : tie.After-last-instruction) → let s = at-last c in

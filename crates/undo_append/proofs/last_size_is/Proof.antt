@@ -9,7 +9,7 @@ use lib.ListN.{length}
 use Rattle.pod.specs.Values.{Routine}
 use Rattle.pod.specs.Written.{instruction-bytes}
 use Rattle.machine.proofs.Lists.{last-is-none, last-is-at}
-use Rattle.image.specs.Places.{Last}
+use Rattle.image.specs.Places.{Finds-last}
 use Rattle.image.proofs.Cuts.{the-block}
 use Rattle.image.proofs.Parts.{any-instruction}
 use Rattle.image.proofs.Lasts.{final, final-size, none, some}
@@ -29,7 +29,7 @@ reaching c = c .before .before
 abbrev Here : tie.Start → Routine → ℕ → Type 0
 Here s r i = Block-in (s .args .image .now) r i (s .args .at)
 
-found : (c : tie.After-last-instruction) {r : Routine} {i : ℕ} → Here (start c) r i → Last r i (c .last-instruction .result)
+found : (c : tie.After-last-instruction) {r : Routine} {i : ℕ} → Here (start c) r i → Finds-last r i (c .last-instruction .result)
 found c {r} {i} o = c .last-instruction .ensures r i (o .holding) (o .within) (o .at-is)
 
 module _ (c : tie.Else1) {r : Routine} {i : ℕ} (o : Here (start (reaching c)) r i) where
