@@ -42,11 +42,13 @@ pub struct Shape {
     pub instructions: usize,
     pub vips: usize,
     /// Many instructions are such that a block takes no more after them.
-    pub closing: bool,
+    pub often_closing: bool,
 }
 
-pub const SMALL: Shape = Shape { registers: 1, conventions: 1, blocks: 2, instructions: 2, vips: 1, closing: false };
-pub const MIDDLING: Shape = Shape { registers: 4, conventions: 3, blocks: 8, instructions: 6, vips: 4, closing: false };
+pub const SMALL: Shape =
+    Shape { registers: 1, conventions: 1, blocks: 2, instructions: 2, vips: 1, often_closing: false };
+pub const MIDDLING: Shape =
+    Shape { registers: 4, conventions: 3, blocks: 8, instructions: 6, vips: 4, often_closing: false };
 pub const MANY_BLOCKS: Shape = Shape { blocks: 200, instructions: 1, ..SMALL };
 
 /// One past the last id that is not foreign.
@@ -153,7 +155,7 @@ impl Draft {
 
     /// Half the time one of the four that close a block, js, jmp, vexit and vxcall, or of their neighbours ifs and nop,
     /// which do not; else any.
-    pub fn closing_instruction(&mut self, rng: &mut Rng) {
+    pub fn often_closing_instruction(&mut self, rng: &mut Rng) {
         if rng.one_in(2) {
             return self.instruction(rng);
         }
@@ -199,8 +201,8 @@ impl Draft {
         let count = rng.below(shape.instructions + 1);
         self.count(count);
         for _ in 0..count {
-            if shape.closing {
-                self.closing_instruction(rng);
+            if shape.often_closing {
+                self.often_closing_instruction(rng);
             } else {
                 self.instruction(rng);
             }

@@ -23,7 +23,7 @@ fn vips_of(draft: &Draft) -> Vec<u64> {
 /// meet it closed, opened again by an undo, removed, and restored.
 fn instruction(rng: &mut Rng) -> Vec<u8> {
     let mut draft = Draft::default();
-    draft.closing_instruction(rng);
+    draft.often_closing_instruction(rng);
     match rng.below(8) {
         0 => draft.bytes.extend([0; 3]),
         1 => spoil(&mut draft, rng),
@@ -70,7 +70,7 @@ fn room(rng: &mut Rng, edges: &[usize], plenty: usize) -> usize {
 
 pub fn list(rng: &mut Rng) -> List {
     let shape = if rng.one_in(4) { MIDDLING } else { SMALL };
-    let draft = Draft::routine(rng, Shape { closing: true, ..shape });
+    let draft = Draft::routine(rng, Shape { often_closing: true, ..shape });
     let calls = calls(rng, &vips_of(&draft));
     List {
         image_length: draft.bytes.len() + room(rng, &[0, 35, 36, 37, 71, 72], 4_000),
