@@ -96,7 +96,7 @@ pub fn blocks_of(image: &[u8]) -> Blocks
     Blocks { start, count }
 }
 
-// The block with the vip.
+// The block with the vip. The blocks before it are passed, and it is not.
 pub fn find(image: &[u8], vip: Vip) -> Found
     ensures { λ r. ⌜ ((x : Routine) → Holding (now (image .entry)) x → Finds x (vip .0) r) ⌝ }
 {
@@ -107,15 +107,14 @@ pub fn find(image: &[u8], vip: Vip) -> Found
     let mut at = blocks.start;
     let mut i = 0;
     while i < n {
-        let b = ends::block_at(image, at);
-        if b.vip.0 == v {
+        if ends::word64(image, at) == v {
             return Found {
                 place: i,
                 at,
                 count,
             };
         }
-        at = b.next;
+        at = ends::block_end(image, at);
         i += 1;
     }
     Found {

@@ -30,15 +30,18 @@ cast-n c = search needs
 loop-holds : tie.Need-loop-holds Inv-loop μ-loop
 loop-holds c = (omega arith, λ x h. walk-start x _ (c .blocks-of .ensures x h .0))
 
-block-at-requires : tie.Need-block-at-requires Inv-loop μ-loop
-block-at-requires c κs = search needs
+word64-requires : tie.Need-word64-requires Inv-loop μ-loop
+word64-requires c κs = search needs
 
 returns : tie.Need-returns Inv-loop μ-loop
 returns c =
-    let k = c .before .before in
+    let k = c .before in
     let l = k .before .before in
     λ x h.
-    walk-hit x _ h (l .loop .inv .1 x h) (within (k .before) x h) _ (k .block-at .ensures .0) (c .if1 .taken) refl refl (l .before .blocks-of .ensures x h .1)
+    walk-hit x _ h (l .loop .inv .1 x h) (within (k .before) x h) _ (k .word64 .ensures) (c .if1 .taken) refl refl (l .before .blocks-of .ensures x h .1)
+
+block-end-requires : tie.Need-block-end-requires Inv-loop μ-loop
+block-end-requires c κs = search needs
 
 add-i : tie.Need-add-i Inv-loop μ-loop
 add-i c = search needs
@@ -50,7 +53,7 @@ loop-again : tie.Need-loop-again Inv-loop μ-loop
 loop-again c =
     let k = c .before .before in
     let l = k .before .before in
-    (omega arith, λ x h. walk-next x _ h (l .loop .inv .1 x h) (within (k .before) x h) (k .block-at .ensures .0) (k .block-at .ensures .1) (c .if1 .left))
+    (omega arith, λ x h. walk-next x _ h (l .loop .inv .1 x h) (within (k .before) x h) (k .word64 .ensures) (c .block-end .ensures) (c .before .if1 .left))
 
 returns-2 : tie.Need-returns-2 Inv-loop μ-loop
 returns-2 c =
@@ -68,8 +71,9 @@ find-spec =
     blocks-of-requires
     cast-n
     loop-holds
-    block-at-requires
+    word64-requires
     returns
+    block-end-requires
     add-i
     loop-less
     loop-again
