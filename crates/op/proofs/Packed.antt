@@ -4,11 +4,12 @@
 use mathlib.Core.Path.{_≡_, refl, sym, ap, _∙_}
 use mathlib.Core.List.{List, [], _∷_}
 use mathlib.Core.Bool.{Bool, true, false}
+use mathlib.Core.Logic.{⊎-elim, inl, inr}
 use Prim.Native.Nat.{ℕ, zero, suc, _+_, _*_, _^_, _%_, _/_, _-_, _≤_, _<_}
 use native.Mathlib.Nat.{zero-add, add-mul-mod-self-left, mod-eq-of-lt, mod-lt, lt-of-lt-of-le, mul-le-mul-left}
 use lib.Pow.{pow-mono, pow-pos}
 use native.Mathlib.Omega.{arith}
-use lib.Dec.{T, eqb, ltb, eqb→eq, ltb→lt}
+use lib.Dec.{T, eqb, ltb, leb, eqb→eq, ltb→lt, leb→le}
 use lib.ListN.{length, getD, take, drop, length-take, length-drop}
 use lib.Seq.{ext-getD, getD-take, getD-drop}
 use Rattle.fields.specs.Parse.{le}
@@ -17,7 +18,7 @@ use Rattle.fields.specs.Lists.{choose, same}
 use Rattle.fields.specs.Bytes.{Bytes}
 use Rattle.op.specs.Ops.{names, counts, number, index-of}
 use Rattle.op.specs.Text.{is-text, text, next-state, lead}
-use Rattle.op.specs.Packed.{key, Packed, Known}
+use Rattle.op.specs.Packed.{key, Packed, Entry, Known}
 use Rattle.op.specs.declared.Slot.{Slot}
 use Rattle.op.proofs.Table.{entry, both, split, every, at, Arms}
 use Rattle.op.proofs.Same.{short, same-eq, names-many}
@@ -109,66 +110,70 @@ module _ (k : ℕ) (h : k < 49) (x : List ℕ) (is : x ≡ getD names k []) wher
   few-bytes : length x ≤ 6
   few-bytes = rw is (short k)
 
-  pub key-below : key x < 2 ^ 56
+  pub key-below : key x < 2 ^ 48
   unfolding key
-  key-below = omega (arith, le-below (length x) 6 x 0 bytes few-bytes, few-bytes)
+  key-below = le-below (length x) 6 x 0 bytes few-bytes
 
-  pub key-is : (s : List ℕ) (o n : ℕ) → Bytes s → o + 8 ≤ length s → n ≤ 6
-      → key x ≡ le 8 s o % 2 ^ (8 * n) + 2 ^ 48 * n → number (take n (drop o s)) ≡ k
+  pub key-is : (s : List ℕ) (o n : ℕ) → Bytes s → o + 8 ≤ length s → length x ≡ n → key x ≡ le 8 s o % 2 ^ (8 * n) → number (take n (drop o s)) ≡ k
   unfolding key
-  key-is s o n b l m e =
-      let v : le (length x) x 0 + 2 ^ 48 * length x ≡ le n s o + 2 ^ 48 * n = rw (low-is n s o b (omega arith)) at e in
-      let p = le-below (length x) 6 x 0 bytes few-bytes in
-      let q = le-below n 6 s o b m in
-      let y : n ≡ length x = omega (arith, few-bytes) in
-      let u : le (length x) x 0 ≡ le n s o = omega arith in
-      rw y (ap number (spelt x s o bytes b (omega arith) (u ∙ ap (λ j. le j s o) y) ∙ is) ∙ listed-number k h)
+  key-is s o n b l y e =
+      let u : le (length x) x 0 ≡ le n s o = rw (low-is n s o b (omega (arith, few-bytes))) at e in
+      let v : le (length x) x 0 ≡ le (length x) s o = u ∙ ap (λ j. le j s o) (sym y) in
+      rw (sym y) (ap number (spelt x s o bytes b (omega (arith, few-bytes)) v ∙ is) ∙ listed-number k h)
 
 digits : (r x y : ℕ) → x < 4 → r ≡ x + 4 * y → (r % 4 ≡ x) × (r / 4 ≡ y)
 digits r x y h e = (omega arith, omega arith)
 
--- a slot that has the key of n bytes at o is that of their operation
-pub known : (s : List ℕ) (o n : ℕ) (r : Slot) → Packed r → Bytes s → o + 8 ≤ length s → n ≤ 6
-    → r .key ≡ le 8 s o % 2 ^ (8 * n) + 2 ^ 48 * n → Known (take n (drop o s)) n (r .code)
-known s o n r i b l m e =
-    let q = digits (r .code) (getD counts (i .op) 0) (i .op) (few (i .op)) (i .code-is) in
-    record {
-      op = i .op;
-      listed = i .listed;
-      named = key-is (i .op) (i .listed) _ refl s o n b l m (sym (i .key-is) ∙ e);
-      is-op = sym (q .1);
-      takes = sym (q .0);
-      short = m;
-    }
+-- an entry that has the key of n bytes at o is that of their operation
+module _ (s : List ℕ) (o n : ℕ) (r : Slot) (b : Bytes s) (l : o + 8 ≤ length s) (m : n ≤ 6) (e : r .key ≡ le 8 s o % 2 ^ (8 * n)) where
+  packed-known : Packed n r → Known (take n (drop o s)) n (r .code)
+  packed-known i =
+      let q = digits (r .code) (getD counts (i .op) 0) (i .op) (few (i .op)) (i .code-is) in
+      record {
+        op = i .op;
+        listed = i .listed;
+        named = key-is (i .op) (i .listed) _ refl s o n b l (i .as-long) (sym (i .key-is) ∙ e);
+        is-op = sym (q .1);
+        takes = sym (q .0);
+        short = m;
+      }
 
--- The table. Its entry for operation k, and the test of an entry, which has its operation's number in its highest bits.
+  pub known : Entry n r → Known (take n (drop o s)) n (r .code)
+  known = ⊎-elim packed-known (λ h. absurd (omega (arith, low-below (le 8 s o) n m)))
+
+-- The table. Its entry for operation k. The test of an entry, which has its operation's number in its highest bits, with the bits that lead to it, which
+-- have the name's length over the hash. And the test of an entry for no operation.
 abbrev packed : ℕ → ℕ
 packed k = key (getD names k []) + 2 ^ 56 * (getD counts k 0 + 4 * k)
 
-abbrev right : ℕ → Bool
-right a = both (ltb (a / 2 ^ 58) 49) (eqb a (packed (a / 2 ^ 58)))
+abbrev right : ℕ × ℕ → Bool
+right p =
+    let k = p .1 / 2 ^ 58 in
+    both (ltb k 49) (both (eqb (p .1) (packed k)) (eqb (length (getD names k [])) (p .0 / 32)))
 
-parts : (e x y : ℕ) → x < 2 ^ 56 → e ≡ x + 2 ^ 56 * y → (e % 2 ^ 56 ≡ x) × (e / 2 ^ 56 ≡ y)
+abbrev empty : ℕ → Bool
+empty e = leb (2 ^ 48) (e % 2 ^ 56)
+
+parts : (e x y : ℕ) → x < 2 ^ 48 → e ≡ x + 2 ^ 56 * y → (e % 2 ^ 56 ≡ x) × (e / 2 ^ 56 ≡ y)
 parts e x y h p = (omega arith, omega arith)
 
 -- an entry that passes, taken apart
-pub slot : (e : ℕ) → T (right e) → Packed (record { key = e % 2 ^ 56; code = e / 2 ^ 56 })
-slot e t =
+slot : (h e : ℕ) → T (right (h, e)) → Packed (h / 32) (record { key = e % 2 ^ 56; code = e / 2 ^ 56 })
+slot h e t =
     let k = e / 2 ^ 58 in
-    let q = split (ltb k 49) (eqb e (packed k)) t in
-    let h = ltb→lt k 49 (q .0) in
-    let w = parts e (key (getD names k [])) (getD counts k 0 + 4 * k) (key-below k h _ refl) (eqb→eq e (packed k) (q .1)) in
-    record { op = k; listed = h; key-is = w .0; code-is = w .1 }
+    let q = split (ltb k 49) _ t in
+    let p = split (eqb e (packed k)) _ (q .1) in
+    let l = ltb→lt k 49 (q .0) in
+    let w = parts e (key (getD names k [])) (getD counts k 0 + 4 * k) (key-below k l _ refl) (eqb→eq e (packed k) (p .0)) in
+    record { op = k; listed = l; as-long = eqb→eq (length (getD names k [])) (h / 32) (p .1); key-is = w .0; code-is = w .1 }
 
-pub filled : {C : Type 0} (e : ℕ) → C → (s : Arms C e) → T (every right (s .values)) → Packed (record { key = e % 2 ^ 56; code = e / 2 ^ 56 })
-filled e c s t = slot e (s .all right t c)
+pub filled : {C : Type 0} (h e : ℕ) → C → (s : Arms C h e) → T (every right (s .keyed)) → T (every empty (s .others))
+    → Entry (h / 32) (record { key = e % 2 ^ 56; code = e / 2 ^ 56 })
+filled h e c s t u = ⊎-elim (λ p. inl (slot h e p)) (λ p. inr (leb→le (2 ^ 48) (e % 2 ^ 56) p)) (s .all right empty t u c)
 
--- The hash of a key, of which the sum and the product fit.
-fold-fits : (a b : ℕ) → a < 2 ^ 32 → b < 2 ^ 32 → (a + b) * 258492 < 2 ^ 64
-fold-fits a b h l = omega arith
-
-pub hash-fits : (v : ℕ) → v < 2 ^ 64 → (v % 4294967296 + v / 4294967296) * 258492 < 2 ^ 64
+-- The product of a name's hash fits.
+pub hash-fits : (v : ℕ) → v < 2 ^ 48 → (v % 4294967296 + v / 4294967296) * 55733 < 2 ^ 64
 hash-fits v h =
     let p : v % 4294967296 < 2 ^ 32 = omega arith in
-    let q : v / 4294967296 < 2 ^ 32 = omega arith in
-    fold-fits (v % 4294967296) (v / 4294967296) p q
+    let q : v / 4294967296 < 2 ^ 16 = omega arith in
+    omega arith

@@ -1,18 +1,16 @@
--- Laws of the comparison of two lists, and of a name's index.
+-- Laws of the comparison of two lists, and of the names: how long, how many, and where their bytes are.
 -- Assumes nothing.
-use mathlib.Core.Path.{_≡_, refl, ap₂}
+use mathlib.Core.Path.{_≡_, refl, ap₂, _∙_}
 use mathlib.Core.List.{List, [], _∷_}
 use mathlib.Core.Bool.{Bool, true, false}
-use Prim.Native.Nat.{ℕ, suc, _+_, _≤_, _<_}
-use native.Mathlib.Numerals.{add-one}
+use Prim.Native.Nat.{ℕ, _+_, _*_, _/_, _%_, _≤_, _<_}
 use native.Mathlib.Omega.{arith}
 use lib.Dec.{eqb, leb, leb→le}
-use lib.ListN.{length, getD, drop, drop-of-length-le}
-use lib.Seq.{drop-cons}
+use lib.ListN.{length, getD}
 use borrow.Author.Tests.{eq-eqb, eqb-true}
 use Rattle.fields.specs.Lists.{choose, same}
-use Rattle.op.specs.Ops.{index-of, names}
-use Rattle.op.proofs.Table.{at}
+use Rattle.op.specs.Ops.{names, in-six}
+use Rattle.op.proofs.Table.{at, entry}
 
 refl-same : (a : List ℕ) → same a a ≡ true
 unfolding same choose
@@ -40,22 +38,6 @@ same-no a b n = go (same a b) refl
     go true q = absurd (n (same-eq a b q))
     go false q = refl
 
--- a search from the front, k names on
-module _ (xs : List (List ℕ)) (w : List ℕ) (k : ℕ) (h : k < length xs) where
-  found : same w (getD xs k []) ≡ true → index-of (drop k xs) w ≡ 0
-  unfolding index-of choose
-  found e = rw (drop-cons xs k [] h, e)
-
-  passed : same w (getD xs k []) ≡ false → index-of (drop k xs) w ≡ suc (index-of (drop (k + 1) xs) w)
-  unfolding index-of choose
-  passed e = rw (drop-cons xs k [] h, e, add-one)
-
-  pub found-at : index-of xs w ≡ k + index-of (drop k xs) w → same w (getD xs k []) ≡ true → k ≡ index-of xs w
-  found-at i e = omega (arith, found e)
-
-  pub passed-at : index-of xs w ≡ k + index-of (drop k xs) w → same w (getD xs k []) ≡ false → index-of xs w ≡ (k + 1) + index-of (drop (k + 1) xs) w
-  passed-at i e = omega (arith, passed e)
-
 pub short : (k : ℕ) → length (getD names k []) ≤ 6
 unfolding names
 short k = leb→le _ _ (at (λ x. leb (length x) 6) names [] tt tt k)
@@ -64,10 +46,17 @@ pub names-many : length names ≡ 49
 unfolding names
 names-many = refl
 
--- every name was passed
-pub passed-all : (w : List ℕ) (k : ℕ) → k ≤ 49 → 49 ≤ k → index-of names w ≡ k + index-of (drop k names) w → 49 ≡ index-of names w
-unfolding index-of
-passed-all w k h l i =
-    let m : length names ≤ k = omega (arith, names-many) in
-    let e : index-of (drop k names) w ≡ 0 = rw (drop-of-length-le names m) in
-    omega arith
+-- A byte of a name in the list that has six for each: the list is its rule computed over all places.
+spelt : ℕ → ℕ
+spelt i = getD (getD names (i / 6) []) (i % 6) 0
+
+pub spelt-at : (k j : ℕ) → k < 49 → j < 6 → getD (in-six names) (k * 6 + j) 0 ≡ getD (getD names k []) j 0
+unfolding names in-six spelt
+spelt-at k j h l =
+    let q : (k * 6 + j) / 6 ≡ k = omega arith in
+    let r : (k * 6 + j) % 6 ≡ j = omega arith in
+    entry spelt 294 (k * 6 + j) (omega arith) ∙ ap₂ (λ x y. getD (getD names x []) y 0) q r
+
+pub spelt-many : length (in-six names) ≡ 294
+unfolding names in-six
+spelt-many = refl

@@ -1,13 +1,14 @@
 // The names of the operations, and text.
 ghost use mathlib.Core.Path.{_≡_};
 ghost use mathlib.Core.List.{List, []};
-ghost use Prim.Native.Nat.{ℕ, _<_, _≤_, _+_, _*_, _%_, _^_};
+ghost use Prim.Native.Nat.{ℕ, _<_, _≤_, _+_, _*_, _/_, _%_, _^_};
 ghost use lib.ListN.{length, getD, take, drop};
 ghost use Rattle.fields.specs.Bytes.{Bytes};
 ghost use Rattle.fields.specs.Lists.{same};
 ghost use Rattle.fields.specs.Parse.{le};
-ghost use Rattle.op.specs.Packed.{Packed, Known};
-ghost use Rattle.op.specs.Ops.{names, counts, number};
+ghost use Rattle.op.specs.Packed.{Entry, Known};
+ghost use Rattle.op.specs.Ops.{names, in-six, counts, number};
+ghost use Rattle.op.specs.ByLength.{by-length, For-length};
 ghost use Rattle.op.specs.Text.{lead, next-state, is-text};
 
 // Six bytes for each name, with zeros after it.
@@ -123,6 +124,59 @@ const COUNTS: [u32; 49] = [
     3,
 ];
 
+// The operations by the lengths of their names: those with names of 2 bytes, then those with names of 3, up to 6.
+const BY_LENGTH: [u8; 49] = [
+    22, // or
+    26, // tg
+    28, // te
+    30, // tl
+    37, // js
+    0, // mov
+    2, // str
+    3, // ldd
+    4, // neg
+    5, // add
+    6, // sub
+    7, // mul
+    11, // div
+    12, // rem
+    16, // bsf
+    17, // bsr
+    18, // not
+    19, // shr
+    20, // shl
+    21, // xor
+    23, // and
+    24, // ror
+    25, // rol
+    27, // tge
+    29, // tne
+    31, // tle
+    32, // tug
+    34, // tul
+    36, // ifs
+    38, // jmp
+    41, // nop
+    9, // imul
+    13, // idiv
+    14, // irem
+    33, // tuge
+    35, // tule
+    1, // movsx
+    8, // mulhi
+    39, // vexit
+    44, // vemit
+    45, // vpinr
+    46, // vpinw
+    10, // imulhi
+    15, // popcnt
+    40, // vxcall
+    42, // sfence
+    43, // lfence
+    47, // vpinrm
+    48, // vpinwm
+];
+
 // How many bytes the name of operation `k` has. It is pub for the crates above, which have tested the number.
 pub fn name_len(k: usize) -> usize
     requires { ⌜ k < 49 ⌝ }
@@ -147,18 +201,42 @@ pub fn operand_count(k: usize) -> u32
     if k < 49 { COUNTS[k] } else { 0 }
 }
 
-// Whether `w` is the name of operation `k`.
-fn name_is(w: &[u8], k: usize) -> bool
-    requires { ⌜ k < 49 ⌝ }
+// The operation at place `i` of the list by length.
+fn listed(i: usize) -> usize
+    requires { ⌜ i < 49 ⌝ }
+    ensures { λ r. ⌜ r ≡ getD by-length i 49 ⌝ }
+{
+    BY_LENGTH[i] as usize
+}
+
+// A part of the list by length, from place `first` to before place `end`.
+struct Part {
+    first: usize,
+    end: usize,
+}
+
+// The part with the operations whose names have `n` bytes. No name has fewer than 2 or more than 6.
+fn with_length(n: usize) -> Part
+    ensures { λ r. ⌜ For-length n r ⌝ }
+{
+    match n {
+        2 => Part { first: 0, end: 5 },
+        3 => Part { first: 5, end: 31 },
+        4 => Part { first: 31, end: 36 },
+        5 => Part { first: 36, end: 42 },
+        6 => Part { first: 42, end: 49 },
+        _ => Part { first: 0, end: 0 },
+    }
+}
+
+// Whether `w` is the name of operation `k`, which is as long. `table` is `NAMES`: where it is lent, it is built once and not for each byte.
+fn name_is(w: &[u8], k: usize, table: &[u8]) -> bool
+    requires { ⌜ (k < 49) × ((length (now w) ≡ length (getD names k [])) × (now table ≡ in-six names)) ⌝ }
     ensures { λ r. ⌜ r ≡ same (now (w .entry)) (getD names k []) ⌝ }
 {
-    let n = name_len(k);
-    if w.len() != n {
-        return false;
-    }
     let mut j = 0;
-    while j < n {
-        if w[j] != name_byte(k, j) {
+    while j < w.len() {
+        if w[j] != table[k * 6 + j] {
             return false;
         }
         j += 1;
@@ -166,88 +244,143 @@ fn name_is(w: &[u8], k: usize) -> bool
     true
 }
 
-// The number of the operation with the name `w`, or 49.
+// The number of the operation with the name `w`, or 49. Only names as long as `w` are compared with it.
 pub fn number_of(w: &[u8]) -> usize
     ensures { λ r. ⌜ r ≡ number (now (w .entry)) ⌝ }
 {
-    let mut k = 0;
-    while k < 49 {
-        if name_is(w, k) {
+    let part = with_length(w.len());
+    let table = NAMES;
+    let mut i = part.first;
+    while i < part.end {
+        let k = listed(i);
+        if name_is(w, k, &table) {
             return k;
         }
-        k += 1;
+        i += 1;
     }
     49
 }
 
-// An operation of the table. The key is its name as one number, the bytes from the lowest up and the length in the seventh; the code is its operand
-// count and four times its number.
+// An operation of the table. The key is its name as one number, the bytes from the lowest up; the code is its operand count and four times its number.
 struct Slot {
     key: u64,
     code: u64,
 }
 
-// The operation whose name may have the seven bits `h`. An entry is its key, and in the eighth byte its code. A `match`, since an array would be built
-// anew at each call; with five arms for bits that no name has, since LLVM makes a table of a `match` only where at least 40 in 100 have an arm.
+// The operation whose name may have the bits `h`, which are the name's length and five bits of a hash; so its name is as long as the one that is looked up.
+// An entry is its key, and in the eighth byte its code; one of no operation has a key of seven bytes, which no name has. A `match`, since an array would be
+// built anew at each call. LLVM makes a table of it where at least 40 in 100 of 256 bits have an arm, and joins arms that are like the last: so the odd bits
+// that no name has are written out, with an entry of their own.
 fn slot_of(h: u64) -> Slot
-    ensures { λ r. ⌜ Packed r ⌝ }
+    ensures { λ r. ⌜ Entry (h / 32) r ⌝ }
 {
     let e = match h {
-        0 => 0x7703_0000_0065_6e74,
-        1 => 0x6603_0000_006c_6f72,
-        2 => 0x7f03_0000_0065_6c74,
-        9 => 0x9303_0000_0073_6669,
-        14 => 0xa106_6c6c_6163_7876,
-        17 => 0x3704_0000_7669_6469,
-        21 => 0x203_0000_0076_6f6d,
-        22 => 0x2604_0000_6c75_6d69,
-        24 => 0x2f03_0000_0076_6964,
-        32 => 0x4503_0000_0072_7362,
-        38 => 0x3303_0000_006d_6572,
-        39 => 0x6203_0000_0072_6f72,
-        41 => 0x5603_0000_0072_6f78,
-        42 => 0x605_0078_7376_6f6d,
-        43 => 0x9702_0000_0000_736a,
-        54 => 0x3d06_746e_6370_6f70,
-        56 => 0x6b02_0000_0000_6774,
-        58 => 0x7302_0000_0000_6574,
-        59 => 0xb105_0074_696d_6576,
-        60 => 0xbf06_6d72_6e69_7076,
-        61 => 0xc306_6d77_6e69_7076,
-        65 => 0xb505_0072_6e69_7076,
-        67 => 0xb905_0077_6e69_7076,
-        70 => 0x6f03_0000_0065_6774,
-        71 => 0x5203_0000_006c_6873,
-        73 => 0x2a06_6968_6c75_6d69,
-        76 => 0x2205_0069_686c_756d,
-        77 => 0x8704_0000_6567_7574,
-        83 => 0x4103_0000_0066_7362,
-        85 => 0x3b04_0000_6d65_7269,
-        87 => 0xac06_6563_6e65_666c,
-        88 => 0x8f04_0000_656c_7574,
-        89 => 0xa806_6563_6e65_6673,
-        94 => 0x4903_0000_0074_6f6e,
-        96 => 0x5e03_0000_0064_6e61,
-        99 => 0xb03_0000_0072_7473,
-        102 => 0x1a03_0000_0062_7573,
-        105 => 0x1603_0000_0064_6461,
-        107 => 0xf03_0000_0064_646c,
-        108 => 0x9d05_0074_6978_6576,
-        109 => 0x5a02_0000_0000_726f,
-        110 => 0x4e03_0000_0072_6873,
-        111 => 0xa403_0000_0070_6f6e,
-        112 => 0x9903_0000_0070_6d6a,
-        113 => 0x8303_0000_0067_7574,
-        115 => 0x7b02_0000_0000_6c74,
-        122 => 0x1e03_0000_006c_756d,
-        124 => 0x8b03_0000_006c_7574,
-        126 => 0x1103_0000_0067_656e,
-        127 => 0x605_0078_7376_6f6d,
-        3 => 0x605_0078_7376_6f6d,
-        4 => 0x605_0078_7376_6f6d,
-        5 => 0x605_0078_7376_6f6d,
-        6 => 0x605_0078_7376_6f6d,
-        _ => 0x203_0000_0076_6f6d,
+        70 => 0x9700_0000_0000_736a,
+        71 => 0x7300_0000_0000_6574,
+        80 => 0x5a00_0000_0000_726f,
+        90 => 0x6b00_0000_0000_6774,
+        91 => 0x7b00_0000_0000_6c74,
+        96 => 0x6200_0000_0072_6f72,
+        97 => 0xb00_0000_0072_7473,
+        98 => 0x6600_0000_006c_6f72,
+        99 => 0x6f00_0000_0065_6774,
+        100 => 0x7f00_0000_0065_6c74,
+        101 => 0x5600_0000_0072_6f78,
+        102 => 0x9300_0000_0073_6669,
+        103 => 0x4900_0000_0074_6f6e,
+        107 => 0x1a00_0000_0062_7573,
+        109 => 0x4e00_0000_0072_6873,
+        110 => 0x2f00_0000_0076_6964,
+        111 => 0x5200_0000_006c_6873,
+        112 => 0x200_0000_0076_6f6d,
+        113 => 0x1600_0000_0064_6461,
+        114 => 0x5e00_0000_0064_6e61,
+        115 => 0xa400_0000_0070_6f6e,
+        116 => 0x1100_0000_0067_656e,
+        117 => 0x8300_0000_0067_7574,
+        118 => 0x3300_0000_006d_6572,
+        119 => 0x7700_0000_0065_6e74,
+        120 => 0x1e00_0000_006c_756d,
+        121 => 0x4500_0000_0072_7362,
+        122 => 0xf00_0000_0064_646c,
+        124 => 0x9900_0000_0070_6d6a,
+        125 => 0x4100_0000_0066_7362,
+        126 => 0x8b00_0000_006c_7574,
+        128 => 0x3700_0000_7669_6469,
+        132 => 0x2600_0000_6c75_6d69,
+        148 => 0x3b00_0000_6d65_7269,
+        149 => 0x8700_0000_6567_7574,
+        158 => 0x8f00_0000_656c_7574,
+        161 => 0xb500_0072_6e69_7076,
+        163 => 0x9d00_0074_6978_6576,
+        165 => 0xb900_0077_6e69_7076,
+        177 => 0x2200_0069_686c_756d,
+        182 => 0x600_0078_7376_6f6d,
+        188 => 0xb100_0074_696d_6576,
+        193 => 0xa800_6563_6e65_6673,
+        196 => 0xa100_6c6c_6163_7876,
+        200 => 0x2a00_6968_6c75_6d69,
+        211 => 0xbf00_6d72_6e69_7076,
+        215 => 0xc300_6d77_6e69_7076,
+        216 => 0x3d00_746e_6370_6f70,
+        219 => 0xac00_6563_6e65_666c,
+        65
+        | 67
+        | 69
+        | 73
+        | 75
+        | 77
+        | 79
+        | 81
+        | 83
+        | 85
+        | 87
+        | 89
+        | 93
+        | 95
+        | 105
+        | 123
+        | 127
+        | 129
+        | 131
+        | 133
+        | 135
+        | 137
+        | 139
+        | 141
+        | 143
+        | 145
+        | 147
+        | 151
+        | 153
+        | 155
+        | 157
+        | 159
+        | 167
+        | 169
+        | 171
+        | 173
+        | 175
+        | 179
+        | 181
+        | 183
+        | 185
+        | 187
+        | 189
+        | 191
+        | 195
+        | 197
+        | 199
+        | 201
+        | 203
+        | 205
+        | 207
+        | 209
+        | 213
+        | 217
+        | 221
+        | 223 => 0x2_0000_0000_0000,
+        _ => 0x1_0000_0000_0000,
     };
     Slot {
         key: e % 0x100_0000_0000_0000,
@@ -270,6 +403,15 @@ fn low(v: u64, n: usize) -> u64
     }
 }
 
+// The bits of a name of `n` bytes, which are the number `v`: no two of the 49 names have the same.
+fn bits_of(v: u64, n: usize) -> u64
+    requires { ⌜ (v < 2 ^ 48) × (n ≤ 6) ⌝ }
+    ensures { λ r. ⌜ r / 32 ≡ n ⌝ }
+{
+    let f = v % 0x1_0000_0000 + v / 0x1_0000_0000;
+    32 * (n as u64) + f * 55733 / 0x1_0000 % 32
+}
+
 // Of the operation whose name is the lowest `n` bytes of `word`: its operand count and four times its number, found by a table, or 256 where the
 // table does not tell. It is pub for the fast ways over an instruction, which have loaded the word. It is given no slice, so that a call costs little.
 pub fn fast_lookup(word: u64, n: usize) -> u64
@@ -281,10 +423,8 @@ pub fn fast_lookup(word: u64, n: usize) -> u64
     if 6 < n {
         return 256;
     }
-    let v = low(word, n) + 0x1_0000_0000_0000 * (n as u64);
-    let f = v % 0x1_0000_0000 + v / 0x1_0000_0000;
-    let hash = f * 258492 / 0x10_0000 % 128;
-    let found = slot_of(hash);
+    let v = low(word, n);
+    let found = slot_of(bits_of(v, n));
     if found.key == v { found.code } else { 256 }
 }
 

@@ -1,9 +1,10 @@
--- The fast lookup: where the slot found has the name's own key, it is that of the name.
+-- The fast lookup: where the entry found has the name's own key, it is that of the name.
 use native.Mathlib.Omega.{arith}
-use mathlib.Core.Path.{_≡_, ap, _∙_}
-use Prim.Native.Nat.{_+_, _*_, _%_, _^_, _≤_, _<_}
+use mathlib.Core.Path.{_≡_, ap, subst, _∙_}
+use Prim.Native.Nat.{_*_, _%_, _^_, _≤_, _<_}
 use Rattle.fields.specs.Parse.{le}
-use Rattle.op.proofs.Packed.{low-below, known, hash-fits}
+use Rattle.op.specs.Packed.{Entry}
+use Rattle.op.proofs.Packed.{low-below, known}
 use borrow.Author.Needs.{needs}
 use Rattle.op.proofs.fast_lookup.Statement.{statement}
 use Rattle.op.proofs.fast_lookup.Tie as tie
@@ -12,8 +13,8 @@ use Rattle.op.proofs.fast_lookup.Tie as tie
 abbrev measured : tie.After-low → tie.Start
 measured c = c .before .before .before
 
-abbrev hashed : tie.Then3 → tie.After-low
-hashed c = c .before .before .before
+abbrev asked : tie.After-slot-of → tie.After-low
+asked c = c .before .before
 
 -- What is known there: the lowest n bytes, which are at most 6.
 short : (c : tie.After-low) → measured c .args .n ≤ 6
@@ -22,16 +23,17 @@ short c = omega arith
 small : (c : tie.After-low) → c .low .result < 2 ^ 48
 small c = omega (arith, c .low .ensures, low-below (measured c .args .word) (measured c .args .n) (short c))
 
-mul-hash : tie.Need-mul-hash
-mul-hash c = record { fits = hash-fits (c .low .result + 281474976710656 * measured c .args .n) (omega (arith, small c, short c)) }
+-- the entry found is for names of that length
+as-long : (c : tie.After-slot-of) → Entry (measured (asked c) .args .n) (c .slot-of .result)
+as-long c = subst (λ k. Entry k (c .slot-of .result)) (c .before .bits-of .ensures) (c .slot-of .ensures)
 
 returns-3 : tie.Need-returns-3
 returns-3 c h s o b l e =
-    let g = hashed c in
-    let a = measured g .args in
-    let r = c .before .before .slot-of in
-    let cut : g .low .result ≡ le 8 s o % 2 ^ (8 * a .n) = g .low .ensures ∙ ap (λ v. v % 2 ^ (8 * a .n)) e in
-    known s o (a .n) (r .result) (r .ensures) b l (short g) (omega (arith, cut))
+    let f = c .before .before in
+    let g = asked f in
+    let n = measured g .args .n in
+    let cut : g .low .result ≡ le 8 s o % 2 ^ (8 * n) = g .low .ensures ∙ ap (λ v. v % 2 ^ (8 * n)) e in
+    known s o n (f .slot-of .result) b l (short g) (omega (arith, cut)) (as-long f)
 
 pub fast-lookup-spec : {M : Type 1} → statement M
 fast-lookup-spec =
@@ -40,10 +42,7 @@ fast-lookup-spec =
     (λ c h. absurd (omega arith))
     (λ c h. absurd (omega arith))
     (λ c κs. search needs)
-    (λ c. search needs)
-    (λ c. omega (arith, small c, short c))
-    (λ c. search needs)
-    mul-hash
+    (λ c κs. (small c, short c))
     (λ c κs. search needs)
     returns-3
     (λ c h. absurd (omega arith)))

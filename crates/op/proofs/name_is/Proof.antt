@@ -1,8 +1,8 @@
--- Whether bytes are an operation's name. The loop keeps that the bytes passed are equal.
+-- Whether bytes are the name of an operation that is as long. The loop keeps that the bytes passed are equal.
 use mathlib.Core.List.{List, []}
-use Rattle.op.proofs.Same.{same-yes, same-no, short}
-use mathlib.Core.Path.{_≡_, sym, ap}
-use Prim.Native.Nat.{ℕ, _≤_, _<_, _-_}
+use Rattle.op.proofs.Same.{same-yes, same-no, short, spelt-at, spelt-many}
+use mathlib.Core.Path.{_≡_, sym, ap, _∙_}
+use Prim.Native.Nat.{ℕ, _≤_, _<_, _-_, _+_, _*_}
 use native.Mathlib.Omega.{arith}
 use lib.ListN.{length, getD}
 use lib.Seq.{ext-getD}
@@ -13,35 +13,47 @@ use Rattle.op.proofs.name_is.Statement.{statement}
 use Rattle.op.proofs.name_is.Tie as tie
 
 abbrev Inv-loop : tie.InvT-loop
-Inv-loop w k n j₀ j = (j ≤ n) × ((i : ℕ) → i < j → getD w i 0 ≡ getD (getD names k []) i 0)
+Inv-loop w k table j₀ j = (j ≤ length w) × ((i : ℕ) → i < j → getD w i 0 ≡ getD (getD names k []) i 0)
 
 abbrev μ-loop : tie.MeasureT-loop
-μ-loop w k n j₀ j = n - j
+μ-loop w k table j₀ j = length w - j
 
 -- the way through the code, each place from the next
 abbrev start : tie.At-loop Inv-loop μ-loop → tie.Start Inv-loop μ-loop
-start c = c .before .before .before .before
+start c = c .before
 
-abbrev turn : tie.After-shared-slice-known2 Inv-loop μ-loop → tie.At-loop Inv-loop μ-loop
+abbrev turn : tie.After-shared-slice-known Inv-loop μ-loop → tie.At-loop Inv-loop μ-loop
 turn c = c .before .before
 
-abbrev at-byte : tie.After-name-byte Inv-loop μ-loop → tie.At-loop Inv-loop μ-loop
+abbrev at-byte : tie.After-shared-slice-known2 Inv-loop μ-loop → tie.At-loop Inv-loop μ-loop
 at-byte c = turn (c .before)
 
+-- the byte of the name that the table has
+spelt : (c : tie.At-loop Inv-loop μ-loop) → c .loop .j < 6
+    → getD (start c .args .table .now) (start c .args .k * 6 + c .loop .j) 0 ≡ getD (getD names (start c .args .k) []) (c .loop .j) 0
+spelt c h =
+    ap (λ l. getD l (start c .args .k * 6 + c .loop .j) 0) (start c .pre .1 .1)
+    ∙ spelt-at (start c .args .k) (c .loop .j) (start c .pre .0) h
+
+-- the table is long enough
+within : (c : tie.At-loop Inv-loop μ-loop) → c .loop .j < 6 → start c .args .k * 6 + c .loop .j < length (start c .args .table .now)
+within c h = omega (arith, ap length (start c .pre .1 .1), spelt-many, start c .pre .0)
+
+short-name : (c : tie.In-loop Inv-loop μ-loop) → c .before .loop .j < 6
+short-name c = omega (arith, short (start (c .before) .args .k), c .before .before .pre .1 .0)
+
 returns : tie.Need-returns Inv-loop μ-loop
-returns c = sym (same-no _ _ (λ e. omega (arith, ap length e)))
-
-name-byte-requires : tie.Need-name-byte-requires Inv-loop μ-loop
-name-byte-requires c κs = omega (arith, short (start (turn c) .args .k))
-
-returns-2 : tie.Need-returns-2 Inv-loop μ-loop
-returns-2 c = sym (same-no _ _ (λ e. omega (arith, ap (λ (l : List ℕ). getD l (at-byte (c .before) .loop .j) 0) e)))
+returns c =
+    let t = at-byte (c .before) in
+    sym (same-no _ _ (λ e. omega (arith, ap (λ (l : List ℕ). getD l (t .loop .j) 0) e, spelt t (short-name (c .before .before .before)))))
 
 loop-again : tie.Need-loop-again Inv-loop μ-loop
-loop-again c = (omega arith, below-more _ _ (at-byte (c .before) .loop .inv .1) (omega arith))
+loop-again c =
+    let t = at-byte (c .before) in
+    (omega arith, below-more _ _ (t .loop .inv .1) (omega (arith, spelt t (short-name (c .before .before .before)))))
 
-returns-3 : tie.Need-returns-3 Inv-loop μ-loop
-returns-3 c = let l = c .before .loop in sym (same-yes _ _ (ext-getD 0 _ _ (omega arith) (λ i h. l .inv .1 i (omega arith))))
+returns-2 : tie.Need-returns-2 Inv-loop μ-loop
+returns-2 c = let l = c .before .loop in sym (same-yes _ _ (ext-getD 0 _ _ (omega arith) (λ i h. l .inv .1 i (omega arith))))
 
 pub name-is-spec : {M : Type 1} → statement M
 name-is-spec =
@@ -49,13 +61,13 @@ name-is-spec =
     (tie.spec
     Inv-loop
     μ-loop
-    (λ c κs. search needs)
+    (λ c. search needs)
+    (λ c. search needs)
+    (λ c. search needs)
+    (λ c. search needs)
+    (λ c. let t = within (turn (c .before)) (short-name (c .before .before)) in search needs)
     returns
     (λ c. search needs)
     (λ c. search needs)
-    name-byte-requires
-    returns-2
-    (λ c. search needs)
-    (λ c. search needs)
     loop-again
-    returns-3)
+    returns-2)
