@@ -55,6 +55,13 @@ pub fn print(name: &str, bytes: usize, (left, right): (Duration, Duration)) {
     );
 }
 
+/// A line on small works of which `count` were timed together: both times of one, without rates.
+pub fn print_each(name: &str, count: usize, (left, right): (Duration, Duration)) {
+    let ratio = left.as_secs_f64() / right.as_secs_f64();
+    let each = |time: Duration| format!("{:.1} ns", time.as_nanos() as f64 / count as f64);
+    println!("{name:<44}{:>11}{:>12}{:>11}{:>12}{ratio:>9.2}", each(left), "", each(right), "");
+}
+
 /// A line on what only one side has.
 pub fn print_one_side(name: &str, left: Option<Duration>, right: Option<Duration>) {
     let show = |side: Option<Duration>| side.map_or("-".to_string(), shown);

@@ -4,6 +4,7 @@ mod by_offset;
 mod clock;
 mod editing;
 mod inputs;
+mod names;
 mod reading;
 
 use std::process::ExitCode;
@@ -38,6 +39,7 @@ fn main() -> ExitCode {
     reading::charges(most_blocks);
     reading::charges_of_files(most_blocks);
     by_offset::every_instruction(most_blocks);
+    names::lookups();
     reading::repeated_vips(most_blocks);
     editing::edits();
     ExitCode::SUCCESS
