@@ -96,13 +96,6 @@ static void hold_block(uint64_t at, vtil_block_read got, vtil_block_read want)
     hold_list("next vips", at, got.next_at, want.next_at, got.next_vips, want.next_vips);
 }
 
-static void hold_instruction_read(uint64_t at, vtil_instruction_read got, vtil_instruction_read want)
-{
-    hold_number("instruction", at, got.refusal, want.refusal);
-    hold_number("instruction's end", at, got.end, want.end);
-    hold_instruction(at, &got.instruction, &want.instruction);
-}
-
 static void hold_vip(uint64_t at, vtil_vip_read got, vtil_vip_read want)
 {
     hold_number("vip", at, got.refusal, want.refusal);

@@ -40,6 +40,8 @@ run "$scratch/guard_book" samples/*.vtil
 run bash host/tests/command_books.sh target/host/routine "$scratch/command_books"
 build_guard guard_read book_pair
 run "$scratch/guard_read" samples/*.vtil
+build_guard guard_names
+run "$scratch/guard_names"
 build_guard guard_edits book_pair calls
 run "$scratch/guard_edits" samples/*.vtil
 build_guard guard_closed book_pair calls

@@ -29,3 +29,10 @@ void hold_instruction(size_t about, const vtil_instruction_desc *got, const vtil
     hold("instruction sp index", about, (int64_t)got->sp_index, (int64_t)want->sp_index);
     hold("sp reset", about, (int64_t)got->sp_reset, (int64_t)want->sp_reset);
 }
+
+void hold_instruction_read(size_t about, vtil_instruction_read got, vtil_instruction_read want)
+{
+    hold("instruction", about, (int64_t)got.refusal, (int64_t)want.refusal);
+    hold("instruction's end", about, (int64_t)got.end, (int64_t)want.end);
+    hold_instruction(about, &got.instruction, &want.instruction);
+}
