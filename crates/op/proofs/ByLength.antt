@@ -1,5 +1,5 @@
--- The list by length: a part of it that passes a test, which antt computes over the whole of the part, holds exactly the operations with names of a length,
--- each once, and no others. And what that tells a search through the part for a name's own length.
+-- The list by length. A list that passes a test, which antt computes over the whole of it, holds exactly some of the operations, each once, and no others:
+-- the parts of the list those with names of a length, the list itself all. And what that tells a search through the part for a name's own length.
 -- Assumes nothing.
 use mathlib.Core.Path.{_≡_, refl, sym, ap, _∙_}
 use mathlib.Core.List.{List, [], _∷_}
@@ -9,21 +9,18 @@ use Prim.Native.Nat.{ℕ, suc, _+_, _-_, _≤_, _<_}
 use native.Mathlib.Nat.{eq-or-lt-of-le}
 use native.Mathlib.Numerals.{add-one}
 use native.Mathlib.Omega.{arith}
-use lib.Dec.{T, eqb, ltb, leb, eqb→eq, ltb→lt, leb→le}
+use lib.Dec.{T, eqb, ltb, leb, ltb→lt, leb→le}
 use lib.ListN.{length, getD, take, drop}
 use lib.Seq.{drop-cons}
 use borrow.Author.Tests.{eq-eqb, eqb-true}
 use Rattle.fields.specs.Lists.{choose, same}
-use Rattle.op.specs.Ops.{names, number, index-of}
-use Rattle.op.specs.ByLength.{by-length, between, times, Exactly}
+use Rattle.op.specs.Ops.{names, number}
+use Rattle.op.specs.ByLength.{by-length, between, times, has-length, Exactly, Complete}
 use Rattle.op.proofs.Table.{entry, both, split, every, build, inside}
 use Rattle.op.proofs.Same.{same-eq, same-yes, names-many}
-use Rattle.op.proofs.Packed.{listed-number, placed}
+use Rattle.op.proofs.Packed.{T-true, listed-number, placed, index-le}
 
-abbrev long : ℕ → ℕ
-long k = length (getD names k [])
-
--- what passes the test of all elements, passes it
+-- where every element passes a test, each does
 member : (f : ℕ → Bool) (ks : List ℕ) (k : ℕ) → T (every f ks) → 0 < times k ks → T (f k)
 unfolding times choose
 member f [] k t h = absurd (omega arith)
@@ -33,65 +30,64 @@ member f (x ∷ xs) k t h = go (eqb x k) refl (member f xs k (split (f x) (every
     go true e m l = rw (eqb-true x k e) at (split (f x) (every f xs) t .0)
     go false e m l = m (omega arith)
 
--- A list for names of n bytes that passes two tests: each element is an operation with a name that long; and each operation stands there once if its name is
--- that long, and else never.
-abbrev own : ℕ → ℕ → Bool
-own n k = both (ltb k 49) (eqb (long k) n)
+-- an operation that passes the test f
+abbrev due : (ℕ → Bool) → ℕ → Bool
+due f k = both (ltb k 49) (f k)
 
+-- how often each of the 49 operations stands in ks, and how often it should
 abbrev often : List ℕ → List ℕ
 often ks = build (λ k. times k ks) 0 49
 
-abbrev due : ℕ → List ℕ
-due n = build (λ k. choose (eqb (long k) n) 1 0) 0 49
+abbrev once : (ℕ → Bool) → List ℕ
+once f = build (λ k. choose (f k) 1 0) 0 49
 
-pub tested : (n : ℕ) (ks : List ℕ) → T (every (own n) ks) → often ks ≡ due n → Exactly n ks
+pub tested : (f : ℕ → Bool) (ks : List ℕ) → T (every (due f) ks) → often ks ≡ once f → Exactly f ks
 unfolding choose
-tested n ks alone counted =
+tested f ks alone counted =
     record {
       each-once =
           λ k h e.
-          sym (entry (λ i. times i ks) 49 k h) ∙ ap (λ l. getD l k 0) counted ∙ entry (λ i. choose (eqb (long i) n) 1 0) 49 k h
-          ∙ ap (λ t. choose t 1 0) (eq-eqb (long k) n e);
+          sym (entry (λ i. times i ks) 49 k h) ∙ ap (λ l. getD l k 0) counted ∙ entry (λ i. choose (f i) 1 0) 49 k h ∙ ap (λ t. choose t 1 0) e;
       no-others =
           λ k h.
-          let q = split (ltb k 49) (eqb (long k) n) (member (own n) ks k alone h) in
-          (ltb→lt k 49 (q .0), eqb→eq (long k) n (q .1));
+          let q = split (ltb k 49) (f k) (member (due f) ks k alone h) in
+          (ltb→lt k 49 (q .0), T-true (f k) (q .1));
     }
 
--- no name has another length
+pub complete : Complete
+unfolding by-length times choose
+complete = tested (λ k. true) by-length tt refl
+
 abbrev usual : List ℕ → Bool
 usual x = both (leb 2 (length x)) (leb (length x) 6)
 
-pub none : (n : ℕ) → (2 ≤ n → n ≤ 6 → ⊥) → Exactly n []
+-- no name has another length than 2 to 6
+pub none : (n : ℕ) → (2 ≤ n → n ≤ 6 → ⊥) → Exactly (has-length n) []
 unfolding names times
 none n other =
     record {
       each-once =
           λ k h e.
-          let q = split (leb 2 (long k)) (leb (long k) 6) (inside usual names [] tt k (omega (arith, names-many))) in
-          absurd (other (rw e at (leb→le 2 (long k) (q .0))) (rw e at (leb→le (long k) 6 (q .1))));
+          let x = getD names k [] in
+          let q = split (leb 2 (length x)) (leb (length x) 6) (inside usual names [] tt k (omega (arith, names-many))) in
+          let p : length x ≡ n = eqb-true (length x) n e in
+          absurd (other (rw p at (leb→le 2 (length x) (q .0))) (rw p at (leb→le (length x) 6 (q .1))));
       no-others = λ k h. absurd (omega arith);
     }
 
--- a name's index is at most the names' number
-index-le : (xs : List (List ℕ)) (w : List ℕ) → index-of xs w ≤ length xs
-unfolding index-of choose
-index-le [] w = omega arith
-index-le (x ∷ xs) w = go (same w x) (index-le xs w)
-  where
-    go : (t : Bool) → index-of xs w ≤ length xs → choose t 0 (suc (index-of xs w)) ≤ suc (length xs)
-    go true h = omega arith
-    go false h = omega arith
-
--- A search for the name w through the part for its length, the operations ks still before it: each has a name as long, and the one with the name w, if
--- there is one, is among them.
+-- A search for the name w through the part for its length, where the operations ks are still to come: each has a name as long, and the one with the name w,
+-- if there is one, is among them.
 pub record Rest (w ks : List ℕ) : Type 0 where
   pub own-length : (k : ℕ) → 0 < times k ks → (k < 49) × (length (getD names k []) ≡ length w)
   pub among : (k : ℕ) → k < 49 → w ≡ getD names k [] → 0 < times k ks
 
 module _ (w : List ℕ) where
-  pub all : (ks : List ℕ) → Exactly (length w) ks → Rest w ks
-  all ks x = record { own-length = x .no-others; among = λ k h e. omega (arith, x .each-once k h (sym (ap length e))) }
+  pub all : (ks : List ℕ) → Exactly (has-length (length w)) ks → Rest w ks
+  all ks x =
+      record {
+        own-length = λ k h. let q = x .no-others k h in (q .0, eqb-true (length (getD names k [])) (length w) (q .1));
+        among = λ k h e. omega (arith, x .each-once k h (eq-eqb (length (getD names k [])) (length w) (sym (ap length e))));
+      }
 
   -- it passed every operation
   pub none-left : Rest w [] → 49 ≡ number w
@@ -135,7 +131,7 @@ module _ (w : List ℕ) where
         left j q false f h = omega arith
 
 -- The list, walked place after place.
-pub listed-many : length by-length ≡ 49
+listed-many : length by-length ≡ 49
 unfolding by-length
 listed-many = refl
 

@@ -1,4 +1,4 @@
--- The listed names, and each as one number: a name that has the number of a listed one is that one. What holds of every name or of every
+-- The listed names, and each as one number: a name as long as a listed one that has its number is that one. What holds of every name or of every
 -- entry of the table of packed names is one test that antt computes.
 -- Assumes nothing.
 use mathlib.Core.Path.{_≡_, refl, sym, ap, _∙_}
@@ -18,12 +18,12 @@ use Rattle.fields.specs.Lists.{choose, same}
 use Rattle.fields.specs.Bytes.{Bytes}
 use Rattle.op.specs.Ops.{names, counts, number, index-of}
 use Rattle.op.specs.Text.{is-text, text, next-state, lead}
-use Rattle.op.specs.Packed.{key, Packed, Entry, Known}
+use Rattle.op.specs.Packed.{key, bits, Packed, Entry, Known}
 use Rattle.op.specs.declared.Slot.{Slot}
 use Rattle.op.proofs.Table.{entry, both, split, every, at, Arms}
 use Rattle.op.proofs.Same.{short, same-eq, names-many}
 
-T-true : (b : Bool) → T b → b ≡ true
+pub T-true : (b : Bool) → T b → b ≡ true
 T-true true t = refl
 T-true false t = absurd t
 
@@ -56,6 +56,16 @@ placed (x ∷ xs) w h = go (same w x) refl (placed xs w) h
     go true q f l = same-eq w x q
     go false q f l = f (omega arith)
 
+-- a name's index is at most the names' number
+pub index-le : (xs : List (List ℕ)) (w : List ℕ) → index-of xs w ≤ length xs
+unfolding index-of choose
+index-le [] w = omega arith
+index-le (x ∷ xs) w = go (same w x) (index-le xs w)
+  where
+    go : (t : Bool) → index-of xs w ≤ length xs → choose t 0 (suc (index-of xs w)) ≤ suc (length xs)
+    go true h = omega arith
+    go false h = omega arith
+
 pub text-of : (w : List ℕ) (k : ℕ) → k < 49 → number w ≡ k → is-text w ≡ true
 text-of w k h e =
     let p : index-of names w < length names = omega (arith, names-many) in
@@ -85,7 +95,7 @@ le-same (suc k) s t o p b d e (suc i) h =
     rw (f, g) (le-same k s t (o + 1) (p + 1) b d (omega arith) i (omega arith))
 
 -- the lowest n bytes of 8
-pub low-is : (n : ℕ) (s : List ℕ) (o : ℕ) → Bytes s → n ≤ 8 → le 8 s o % 2 ^ (8 * n) ≡ le n s o
+low-is : (n : ℕ) (s : List ℕ) (o : ℕ) → Bytes s → n ≤ 8 → le 8 s o % 2 ^ (8 * n) ≡ le n s o
 low-is n s o b h =
     let e : 8 ≡ n + (8 - n) = omega arith in
     ap (λ k. le k s o % 2 ^ (8 * n)) e ∙ rw (le-split n (8 - n) s o)
@@ -110,7 +120,7 @@ module _ (k : ℕ) (h : k < 49) (x : List ℕ) (is : x ≡ getD names k []) wher
   few-bytes : length x ≤ 6
   few-bytes = rw is (short k)
 
-  pub key-below : key x < 2 ^ 48
+  key-below : key x < 2 ^ 48
   unfolding key
   key-below = le-below (length x) 6 x 0 bytes few-bytes
 
@@ -125,8 +135,8 @@ digits : (r x y : ℕ) → x < 4 → r ≡ x + 4 * y → (r % 4 ≡ x) × (r / 4
 digits r x y h e = (omega arith, omega arith)
 
 -- an entry that has the key of n bytes at o is that of their operation
-module _ (s : List ℕ) (o n : ℕ) (r : Slot) (b : Bytes s) (l : o + 8 ≤ length s) (m : n ≤ 6) (e : r .key ≡ le 8 s o % 2 ^ (8 * n)) where
-  packed-known : Packed n r → Known (take n (drop o s)) n (r .code)
+module _ (s : List ℕ) (o n h : ℕ) (r : Slot) (b : Bytes s) (l : o + 8 ≤ length s) (m : n ≤ 6) (e : r .key ≡ le 8 s o % 2 ^ (8 * n)) where
+  packed-known : Packed n h r → Known (take n (drop o s)) n (r .code)
   packed-known i =
       let q = digits (r .code) (getD counts (i .op) 0) (i .op) (few (i .op)) (i .code-is) in
       record {
@@ -138,19 +148,23 @@ module _ (s : List ℕ) (o n : ℕ) (r : Slot) (b : Bytes s) (l : o + 8 ≤ leng
         short = m;
       }
 
-  pub known : Entry n r → Known (take n (drop o s)) n (r .code)
-  known = ⊎-elim packed-known (λ h. absurd (omega (arith, low-below (le 8 s o) n m)))
+  pub known : Entry n h r → Known (take n (drop o s)) n (r .code)
+  known = ⊎-elim packed-known (λ g. absurd (omega (arith, low-below (le 8 s o) n m)))
 
--- The table. Its entry for operation k. The test of an entry, which has its operation's number in its highest bits, with the bits that lead to it, which
--- have the name's length over the hash. And the test of an entry for no operation.
+-- The table's entry for operation k.
 abbrev packed : ℕ → ℕ
 packed k = key (getD names k []) + 2 ^ 56 * (getD counts k 0 + 4 * k)
 
+-- The test of an entry e at the bits h: the operation whose number e has in its highest bits has this entry, a name of the length that h has in its highest
+-- bits, and the bits h.
 abbrev right : ℕ × ℕ → Bool
 right p =
     let k = p .1 / 2 ^ 58 in
-    both (ltb k 49) (both (eqb (p .1) (packed k)) (eqb (length (getD names k [])) (p .0 / 32)))
+    let x = getD names k [] in
+    let n = p .0 / 32 in
+    both (ltb k 49) (both (eqb (p .1) (packed k)) (both (eqb (length x) n) (eqb (bits n (key x)) (p .0))))
 
+-- the test of an entry of no operation
 abbrev empty : ℕ → Bool
 empty e = leb (2 ^ 48) (e % 2 ^ 56)
 
@@ -158,22 +172,29 @@ parts : (e x y : ℕ) → x < 2 ^ 48 → e ≡ x + 2 ^ 56 * y → (e % 2 ^ 56 �
 parts e x y h p = (omega arith, omega arith)
 
 -- an entry that passes, taken apart
-slot : (h e : ℕ) → T (right (h, e)) → Packed (h / 32) (record { key = e % 2 ^ 56; code = e / 2 ^ 56 })
+slot : (h e : ℕ) → T (right (h, e)) → Packed (h / 32) h (record { key = e % 2 ^ 56; code = e / 2 ^ 56 })
 slot h e t =
     let k = e / 2 ^ 58 in
+    let x = getD names k [] in
     let q = split (ltb k 49) _ t in
     let p = split (eqb e (packed k)) _ (q .1) in
+    let d = split (eqb (length x) (h / 32)) _ (p .1) in
     let l = ltb→lt k 49 (q .0) in
-    let w = parts e (key (getD names k [])) (getD counts k 0 + 4 * k) (key-below k l _ refl) (eqb→eq e (packed k) (p .0)) in
-    record { op = k; listed = l; as-long = eqb→eq (length (getD names k [])) (h / 32) (p .1); key-is = w .0; code-is = w .1 }
+    let w = parts e (key x) (getD counts k 0 + 4 * k) (key-below k l _ refl) (eqb→eq e (packed k) (p .0)) in
+    record {
+      op = k;
+      listed = l;
+      as-long = eqb→eq (length x) (h / 32) (d .0);
+      bits-are = eqb→eq (bits (h / 32) (key x)) h (d .1);
+      key-is = w .0;
+      code-is = w .1;
+    }
 
 pub filled : {C : Type 0} (h e : ℕ) → C → (s : Arms C h e) → T (every right (s .keyed)) → T (every empty (s .others))
-    → Entry (h / 32) (record { key = e % 2 ^ 56; code = e / 2 ^ 56 })
+    → Entry (h / 32) h (record { key = e % 2 ^ 56; code = e / 2 ^ 56 })
 filled h e c s t u = ⊎-elim (λ p. inl (slot h e p)) (λ p. inr (leb→le (2 ^ 48) (e % 2 ^ 56) p)) (s .all right empty t u c)
 
--- The product of a name's hash fits.
-pub hash-fits : (v : ℕ) → v < 2 ^ 48 → (v % 4294967296 + v / 4294967296) * 55733 < 2 ^ 64
-hash-fits v h =
-    let p : v % 4294967296 < 2 ^ 32 = omega arith in
-    let q : v / 4294967296 < 2 ^ 16 = omega arith in
-    omega arith
+-- the bits have the length in the highest
+pub bits-long : (n v : ℕ) → bits n v / 32 ≡ n
+unfolding bits
+bits-long n v = omega arith

@@ -9,7 +9,8 @@ use lib.Dec.{eqb, leb, leb→le}
 use lib.ListN.{length, getD}
 use borrow.Author.Tests.{eq-eqb, eqb-true}
 use Rattle.fields.specs.Lists.{choose, same}
-use Rattle.op.specs.Ops.{names, in-six}
+use Rattle.op.specs.Ops.{names}
+use Rattle.op.specs.ByLength.{in-six}
 use Rattle.op.proofs.Table.{at, entry}
 
 refl-same : (a : List ℕ) → same a a ≡ true
@@ -46,17 +47,17 @@ pub names-many : length names ≡ 49
 unfolding names
 names-many = refl
 
--- A byte of a name in the list that has six for each: the list is its rule computed over all places.
-spelt : ℕ → ℕ
-spelt i = getD (getD names (i / 6) []) (i % 6) 0
+-- A byte of a name in the table that has six for each: the table is its rule computed over all places.
+rule : ℕ → ℕ
+rule i = getD (getD names (i / 6) []) (i % 6) 0
 
-pub spelt-at : (k j : ℕ) → k < 49 → j < 6 → getD (in-six names) (k * 6 + j) 0 ≡ getD (getD names k []) j 0
-unfolding names in-six spelt
-spelt-at k j h l =
+pub in-six-at : (k j : ℕ) → k < 49 → j < 6 → getD (in-six names) (k * 6 + j) 0 ≡ getD (getD names k []) j 0
+unfolding names in-six rule
+in-six-at k j h l =
     let q : (k * 6 + j) / 6 ≡ k = omega arith in
     let r : (k * 6 + j) % 6 ≡ j = omega arith in
-    entry spelt 294 (k * 6 + j) (omega arith) ∙ ap₂ (λ x y. getD (getD names x []) y 0) q r
+    entry rule 294 (k * 6 + j) (omega arith) ∙ ap₂ (λ x y. getD (getD names x []) y 0) q r
 
-pub spelt-many : length (in-six names) ≡ 294
+pub in-six-many : length (in-six names) ≡ 294
 unfolding names in-six
-spelt-many = refl
+in-six-many = refl

@@ -1,7 +1,8 @@
 -- The operations by the lengths of their names. A name is looked up among those of its own length.
 use Prim.Native.Nat.{ℕ, _+_, _-_, _<_, _≤_}
 use mathlib.Core.Path.{_≡_}
-use mathlib.Core.List.{List, [], _∷_}
+use mathlib.Core.List.{List, [], _∷_, _++_}
+use mathlib.Core.Bool.{Bool, true}
 use lib.Dec.{eqb}
 use lib.ListN.{length, getD, take, drop}
 use Rattle.fields.specs.Lists.{choose}
@@ -71,12 +72,25 @@ unfoldable pub times : ℕ → List ℕ → ℕ
 times k [] = 0
 times k (x ∷ xs) = choose (eqb x k) 1 0 + times k xs
 
--- ks holds exactly the operations with names of n bytes, each once, and no others
-pub record Exactly (n : ℕ) (ks : List ℕ) : Type 0 where
-  pub each-once : (k : ℕ) → k < 49 → length (getD names k []) ≡ n → times k ks ≡ 1
-  pub no-others : (k : ℕ) → 0 < times k ks → (k < 49) × (length (getD names k []) ≡ n)
+-- ks holds exactly the operations that pass a test, each once, and no others
+pub record Exactly (f : ℕ → Bool) (ks : List ℕ) : Type 0 where
+  pub each-once : (k : ℕ) → k < 49 → f k ≡ true → times k ks ≡ 1
+  pub no-others : (k : ℕ) → 0 < times k ks → (k < 49) × (f k ≡ true)
 
--- p is the part of the list for names of n bytes
+-- the name of operation k has n bytes
+abbrev pub has-length : ℕ → ℕ → Bool
+has-length n k = eqb (length (getD names k [])) n
+
+-- p is the part of the list for names of n bytes: it holds exactly the operations with names that long, each once, and no others
 pub record For-length (n : ℕ) (p : Part) : Type 0 where
   pub within : p .end ≤ 49
-  pub holds : Exactly n (between (p .first) (p .end))
+  pub holds : Exactly (has-length n) (between (p .first) (p .end))
+
+-- the whole list holds the operations, each once, and nothing else
+abbrev pub Complete : Type 0
+Complete = Exactly (λ k. true) by-length
+
+-- the names as they stand in the code's table: six bytes for each, with zeros after it
+unfoldable pub in-six : List (List ℕ) → List ℕ
+in-six [] = []
+in-six (x ∷ xs) = take 6 (x ++ 0 ∷ 0 ∷ 0 ∷ 0 ∷ 0 ∷ 0 ∷ []) ++ in-six xs

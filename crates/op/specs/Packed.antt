@@ -1,4 +1,4 @@
--- The table of the fast lookup. A name of at most 6 bytes is one number, its bytes from the lowest up.
+-- The table of the fast lookup. A name of at most 6 bytes is one number, its bytes from the lowest up; its bits say where it stands in the table.
 use Prim.Native.Nat.{ℕ, _+_, _*_, _/_, _%_, _^_, _<_, _≤_}
 use mathlib.Core.Path.{_≡_}
 use mathlib.Core.Logic.{_⊎_}
@@ -11,17 +11,22 @@ use Rattle.op.specs.declared.Slot.{Slot}
 unfoldable pub key : List ℕ → ℕ
 key w = le (length w) w 0
 
--- the key and the code of a listed operation whose name has n bytes
-pub record Packed (n : ℕ) (r : Slot) : Type 0 where
+-- the bits of a name of n bytes that is the number v: its length, and five bits of a hash
+unfoldable pub bits : ℕ → ℕ → ℕ
+bits n v = 32 * n + (v % 2 ^ 32 + v / 2 ^ 32) * 55733 / 2 ^ 16 % 32
+
+-- the key and the code of a listed operation whose name has n bytes and the bits h
+pub record Packed (n h : ℕ) (r : Slot) : Type 0 where
   pub op : ℕ
   pub listed : op < 49
   pub as-long : length (getD names op []) ≡ n
+  pub bits-are : bits n (key (getD names op [])) ≡ h
   pub key-is : r .key ≡ key (getD names op [])
   pub code-is : r .code ≡ getD counts op 0 + 4 * op
 
--- an entry that a name of n bytes may meet: that of an operation whose name is as long, or one with a key that no name has
-abbrev pub Entry : ℕ → Slot → Type 0
-Entry n r = Packed n r ⊎ (2 ^ 48 ≤ r .key)
+-- an entry for names of n bytes with the bits h: such an operation's, or one with a key that no name has
+abbrev pub Entry : ℕ → ℕ → Slot → Type 0
+Entry n h r = Packed n h r ⊎ (2 ^ 48 ≤ r .key)
 
 -- w, of n bytes, is the name of operation r / 4, which takes r % 4 operands
 pub record Known (w : List ℕ) (n r : ℕ) : Type 0 where

@@ -6,9 +6,9 @@ ghost use lib.ListN.{length, getD, take, drop};
 ghost use Rattle.fields.specs.Bytes.{Bytes};
 ghost use Rattle.fields.specs.Lists.{same};
 ghost use Rattle.fields.specs.Parse.{le};
-ghost use Rattle.op.specs.Packed.{Entry, Known};
-ghost use Rattle.op.specs.Ops.{names, in-six, counts, number};
-ghost use Rattle.op.specs.ByLength.{by-length, For-length};
+ghost use Rattle.op.specs.Packed.{bits, Entry, Known};
+ghost use Rattle.op.specs.Ops.{names, counts, number};
+ghost use Rattle.op.specs.ByLength.{by-length, For-length, in-six};
 ghost use Rattle.op.specs.Text.{lead, next-state, is-text};
 
 // Six bytes for each name, with zeros after it.
@@ -202,7 +202,7 @@ pub fn operand_count(k: usize) -> u32
 }
 
 // The operation at place `i` of the list by length.
-fn listed(i: usize) -> usize
+fn listed_at(i: usize) -> usize
     requires { ⌜ i < 49 ⌝ }
     ensures { λ r. ⌜ r ≡ getD by-length i 49 ⌝ }
 {
@@ -229,7 +229,7 @@ fn with_length(n: usize) -> Part
     }
 }
 
-// Whether `w` is the name of operation `k`, which is as long. `table` is `NAMES`: where it is lent, it is built once and not for each byte.
+// Whether `w` is the name of operation `k`, which is as long as `w`. `table` is `NAMES`, lent so that it is built once for all comparisons.
 fn name_is(w: &[u8], k: usize, table: &[u8]) -> bool
     requires { ⌜ (k < 49) × ((length (now w) ≡ length (getD names k [])) × (now table ≡ in-six names)) ⌝ }
     ensures { λ r. ⌜ r ≡ same (now (w .entry)) (getD names k []) ⌝ }
@@ -252,7 +252,7 @@ pub fn number_of(w: &[u8]) -> usize
     let table = NAMES;
     let mut i = part.first;
     while i < part.end {
-        let k = listed(i);
+        let k = listed_at(i);
         if name_is(w, k, &table) {
             return k;
         }
@@ -261,18 +261,18 @@ pub fn number_of(w: &[u8]) -> usize
     49
 }
 
-// An operation of the table. The key is its name as one number, the bytes from the lowest up; the code is its operand count and four times its number.
+// An entry of the table. Of an operation, the key is its name as one number, the bytes from the lowest up, and the code is its operand count and four times
+// its number. Of no operation, the key has seven bytes, as no name has.
 struct Slot {
     key: u64,
     code: u64,
 }
 
-// The operation whose name may have the bits `h`, which are the name's length and five bits of a hash; so its name is as long as the one that is looked up.
-// An entry is its key, and in the eighth byte its code; one of no operation has a key of seven bytes, which no name has. A `match`, since an array would be
-// built anew at each call. LLVM makes a table of it where at least 40 in 100 of 256 bits have an arm, and joins arms that are like the last: so the odd bits
-// that no name has are written out, with an entry of their own.
+// The entry for names with the bits `h`. A number is its key, and in the eighth byte its code. A `match`, since an array would be built anew at each call.
+// LLVM makes a table of it where at least 40 in 100 of the 256 values have an arm, and joins arms that are like the last: so the odd values from 65 to 223
+// that no name has are written out, with a number of their own.
 fn slot_of(h: u64) -> Slot
-    ensures { λ r. ⌜ Entry (h / 32) r ⌝ }
+    ensures { λ r. ⌜ Entry (h / 32) h r ⌝ }
 {
     let e = match h {
         70 => 0x9700_0000_0000_736a,
@@ -403,13 +403,21 @@ fn low(v: u64, n: usize) -> u64
     }
 }
 
-// The bits of a name of `n` bytes, which are the number `v`: no two of the 49 names have the same.
+// 32 times the length `n` of a name, and five bits of a hash of its bytes, the number `v`. No two of the 49 names have the same.
 fn bits_of(v: u64, n: usize) -> u64
     requires { ⌜ (v < 2 ^ 48) × (n ≤ 6) ⌝ }
-    ensures { λ r. ⌜ r / 32 ≡ n ⌝ }
+    ensures { λ r. ⌜ r ≡ bits n v ⌝ }
 {
     let f = v % 0x1_0000_0000 + v / 0x1_0000_0000;
     32 * (n as u64) + f * 55733 / 0x1_0000 % 32
+}
+
+// The code of the entry `found` where its key is the number `v`, else 256. Only an entry for names as long, of `n` bytes, may be asked.
+fn code_of(found: Slot, v: u64, n: usize) -> u64
+    requires { ⌜ Entry n (bits n v) found ⌝ }
+    ensures { λ r. ⌜ (r < 256 → (found .key ≡ v) × (found .code ≡ r)) ⌝ }
+{
+    if found.key == v { found.code } else { 256 }
 }
 
 // Of the operation whose name is the lowest `n` bytes of `word`: its operand count and four times its number, found by a table, or 256 where the
@@ -424,8 +432,7 @@ pub fn fast_lookup(word: u64, n: usize) -> u64
         return 256;
     }
     let v = low(word, n);
-    let found = slot_of(bits_of(v, n));
-    if found.key == v { found.code } else { 256 }
+    code_of(slot_of(bits_of(v, n)), v, n)
 }
 
 // A place in a text: how many bytes the sequence begun there still has, and the range of the next. With 4 there is no such sequence.

@@ -1,6 +1,6 @@
 -- Whether bytes are the name of an operation that is as long. The loop keeps that the bytes passed are equal.
 use mathlib.Core.List.{List, []}
-use Rattle.op.proofs.Same.{same-yes, same-no, short, spelt-at, spelt-many}
+use Rattle.op.proofs.Same.{same-yes, same-no, short, in-six-at, in-six-many}
 use mathlib.Core.Path.{_≡_, sym, ap, _∙_}
 use Prim.Native.Nat.{ℕ, _≤_, _<_, _-_, _+_, _*_}
 use native.Mathlib.Omega.{arith}
@@ -33,11 +33,11 @@ spelt : (c : tie.At-loop Inv-loop μ-loop) → c .loop .j < 6
     → getD (start c .args .table .now) (start c .args .k * 6 + c .loop .j) 0 ≡ getD (getD names (start c .args .k) []) (c .loop .j) 0
 spelt c h =
     ap (λ l. getD l (start c .args .k * 6 + c .loop .j) 0) (start c .pre .1 .1)
-    ∙ spelt-at (start c .args .k) (c .loop .j) (start c .pre .0) h
+    ∙ in-six-at (start c .args .k) (c .loop .j) (start c .pre .0) h
 
 -- the table is long enough
 within : (c : tie.At-loop Inv-loop μ-loop) → c .loop .j < 6 → start c .args .k * 6 + c .loop .j < length (start c .args .table .now)
-within c h = omega (arith, ap length (start c .pre .1 .1), spelt-many, start c .pre .0)
+within c h = omega (arith, ap length (start c .pre .1 .1), in-six-many, start c .pre .0)
 
 short-name : (c : tie.In-loop Inv-loop μ-loop) → c .before .loop .j < 6
 short-name c = omega (arith, short (start (c .before) .args .k), c .before .before .pre .1 .0)

@@ -1,7 +1,7 @@
 -- The table of packed names: antt computes one test over all arms, and the sum of the arms says that the entry is one of them.
 use Rattle.fields.specs.Parse.{le}
 use Rattle.op.specs.Ops.{names, counts}
-use Rattle.op.specs.Packed.{key}
+use Rattle.op.specs.Packed.{key, bits}
 use Rattle.op.proofs.Packed.{filled}
 use Rattle.op.proofs.Table.{arm, other-arm, last-arm}
 use Rattle.op.proofs.slot_of.Statement.{statement}
@@ -9,7 +9,7 @@ use Rattle.op.proofs.slot_of.Tie as tie
 
 -- the arms of the 49 operations, and the two of none
 returns : tie.Need-returns
-unfolding names counts key le
+unfolding names counts key bits le
 returns c =
     let m = c .before .match in
     filled (c .before .before .args .h) (m .e) (m .came)

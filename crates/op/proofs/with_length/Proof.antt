@@ -4,12 +4,12 @@ use mathlib.Core.Path.{_≡_, refl}
 use Prim.Native.Nat.{ℕ, _≤_}
 use Rattle.fields.specs.Lists.{choose}
 use Rattle.op.specs.Ops.{names}
-use Rattle.op.specs.ByLength.{by-length, between, times, Exactly, For-length}
+use Rattle.op.specs.ByLength.{by-length, between, times, has-length, Exactly, For-length}
 use Rattle.op.proofs.ByLength.{tested, none}
 use Rattle.op.proofs.with_length.Statement.{statement}
 use Rattle.op.proofs.with_length.Tie as tie
 
-part : (n : ℕ) {m first end : ℕ} → m ≡ n → end ≤ 49 → Exactly n (between first end) → For-length m (record { first = first; end = end })
+part : (n : ℕ) {m first end : ℕ} → m ≡ n → end ≤ 49 → Exactly (has-length n) (between first end) → For-length m (record { first = first; end = end })
 part n e l x = record { within = l; holds = rw e x }
 
 other-length : tie.Need-returns-6
@@ -20,9 +20,9 @@ unfolding by-length names times choose
 with-length-spec =
     tie.close
     (tie.spec
-    (λ c. part 2 (omega arith) (omega arith) (tested 2 _ tt refl))
-    (λ c. part 3 (omega arith) (omega arith) (tested 3 _ tt refl))
-    (λ c. part 4 (omega arith) (omega arith) (tested 4 _ tt refl))
-    (λ c. part 5 (omega arith) (omega arith) (tested 5 _ tt refl))
-    (λ c. part 6 (omega arith) (omega arith) (tested 6 _ tt refl))
+    (λ c. part 2 (omega arith) (omega arith) (tested (has-length 2) _ tt refl))
+    (λ c. part 3 (omega arith) (omega arith) (tested (has-length 3) _ tt refl))
+    (λ c. part 4 (omega arith) (omega arith) (tested (has-length 4) _ tt refl))
+    (λ c. part 5 (omega arith) (omega arith) (tested (has-length 5) _ tt refl))
+    (λ c. part 6 (omega arith) (omega arith) (tested (has-length 6) _ tt refl))
     other-length)

@@ -7,8 +7,8 @@ use lib.ListN.{getD}
 use Rattle.op.specs.ByLength.{by-length}
 use Rattle.op.proofs.Table.{entry, at}
 use borrow.Author.Needs.{needs}
-use Rattle.op.proofs.listed.Statement.{statement}
-use Rattle.op.proofs.listed.Tie as tie
+use Rattle.op.proofs.listed_at.Statement.{statement}
+use Rattle.op.proofs.listed_at.Tie as tie
 
 rule : ℕ → ℕ
 rule i = getD by-length i 49
@@ -25,5 +25,5 @@ returns : tie.Need-returns
 unfolding by-length rule
 returns c = entry rule 49 (c .args .i) (omega arith)
 
-pub listed-spec : {M : Type 1} → statement M
-listed-spec = tie.close (tie.spec (λ c. search needs) cast-result returns)
+pub listed-at-spec : {M : Type 1} → statement M
+listed-at-spec = tie.close (tie.spec (λ c. search needs) cast-result returns)
