@@ -40,23 +40,23 @@ static bool make_room(size_t size, size_t room, size_t journal_len, struct book 
     return out->image != NULL && out->journal != NULL;
 }
 
-static enum status open_file(const char *name, const struct file *file, struct book *book)
+static enum status open_file(const char *name, const struct file *file, vtil_rates rates, struct book *book)
 {
     vtil_answer answer =
-        vtil_open(file->bytes, file->len, book->image, book->image_len, book->journal, book->journal_len);
+        vtil_open(file->bytes, file->len, book->image, book->image_len, book->journal, book->journal_len, rates);
     book->numbers = answer.book;
     return answer.refusal == 0 ? ALL_ACCEPTED : say_not_opened(name, answer.refusal);
 }
 
 static enum status check_and_open(const char *name, const struct file *file, size_t room, size_t journal_len,
-                                  struct book *out)
+                                  vtil_rates rates, struct book *out)
 {
     int64_t size = routine_size(file);
     if (size < 0)
         return say_not_opened(name, (uint64_t)-size);
     enum status status = TROUBLE;
     if (make_room((size_t)size, room, journal_len, out))
-        status = open_file(name, file, out);
+        status = open_file(name, file, rates, out);
     else
         say_unread(name, "too large for memory");
     if (status != ALL_ACCEPTED)
@@ -64,7 +64,7 @@ static enum status check_and_open(const char *name, const struct file *file, siz
     return status;
 }
 
-enum status book_open(const char *name, size_t room, size_t journal_len, struct book *out)
+enum status book_open(const char *name, size_t room, size_t journal_len, vtil_rates rates, struct book *out)
 {
     struct file file;
     const char *problem = file_read(name, MOST_READ, &file);
@@ -72,7 +72,7 @@ enum status book_open(const char *name, size_t room, size_t journal_len, struct 
         say_unread(name, problem);
         return TROUBLE;
     }
-    enum status status = check_and_open(name, &file, room, journal_len, out);
+    enum status status = check_and_open(name, &file, room, journal_len, rates, out);
     file_free(&file);
     return status;
 }

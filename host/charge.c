@@ -98,7 +98,7 @@ enum status charge_command(const struct request *request)
     struct book book;
     if (!rates_read(request->rates, &rates))
         return TROUBLE;
-    enum status status = book_open(request->files[0], 0, 0, &book);
+    enum status status = book_open(request->files[0], 0, 0, NO_RATES, &book);
     if (status != ALL_ACCEPTED)
         return status;
     status = print_charge(request, &book, rates);

@@ -111,7 +111,7 @@ enum status edit_command(const struct request *request)
     enum status status = script_read(request->script, &script);
     if (status != ALL_ACCEPTED)
         return status;
-    status = book_open(request->files[0], growth(&script), VTIL_MOST_LENT, &book);
+    status = book_open(request->files[0], growth(&script), VTIL_MOST_LENT, NO_RATES, &book);
     if (status == ALL_ACCEPTED) {
         status = edit_book(request, &script, &book);
         book_free(&book);

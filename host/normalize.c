@@ -7,7 +7,7 @@
 enum status normalize_command(const struct request *request)
 {
     struct book book;
-    enum status status = book_open(request->files[0], 0, 0, &book);
+    enum status status = book_open(request->files[0], 0, 0, NO_RATES, &book);
     if (status != ALL_ACCEPTED)
         return status;
     status = output_write(request->out, book.image, (size_t)book.numbers.written);

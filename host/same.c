@@ -78,8 +78,8 @@ enum status same_command(const struct request *request)
 {
     struct book a, b;
     const char *const names[] = {request->files[0], request->files[1]};
-    bool a_open = book_open(names[0], 0, 0, &a) == ALL_ACCEPTED;
-    bool b_open = book_open(names[1], 0, 0, &b) == ALL_ACCEPTED;
+    bool a_open = book_open(names[0], 0, 0, NO_RATES, &a) == ALL_ACCEPTED;
+    bool b_open = book_open(names[1], 0, 0, NO_RATES, &b) == ALL_ACCEPTED;
     enum status status = a_open && b_open ? compare(names, &a, &b) : TROUBLE;
     if (a_open)
         book_free(&a);

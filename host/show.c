@@ -113,7 +113,7 @@ static void show_routine(const struct show *show)
 enum status show_command(const struct request *request)
 {
     struct book book;
-    enum status status = book_open(request->files[0], 0, 0, &book);
+    enum status status = book_open(request->files[0], 0, 0, NO_RATES, &book);
     if (status != ALL_ACCEPTED)
         return status;
     const struct printer *print = request->json ? &json_printer : &text_printer;

@@ -235,8 +235,9 @@ vtil_vip_read vtil_read_vip(const uint8_t *file, size_t file_len, uint64_t at);
  *            and every flag 0 or 1. It is what to save.
  *   journal  lent memory that holds what vtil_undo needs. It may have length 0:
  *            then the routine can be looked at, but every edit is refused.
- *   book     two numbers: how many bytes of the image are the written form, and
- *            how many bytes of the journal are used.
+ *   book     how many bytes of the image are the written form and how many bytes of
+ *            the journal are used; and for the charge the six rates that the book was
+ *            opened at, and the running sum.
  *
  * Keep the three together: hand to each call the book that the call before it
  * answered, with the same image and journal at the same lengths, unchanged in
@@ -251,14 +252,39 @@ vtil_vip_read vtil_read_vip(const uint8_t *file, size_t file_len, uint64_t at);
  * A book is spoiled, and every call on it is refused 13, when `written` is over
  * the image's length, `used` is over the journal's length, the first `written`
  * bytes of the image are not exactly one routine in written form, or a byte after
- * them is not 0. What the journal holds is tested by vtil_undo alone.
+ * them is not 0. What the journal holds is tested by vtil_undo alone, and the sum
+ * only where it changes; the rates are not tested.
+ *
+ * The charge. The operations are six groups: numbers 0 to 3, 4 to 14, 15 to 25, 26 to
+ * 36, 37 to 40 and 41 to 48. Each group has a rate, any number, and every instruction
+ * of every block counts the rate of its operation's group, in hundredths of a cent.
+ * The rates of a book are those that it was opened at: no call changes them. Its sum
+ * is that of all instructions at these rates, which opening works out. From then on
+ * vtil_append adds the rate of the instruction, vtil_remove_block subtracts the sum of
+ * the block, vtil_undo takes either back, and vtil_create_block leaves the sum as it
+ * is. None of them walks over the routine for it, and the charge is there after each
+ * call without another one. In whole cents, rounded up once, it is
+ *
+ *     sum / 100 + (sum % 100 != 0)
+ *
+ * and not (sum + 99) / 100, which wraps where a sum made by hand is near 2^64.
+ *
+ * So after any calls that began with an opening, each given the book that the one
+ * before it answered, the sum is that of the routine in the image, worked afresh, and
+ * its cents are what vtil_charge answers at the same rates. Hand a book back as it was
+ * answered: a call counts on from the sum that it is handed, at the rates that it is
+ * handed, and does not see that they are others. Only a sum that is smaller than what
+ * is to be subtracted, or that would pass 2^64 - 1 with what is to be added, is refused
+ * 13, by vtil_remove_block, vtil_append and vtil_undo, and there this test is the last.
+ * No sum that came from an opening meets it.
  *
  * Of every call here:
  *   Each pointer has as many bytes behind it as the length after it says, and may
  *   be NULL when that length is 0. Image, journal and whatever else is lent to one
  *   call do not overlap. Nothing is kept after the call.
  *   A refused call changes no byte of image and journal. Where it answers a book,
- *   it is the one that was handed in (vtil_open and vtil_run: a book of zeros).
+ *   it is the one that was handed in (vtil_open and vtil_run: a book of zeros, the
+ *   rates and the sum too).
  * Of every call here but vtil_run and vtil_run_on, which make several of the others:
  *   Image and journal have at most 16,777,216 bytes each (VTIL_MOST_LENT); a longer
  *   one is refused 10 before anything else.
@@ -266,8 +292,14 @@ vtil_vip_read vtil_read_vip(const uint8_t *file, size_t file_len, uint64_t at);
  *   spoiled: a call's time grows with the image's length.
  */
 typedef struct {
+    uint32_t rate[6]; /* hundredths of a cent per instruction, by group */
+} vtil_rates;
+
+typedef struct {
     uint64_t written; /* bytes of the image that are the written form */
     uint64_t used;    /* bytes of the journal that are used */
+    vtil_rates rates; /* those of the opening */
+    uint64_t sum;     /* of all instructions at these rates, in hundredths of a cent */
 } vtil_book;
 
 typedef struct {
@@ -279,15 +311,18 @@ typedef struct {
  * vtil_open reads a routine file and puts its written form into the image; the
  * rest of the image and the whole journal become 0.
  *
+ *   rates  the book's, from now on. Any numbers; all 0 where no charge is wanted.
+ *
  * Answers the book of the routine; its written length is what vtil_check answers
- * for the same file, and nothing of the journal is used. The file may be let go.
+ * for the same file, nothing of the journal is used, and its sum is that of the
+ * file's instructions, less than 2^52 at any rates. The file may be let go.
  *
  * Refusals, in this order: 10; 1 to 9, as vtil_check; 11 when the written form is
  * longer than the image. The journal is not a reason: any length up to the limit
  * will do.
  */
 vtil_answer vtil_open(const uint8_t *file, size_t file_len, uint8_t *image, size_t image_len, uint8_t *journal,
-                      size_t journal_len);
+                      size_t journal_len, vtil_rates rates);
 
 typedef struct {
     uint64_t refusal; /* 0: written */
@@ -380,12 +415,12 @@ vtil_register_look vtil_convention_register(vtil_book book, const uint8_t *image
                                             uint64_t list, uint64_t place);
 
 /*
- * vtil_charge answers what a routine is billed at. The operations are six groups:
- * numbers 0 to 3, 4 to 14, 15 to 25, 26 to 36, 37 to 40 and 41 to 48. Every
- * instruction of every block counts the rate of its operation's group, in hundredths
- * of a cent; the sum is rounded up once to whole cents. The rates are any numbers.
- * Image and journal are only read; as every call on a book this one reads the whole
- * image first, and then once more.
+ * vtil_charge answers what a routine is billed at, worked afresh: every instruction
+ * of every block counts the rate of its operation's group (above), in hundredths of a
+ * cent; the sum is rounded up once to whole cents. The rates are those that are handed
+ * in here, any numbers; the book's rates and its sum are not looked at. Image and
+ * journal are only read; as every call on a book this one reads the whole image first,
+ * and then once more.
  *
  * No sum wraps: what an image can hold comes to less than 2^52 hundredths of a cent.
  * How many instructions of group g there are is the charge at rate 100 for group g
@@ -393,10 +428,6 @@ vtil_register_look vtil_convention_register(vtil_book book, const uint8_t *image
  *
  * Refusals, in this order: 10; 13 when the book is spoiled. The cents are then 0.
  */
-typedef struct {
-    uint32_t rate[6]; /* hundredths of a cent per instruction, by group */
-} vtil_rates;
-
 typedef struct {
     uint64_t refusal;
     uint64_t cents;
@@ -411,14 +442,15 @@ vtil_charge_look vtil_charge(vtil_book book, const uint8_t *image, size_t image_
  * Each accepted edit changes the routine in the image, writes an entry into the
  * journal after the part that is used, and answers the new book. The links between
  * blocks (prev and next vips) are never adjusted. Every edit is refused 10 and then
- * 13 as any call on a book; its own refusals come next; last come 11, when the new
- * written form is longer than the image, and then 12, when the entry does not fit
- * what is left of the journal.
+ * 13 as any call on a book; its own refusals come next; then come 11, when the new
+ * written form is longer than the image, and 12, when the entry does not fit what is
+ * left of the journal; and last, where the sum changes, 13 of the sum.
  */
 
 /*
  * vtil_create_block adds an empty block with this vip after the last one; its
- * other numbers are 0. The image needs 36 bytes more and the journal 20.
+ * other numbers are 0. The image needs 36 bytes more and the journal 20. The sum
+ * stays, whatever it is.
  *
  * Refusals, in this order: 10, 13; 14 when a block has this vip; 11, 12.
  */
@@ -427,9 +459,11 @@ vtil_answer vtil_create_block(vtil_book book, uint8_t *image, size_t image_len, 
 
 /*
  * vtil_remove_block removes the block with this vip; the last block takes its
- * place. The journal needs the block's size and 20 bytes more.
+ * place. The journal needs the block's size and 20 bytes more. The sum of the block
+ * at the book's rates is subtracted.
  *
- * Refusals, in this order: 10, 13; 15 when no block has this vip; 12.
+ * Refusals, in this order: 10, 13; 15 when no block has this vip; 12; 13 when the
+ * book's sum is smaller than the block's.
  */
 vtil_answer vtil_remove_block(vtil_book book, uint8_t *image, size_t image_len, uint8_t *journal, size_t journal_len,
                               uint64_t vip);
@@ -438,7 +472,7 @@ vtil_answer vtil_remove_block(vtil_book book, uint8_t *image, size_t image_len, 
  * vtil_append adds an instruction after the last one of the block with this vip.
  * The instruction is lent as its bytes in the file's layout, exactly one;
  * vtil_write_instruction makes them. The image needs as many bytes more and the
- * journal 20.
+ * journal 20. The book's rate for the instruction's group is added to the sum.
  *
  * A block is closed when its last instruction is js, jmp, vexit or vxcall, the
  * operations 37 to 40: the engine leaves the block there, so it would never come to
@@ -450,7 +484,7 @@ vtil_answer vtil_remove_block(vtil_book book, uint8_t *image, size_t image_len, 
  * Refusals, in this order: 10, 13; 1, 2, 5, 6, 7 or 8, whichever field of the
  * instruction fails first (1: its bytes end too early); 17 when bytes are left
  * after the instruction; 15 when no block has this vip; 18 when the block is
- * closed; 11, 12.
+ * closed; 11, 12; 13 when the book's sum would pass 2^64 - 1 with that rate.
  */
 vtil_answer vtil_append(vtil_book book, uint8_t *image, size_t image_len, uint8_t *journal, size_t journal_len,
                         uint64_t vip, const uint8_t *instruction, size_t instruction_len);
@@ -458,11 +492,15 @@ vtil_answer vtil_append(vtil_book book, uint8_t *image, size_t image_len, uint8_
 /*
  * vtil_undo takes back the last accepted edit that was not taken back yet: image
  * and book are then as they were before it, and its entry in the journal is 0.
- * Every edit since vtil_open can be taken back, one call for each.
+ * Every edit since vtil_open can be taken back, one call for each. The sum of a block
+ * that comes back is added, the rate of an instruction that goes is subtracted, both
+ * at the book's rates; where a created block goes the sum stays, whatever it is.
  *
  * Refusals, in this order: 10, 13; 16 when nothing of the journal is used; 13 when
- * its used part does not end in an entry that fits the image, which never happens
- * to a book from vtil_open whose image and journal nobody else wrote or cut.
+ * its used part does not end in an entry that fits the image; 13 when the book's sum
+ * is smaller than what is to be subtracted, or would pass 2^64 - 1 with what is to be
+ * added. Neither of these two 13 happens to a book from vtil_open that was handed on
+ * as it was answered, and whose image and journal nobody else wrote or cut.
  */
 vtil_answer vtil_undo(vtil_book book, uint8_t *image, size_t image_len, uint8_t *journal, size_t journal_len);
 
@@ -502,20 +540,21 @@ typedef struct {
 } vtil_run_answer;
 
 /*
- * vtil_run opens a file as vtil_open does and makes a list of calls on its book.
+ * vtil_run opens a file as vtil_open does, at these rates, and makes a list of calls
+ * on its book.
  *
  * Refusals, in this order: 15 when the words are no list of calls; 10, 1 to 9 and
  * 11, as vtil_open. The book is then one of zeros.
  */
 vtil_run_answer vtil_run(const uint8_t *file, size_t file_len, uint8_t *image, size_t image_len, uint8_t *journal,
                          size_t journal_len, const uint64_t *words, size_t words_len, const uint8_t *bytes,
-                         size_t bytes_len);
+                         size_t bytes_len, vtil_rates rates);
 
 /*
- * vtil_run_on makes a list of calls on a book that is there. The book is tested by
- * each call of the list: where it is spoiled, or image or journal are too long,
- * each is refused 13 or 10, which `last` says. An empty list tests nothing and
- * answers the book that was handed in.
+ * vtil_run_on makes a list of calls on a book that is there, at the book's rates. The
+ * book is tested by each call of the list: where it is spoiled, or image or journal
+ * are too long, each is refused 13 or 10, which `last` says. An empty list tests
+ * nothing and answers the book that was handed in.
  *
  * Refusals: 15 when the words are no list of calls. The book is then the one that
  * was handed in.

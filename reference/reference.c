@@ -589,6 +589,36 @@ vtil_written ref_write_instruction(const vtil_instruction_desc *value, uint8_t *
     return (vtil_written){0, size};
 }
 
+/* Sums, in hundredths of a cent ------------------------------------------------------------------ */
+
+/* The group of an operation, 0 to 5. */
+static int group_of(uint32_t op)
+{
+    static const uint32_t last_of_group[] = {3, 14, 25, 36, 40, 48};
+    int group = 0;
+    while (op > last_of_group[group])
+        group++;
+    return group;
+}
+
+/* The sum of so many instructions. */
+static uint64_t instructions_sum(const vtil_instruction_desc *instructions, uint64_t count, vtil_rates rates)
+{
+    uint64_t sum = 0;
+    for (uint64_t i = 0; i < count; i++)
+        sum += rates.rate[group_of(instructions[i].op)];
+    return sum;
+}
+
+/* The sum over all instructions, worked afresh. */
+static uint64_t routine_sum(const struct routine *routine, vtil_rates rates)
+{
+    uint64_t sum = 0;
+    for (uint64_t i = 0; i < routine->blocks; i++)
+        sum += instructions_sum(routine->block[i].instructions, routine->block[i].count, rates);
+    return sum;
+}
+
 /* Opening, and the tests for 10 and 13 --------------------------------------------------------- */
 
 static bool too_large(const struct ref_book *book)
@@ -602,7 +632,7 @@ static vtil_answer answer(const struct ref_book *book, uint64_t refusal)
     return (vtil_answer){refusal, book->numbers};
 }
 
-vtil_answer ref_open(struct ref_book *book, const uint8_t *file, size_t len)
+vtil_answer ref_open(struct ref_book *book, const uint8_t *file, size_t len, vtil_rates rates)
 {
     struct reader r = {.bytes = file, .len = len};
     forget();
@@ -618,6 +648,8 @@ vtil_answer ref_open(struct ref_book *book, const uint8_t *file, size_t len)
     if (book->journal_len > 0)
         memset(book->journal, 0, book->journal_len);
     book->numbers.written = routine_size(&routine);
+    book->numbers.rates = rates;
+    book->numbers.sum = routine_sum(&routine, rates);
     return answer(book, 0);
 }
 
@@ -745,30 +777,10 @@ vtil_register_look ref_convention_register(const struct ref_book *book, uint64_t
 
 /* The charge ------------------------------------------------------------------------------------ */
 
-/* The group of an operation, 0 to 5. */
-static int group_of(uint32_t op)
-{
-    static const uint32_t last_of_group[] = {3, 14, 25, 36, 40, 48};
-    int group = 0;
-    while (op > last_of_group[group])
-        group++;
-    return group;
-}
-
-/* The sum over all instructions, in hundredths of a cent. */
-static uint64_t hundredths(const struct routine *routine, vtil_rates rates)
-{
-    uint64_t sum = 0;
-    for (uint64_t i = 0; i < routine->blocks; i++)
-        for (uint64_t j = 0; j < routine->block[i].count; j++)
-            sum += rates.rate[group_of(routine->block[i].instructions[j].op)];
-    return sum;
-}
-
 /* Whole cents, rounded up. */
 static uint64_t cents(const struct routine *routine, vtil_rates rates)
 {
-    uint64_t sum = hundredths(routine, rates);
+    uint64_t sum = routine_sum(routine, rates);
     return sum % 100 == 0 ? sum / 100 : sum / 100 + 1;
 }
 
@@ -782,6 +794,13 @@ vtil_charge_look ref_charge(const struct ref_book *book, vtil_rates rates)
     return look;
 }
 
+uint64_t ref_sum(const struct ref_book *book, vtil_rates rates)
+{
+    struct routine routine;
+    forget();
+    return held(book, &routine) == 0 ? routine_sum(&routine, rates) : 0;
+}
+
 /* Edits: what they do to a routine, for a book and for the machine -------------------------------- */
 
 #define CREATED 1
@@ -790,11 +809,18 @@ vtil_charge_look ref_charge(const struct ref_book *book, vtil_rates rates)
 
 #define TRAILER 20 /* bytes of an entry that is no removal's */
 
-/* The routine after an edit, and the journal entry of the edit, whose length is the cost. */
+/* Instructions that come into a routine, or go. */
+struct moved {
+    const vtil_instruction_desc *at;
+    uint64_t count;
+};
+
+/* The routine after an edit, the journal entry of the edit, whose length is the cost, and what came or went. */
 struct edited {
     struct routine routine;
     uint8_t *entry;
     size_t cost;
+    struct moved came, went;
 };
 
 /* Where the block stands; where there is none, how many there are. */
@@ -849,6 +875,7 @@ static uint64_t remove_block(const struct routine *routine, uint64_t vip, struct
     out->routine = with_own_blocks(routine);
     out->routine.blocks--;
     out->routine.block[place] = routine->block[routine->blocks - 1];
+    out->went = (struct moved){routine->block[place].instructions, routine->block[place].count};
     make_entry(out, &routine->block[place], vip, place, block_size(&routine->block[place]), REMOVED);
     return 0;
 }
@@ -862,13 +889,15 @@ static bool is_closed(const struct block *block)
     return last == 37 || last == 38 || last == 39 || last == 40;
 }
 
-static void push_instruction(struct block *block, const vtil_instruction_desc *value)
+/* Answers where it stands. */
+static const vtil_instruction_desc *push_instruction(struct block *block, const vtil_instruction_desc *value)
 {
     vtil_instruction_desc *longer = keep(block->count + 1, sizeof *longer);
     for (uint64_t i = 0; i < block->count; i++)
         longer[i] = block->instructions[i];
-    longer[block->count++] = *value;
+    longer[block->count] = *value;
     block->instructions = longer;
+    return &longer[block->count++];
 }
 
 static uint64_t append(const struct routine *routine, const struct ref_call *call, struct edited *out)
@@ -885,7 +914,7 @@ static uint64_t append(const struct routine *routine, const struct ref_call *cal
     if (is_closed(&routine->block[place]))
         return 18;
     out->routine = with_own_blocks(routine);
-    push_instruction(&out->routine.block[place], &value);
+    out->came = (struct moved){push_instruction(&out->routine.block[place], &value), 1};
     make_entry(out, NULL, call->vip, place, call->len, APPENDED);
     return 0;
 }
@@ -966,6 +995,7 @@ static bool undo_remove(const struct routine *routine, const struct trailer *t, 
         out->routine.block[routine->blocks] = routine->block[t->place];
     out->routine.block[t->place] = block;
     out->routine.blocks++;
+    out->came = (struct moved){block.instructions, block.count};
     out->cost = TRAILER + t->length;
     return true;
 }
@@ -981,6 +1011,7 @@ static bool undo_append(const struct routine *routine, const struct trailer *t, 
         return false;
     out->routine = with_own_blocks(routine);
     out->routine.block[t->place].count--;
+    out->went = (struct moved){&block->instructions[block->count - 1], 1};
     out->cost = TRAILER;
     return true;
 }
@@ -1006,30 +1037,44 @@ static bool take_back(const struct ref_book *book, const struct routine *routine
 
 /* Calls on a book --------------------------------------------------------------------------------------- */
 
-static vtil_answer stored(struct ref_book *book, const struct routine *routine, uint64_t used)
+/* What the book's sum becomes, at the book's rates. False: it is smaller than what goes, or too large with what comes. */
+static bool next_sum(const vtil_book *numbers, const struct edited *after, uint64_t *sum)
+{
+    uint64_t less = instructions_sum(after->went.at, after->went.count, numbers->rates);
+    uint64_t more = instructions_sum(after->came.at, after->came.count, numbers->rates);
+    if (numbers->sum < less || UINT64_MAX - (numbers->sum - less) < more)
+        return false;
+    *sum = numbers->sum - less + more;
+    return true;
+}
+
+static vtil_answer stored(struct ref_book *book, const struct routine *routine, uint64_t used, uint64_t sum)
 {
     fill_image(book->image, book->image_len, routine);
     book->numbers.written = routine_size(routine);
     book->numbers.used = used;
+    book->numbers.sum = sum;
     return answer(book, 0);
 }
 
 static vtil_answer undo(struct ref_book *book, const struct routine *routine)
 {
-    struct edited back;
+    struct edited back = {0};
+    uint64_t sum;
     if (book->numbers.used == 0)
         return answer(book, 16);
-    if (!take_back(book, routine, &back))
+    if (!take_back(book, routine, &back) || !next_sum(&book->numbers, &back, &sum))
         return answer(book, 13);
     uint64_t used = book->numbers.used - back.cost;
     memset(book->journal + used, 0, back.cost);
-    return stored(book, &back.routine, used);
+    return stored(book, &back.routine, used, sum);
 }
 
 vtil_answer ref_step(struct ref_book *book, const struct ref_call *call)
 {
     struct routine routine;
-    struct edited after;
+    struct edited after = {0};
+    uint64_t sum;
     forget();
     uint64_t refusal = held(book, &routine);
     if (refusal != 0)
@@ -1038,10 +1083,12 @@ vtil_answer ref_step(struct ref_book *book, const struct ref_call *call)
         return undo(book, &routine);
     size_t used = (size_t)book->numbers.used;
     refusal = edit_within(&routine, call, book->image_len, used, book->journal_len, &after);
+    if (refusal == 0 && !next_sum(&book->numbers, &after, &sum))
+        refusal = 13;
     if (refusal != 0)
         return answer(book, refusal);
     memcpy(book->journal + used, after.entry, after.cost);
-    return stored(book, &after.routine, used + after.cost);
+    return stored(book, &after.routine, used + after.cost, sum);
 }
 
 /* Lists of calls ------------------------------------------------------------------------------------------- */
@@ -1076,12 +1123,13 @@ vtil_run_answer ref_run_on(struct ref_book *book, const struct ref_list *list)
     return run_answer(book, 0, last);
 }
 
-vtil_run_answer ref_run(struct ref_book *book, const uint8_t *file, size_t len, const struct ref_list *list)
+vtil_run_answer ref_run(struct ref_book *book, const uint8_t *file, size_t len, const struct ref_list *list,
+                        vtil_rates rates)
 {
     book->numbers = (vtil_book){0};
     if (!ref_is_list(list))
         return run_answer(book, 15, 0);
-    uint64_t refusal = ref_open(book, file, len).refusal;
+    uint64_t refusal = ref_open(book, file, len, rates).refusal;
     return refusal != 0 ? run_answer(book, refusal, 0) : ref_run_on(book, list);
 }
 
@@ -1100,6 +1148,7 @@ struct earlier {
 /* Routines stand here as their written forms. */
 struct ref_machine {
     size_t image_len, journal_len;
+    vtil_rates rates;
     struct form now;
     struct earlier *stack; /* document 01's pile */
     size_t count;
@@ -1120,13 +1169,14 @@ static struct form entry_of(const struct edited *edited)
     return form;
 }
 
-struct ref_machine *ref_machine_start(const uint8_t *file, size_t len, size_t image_len, size_t journal_len)
+struct ref_machine *ref_machine_start(const uint8_t *file, size_t len, size_t image_len, size_t journal_len,
+                                      vtil_rates rates)
 {
     struct reader r = {.bytes = file, .len = len};
     struct ref_machine *machine = checked(malloc(sizeof *machine));
     forget();
     struct routine routine = read_routine(&r);
-    *machine = (struct ref_machine){image_len, journal_len, form_of(&routine), NULL, 0};
+    *machine = (struct ref_machine){image_len, journal_len, rates, form_of(&routine), NULL, 0};
     return machine;
 }
 
@@ -1139,9 +1189,17 @@ static size_t used(const struct ref_machine *machine)
     return sum;
 }
 
+static struct routine now(const struct ref_machine *machine)
+{
+    struct reader r = {.bytes = machine->now.bytes, .len = machine->now.len};
+    return read_routine(&r);
+}
+
 static vtil_answer machine_answer(const struct ref_machine *machine, uint64_t refusal)
 {
-    return (vtil_answer){refusal, {.written = machine->now.len, .used = used(machine)}};
+    struct routine routine = now(machine);
+    uint64_t sum = routine_sum(&routine, machine->rates);
+    return (vtil_answer){refusal, {machine->now.len, used(machine), machine->rates, sum}};
 }
 
 static vtil_answer machine_undo(struct ref_machine *machine)
@@ -1157,12 +1215,11 @@ static vtil_answer machine_undo(struct ref_machine *machine)
 
 vtil_answer ref_machine_step(struct ref_machine *machine, const struct ref_call *call)
 {
-    struct edited after;
+    struct edited after = {0};
     forget();
     if (call->kind == VTIL_UNDO)
         return machine_undo(machine);
-    struct reader r = {.bytes = machine->now.bytes, .len = machine->now.len};
-    struct routine routine = read_routine(&r);
+    struct routine routine = now(machine);
     uint64_t refusal = edit_within(&routine, call, machine->image_len, used(machine), machine->journal_len, &after);
     if (refusal != 0)
         return machine_answer(machine, refusal);
@@ -1174,9 +1231,8 @@ vtil_answer ref_machine_step(struct ref_machine *machine, const struct ref_call 
 
 uint64_t ref_machine_cents(const struct ref_machine *machine, vtil_rates rates)
 {
-    struct reader r = {.bytes = machine->now.bytes, .len = machine->now.len};
     forget();
-    struct routine routine = read_routine(&r);
+    struct routine routine = now(machine);
     return cents(&routine, rates);
 }
 

@@ -65,7 +65,7 @@ struct ref_call {
 };
 
 /* These change image, journal and numbers as the library's calls have to. */
-vtil_answer ref_open(struct ref_book *book, const uint8_t *file, size_t len);
+vtil_answer ref_open(struct ref_book *book, const uint8_t *file, size_t len, vtil_rates rates);
 vtil_answer ref_step(struct ref_book *book, const struct ref_call *call);
 
 /* A list of calls, encoded in words and bytes. */
@@ -77,7 +77,8 @@ struct ref_list {
 };
 
 bool ref_is_list(const struct ref_list *list);
-vtil_run_answer ref_run(struct ref_book *book, const uint8_t *file, size_t len, const struct ref_list *list);
+vtil_run_answer ref_run(struct ref_book *book, const uint8_t *file, size_t len, const struct ref_list *list,
+                        vtil_rates rates);
 vtil_run_answer ref_run_on(struct ref_book *book, const struct ref_list *list);
 
 vtil_routine_look ref_routine(const struct ref_book *book);
@@ -88,17 +89,22 @@ vtil_convention_look ref_convention(const struct ref_book *book, uint64_t place)
 vtil_register_look ref_convention_register(const struct ref_book *book, uint64_t convention, uint64_t list, uint64_t place);
 vtil_charge_look ref_charge(const struct ref_book *book, vtil_rates rates);
 
+/* The sum of the book's routine, worked afresh at these rates, in hundredths of a cent; 0 where the book is refused. */
+uint64_t ref_sum(const struct ref_book *book, vtil_rates rates);
+
 /* The routine machine --------------------------------------------------------------- */
 
 /*
  * A routine, and a stack of earlier ones (document 01's pile), each with the journal
  * entry of the edit that came after it, whose length is the edit's cost. It is fed the
- * file, the calls and the lent lengths, never a book.
+ * file, the calls, the lent lengths and the rates, never a book. It carries no sum: the
+ * sum of each answer is worked afresh on the routine that it then has.
  */
 struct ref_machine;
 
 /* The file has to be accepted, and to fit an image of this length. ref_machine_free is owed. */
-struct ref_machine *ref_machine_start(const uint8_t *file, size_t len, size_t image_len, size_t journal_len);
+struct ref_machine *ref_machine_start(const uint8_t *file, size_t len, size_t image_len, size_t journal_len,
+                                      vtil_rates rates);
 vtil_answer ref_machine_step(struct ref_machine *machine, const struct ref_call *call);
 void ref_machine_free(struct ref_machine *machine);
 

@@ -58,6 +58,9 @@ void hold_book(vtil_book got, vtil_book want)
 {
     hold("written", image.len, (int64_t)got.written, (int64_t)want.written);
     hold("used", journal.len, (int64_t)got.used, (int64_t)want.used);
+    for (int i = 0; i < 6; i++)
+        hold("the book's rate", (size_t)i, got.rates.rate[i], want.rates.rate[i]);
+    hold("the book's sum", image.len, (int64_t)got.sum, (int64_t)want.sum);
 }
 
 void hold_answer(vtil_answer got, vtil_answer want)
@@ -73,15 +76,20 @@ void hold_bytes(void)
     hold("the journal is as due", journal.len, memcmp(journal.plain, twin.journal, journal.len) == 0, 1);
 }
 
-bool open_both(const struct bytes *file)
+bool open_at_rates(const struct bytes *file, vtil_rates rates)
 {
     struct lent lent = lend(&file_room, file->len, below(2) == 0);
     memcpy(lent.plain, file->at, file->len);
-    vtil_answer want = ref_open(&twin, file->at, file->len);
+    vtil_answer want = ref_open(&twin, file->at, file->len, rates);
     next_case();
-    hold_answer(vtil_open(lent.readable, lent.len, image.writable, image.len, journal.writable, journal.len), want);
+    hold_answer(vtil_open(lent.readable, lent.len, image.writable, image.len, journal.writable, journal.len, rates), want);
     hold_bytes();
     return want.refusal == 0;
+}
+
+bool open_both(const struct bytes *file)
+{
+    return open_at_rates(file, any_rates());
 }
 
 /* Looks ------------------------------------------------------------------------------ */
@@ -174,6 +182,22 @@ vtil_rates any_rates(void)
     for (int i = 0; i < 6; i++)
         rates.rate[i] = any_rate();
     return rates;
+}
+
+static uint64_t any_sum(void)
+{
+    switch (below(4)) {
+    case 0: return 0;
+    case 1: return below(200);
+    case 2: return UINT64_MAX - below(200);
+    default: return below(UINT64_MAX);
+    }
+}
+
+vtil_book any_book(uint64_t written, uint64_t used)
+{
+    vtil_rates rates = any_rates();
+    return (vtil_book){written, used, rates, any_sum()};
 }
 
 vtil_charge_look charge_both(vtil_book numbers, vtil_rates rates)

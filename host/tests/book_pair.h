@@ -26,7 +26,10 @@ void lend_book(size_t image_len, size_t journal_len);
  */
 void change_lengths(size_t image_len, size_t journal_len);
 
-/* Lends `file` and opens it in both; holds the answers and what is left behind. Answers whether it was accepted. */
+/* Lends `file` and opens it in both at these rates; holds the answers and what is left behind. Answers whether it was accepted. */
+bool open_at_rates(const struct bytes *file, vtil_rates rates);
+
+/* The same at any rates. */
 bool open_both(const struct bytes *file);
 
 /* The library's image and journal become what the reference's are. */
@@ -49,6 +52,9 @@ void look_once(vtil_book numbers);
 
 /* Each is 0, a small one, any one or the largest. */
 vtil_rates any_rates(void);
+
+/* A book made by hand of these two numbers, with any rates and a sum that need not fit them. */
+vtil_book any_book(uint64_t written, uint64_t used);
 
 /* The charge at these rates; holds the refusal, the cents and the bytes. Answers what was due. */
 vtil_charge_look charge_both(vtil_book numbers, vtil_rates rates);

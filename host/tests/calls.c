@@ -52,6 +52,30 @@ struct ref_call call_of(enum vtil_call kind, uint64_t vip)
     return (struct ref_call){kind, vip, no_bytes_at, 0};
 }
 
+uint64_t some_vip(void)
+{
+    vtil_routine_look routine = ref_routine(&twin);
+    if (routine.refusal == 0 && routine.blocks > 0 && below(4) != 0)
+        return ref_block(&twin, below(routine.blocks)).vip;
+    return below(6);
+}
+
+struct ref_call any_call(struct bytes *made)
+{
+    static const enum vtil_call kinds[] = {VTIL_CREATE, VTIL_CREATE, VTIL_REMOVE, VTIL_APPEND,
+                                           VTIL_APPEND, VTIL_APPEND, VTIL_UNDO,   VTIL_UNDO};
+    enum vtil_call kind = kinds[below(8)];
+    struct ref_call call = call_of(kind, some_vip());
+    if (kind == VTIL_CREATE && below(3) != 0)
+        call.vip = below(UINT64_MAX);
+    if (kind != VTIL_APPEND)
+        return call;
+    make_appended(made);
+    call.bytes = made->at;
+    call.len = made->len;
+    return call;
+}
+
 /* Lists in one call ---------------------------------------------------------------------------- */
 
 #define LIST (const uint64_t *)(const void *)lent_words.readable, lent_words.len / 8, lent_bytes.readable, lent_bytes.len
@@ -87,9 +111,9 @@ void lend_file(const struct bytes *file)
     memcpy(lent_file.plain, file->at, file->len);
 }
 
-vtil_run_answer library_run(void)
+vtil_run_answer library_run(vtil_rates rates)
 {
-    return vtil_run(lent_file.readable, lent_file.len, image.writable, image.len, journal.writable, journal.len, LIST);
+    return vtil_run(lent_file.readable, lent_file.len, image.writable, image.len, journal.writable, journal.len, LIST, rates);
 }
 
 vtil_run_answer library_run_on(vtil_book numbers)
@@ -118,16 +142,16 @@ void hold_run(vtil_run_answer got, vtil_run_answer want)
     hold_bytes();
 }
 
-vtil_run_answer run_list(const struct bytes *file, const struct ref_call *calls, size_t count)
+vtil_run_answer run_list(const struct bytes *file, const struct ref_call *calls, size_t count, vtil_rates rates)
 {
     lend_calls(calls, count);
     lend_file(file);
     lend_book(image.len, journal.len);
-    vtil_answer opened = ref_open(&twin, file->at, file->len);
+    vtil_answer opened = ref_open(&twin, file->at, file->len, rates);
     vtil_run_answer want = {opened.refusal, 0, opened.book};
     if (opened.refusal == 0)
         want = due_of_calls(calls, count);
-    hold_run(library_run(), want);
+    hold_run(library_run(rates), want);
     return want;
 }
 

@@ -21,13 +21,19 @@ void set_up_calls(void);
 /* A call that is no append, which has no bytes. */
 struct ref_call call_of(enum vtil_call kind, uint64_t vip);
 
+/* A vip that some block of the book has, or one of a few others. */
+uint64_t some_vip(void);
+
+/* Any call; the bytes of an append are put into `made`, which has to stay as long as the call is used. */
+struct ref_call any_call(struct bytes *made);
+
 /* The same call on both books; holds the answers and what is left behind. Answers what was due. */
 vtil_answer call_both(const struct ref_call *call);
 
 /* These lend a list of calls and a file. Then library_run and library_run_on run the list in the library's book alone. */
 void lend_list(const uint64_t *words, size_t count, const uint8_t *bytes, size_t len);
 void lend_file(const struct bytes *file);
-vtil_run_answer library_run(void);
+vtil_run_answer library_run(vtil_rates rates);
 vtil_run_answer library_run_on(vtil_book numbers);
 
 /* What the reference answers and leaves, call by call. */
@@ -36,8 +42,11 @@ vtil_run_answer due_of_calls(const struct ref_call *calls, size_t count);
 /* Every field of a run's answer, and what is left behind. */
 void hold_run(vtil_run_answer got, vtil_run_answer want);
 
-/* The calls by vtil_run, in an image and a journal of the same lengths as those that are lent. Answers what was due. */
-vtil_run_answer run_list(const struct bytes *file, const struct ref_call *calls, size_t count);
+/*
+ * The calls by vtil_run at these rates, in an image and a journal of the same lengths as those that are lent. Answers what
+ * was due.
+ */
+vtil_run_answer run_list(const struct bytes *file, const struct ref_call *calls, size_t count, vtil_rates rates);
 
 /* The calls by vtil_run_on, on the book as it is. Answers what was due. */
 vtil_run_answer run_list_on(const struct ref_call *calls, size_t count);

@@ -121,12 +121,14 @@ static void open_random(void)
 
 /* Lendings of no bytes, and over the limit -------------------------------------------------- */
 
+/* A file that is accepted here has no instructions. */
 static void hold_open(const struct bytes *file, uint8_t *at, size_t image_len, uint8_t *to, size_t journal_len, uint64_t want)
 {
+    static const vtil_rates rates = {{1, 2, 3, 4, 5, UINT32_MAX}};
     next_case();
-    vtil_answer got = vtil_open(file->at, file->len, at, image_len, to, journal_len);
+    vtil_answer got = vtil_open(file->at, file->len, at, image_len, to, journal_len, rates);
     hold("refusal", image_len, (int64_t)got.refusal, (int64_t)want);
-    hold_book(got.book, (vtil_book){.written = want == 0 ? written_size(file) : 0});
+    hold_book(got.book, want == 0 ? (vtil_book){written_size(file), 0, rates, 0} : (vtil_book){0});
 }
 
 static void no_bytes(const struct room *room)
@@ -153,7 +155,7 @@ static void no_bytes(const struct room *room)
 
 static void hold_too_large(const uint8_t *at, size_t image_len, const uint8_t *to, size_t journal_len)
 {
-    const vtil_book books[] = {{.written = 114}, {0}, {.written = UINT64_MAX, .used = UINT64_MAX}};
+    const vtil_book books[] = {any_book(114, 0), {0}, any_book(UINT64_MAX, UINT64_MAX)};
     for (size_t i = 0; i < 3; i++) {
         next_case();
         vtil_book b = books[i];
@@ -234,10 +236,10 @@ static void look_at_made(void)
     end();
 }
 
-/* Every pair of extreme numbers as a book, on an image that is as opened. */
+/* Every pair of extreme lengths as a book, on an image that is as opened. Rates and sum are not looked at. */
 static void hand_made_books(void)
 {
-    begin("books made by hand, both numbers at every extreme");
+    begin("books made by hand, both lengths at every extreme, with any rates and sum");
     for (size_t i = 0; i < sample_count; i++) {
         uint64_t written[EXTREMES], used[EXTREMES];
         lend_book(written_size(&samples[i]) + below(3), below(100));
@@ -247,7 +249,7 @@ static void hand_made_books(void)
         extremes(journal.len, used);
         for (int w = 0; w < EXTREMES; w++)
             for (int u = 0; u < EXTREMES; u++)
-                look_once((vtil_book){.written = written[w], .used = used[u]});
+                look_once(any_book(written[w], used[u]));
     }
     end();
 }
@@ -261,7 +263,7 @@ static void spoiled_images(void)
         lend_book(written_size(&samples[i]) + 5, 40);
         if (!open_both(&samples[i]))
             continue;
-        vtil_book numbers = {.written = twin.numbers.written, .used = below(41)};
+        vtil_book numbers = any_book(twin.numbers.written, below(41));
         for (size_t at = 0; at < image.len; at++) {
             uint8_t before = twin.image[at];
             twin.image[at] = values[below(4)];
@@ -291,7 +293,7 @@ static void unwritten_images(void)
         memset(twin.image + b.len, 0, image.len - b.len);
         copy_twin();
         size_t size = written_size(&b);
-        look_once((vtil_book){.written = size > 0 && below(2) ? size : b.len});
+        look_once(any_book(size > 0 && below(2) ? size : b.len, 0));
     }
     end();
 }

@@ -239,7 +239,7 @@ static void other_lengths(void)
             twin.journal[at] = (uint8_t)below(256);
         copy_twin();
         vtil_rates rates = any_rates();
-        vtil_book numbers = {.written = twin.numbers.written, .used = below(journal.len + 1)};
+        vtil_book numbers = any_book(twin.numbers.written, below(journal.len + 1));
         uint64_t cents = charge_both(numbers, rates).cents;
         for (int left = 3; left > 0; left--) {
             change_lengths((size_t)numbers.written + below(3) * below(100), (size_t)numbers.used + below(3) * below(100));
@@ -315,7 +315,7 @@ static void cut_lendings(void)
         lend_book(samples[i].len, 40);
         if (!open_both(&samples[i]))
             continue;
-        vtil_book numbers = {.written = twin.numbers.written, .used = 40};
+        vtil_book numbers = any_book(twin.numbers.written, 40);
         memcpy(opened, twin.image, image.len);
         for (size_t len = 0; len <= numbers.written; len++)
             charge_cut(numbers, opened, len, 40);
@@ -331,7 +331,7 @@ static void cut_lendings(void)
 
 static void hold_refused(const uint8_t *at, size_t image_len, const uint8_t *to, size_t journal_len, uint64_t want)
 {
-    static const vtil_book books[] = {{.written = FRONT}, {0}, {.written = UINT64_MAX, .used = UINT64_MAX}};
+    const vtil_book books[] = {any_book(FRONT, 0), {0}, any_book(UINT64_MAX, UINT64_MAX)};
     for (size_t i = 0; i < 3; i++) {
         vtil_charge_look got = vtil_charge(books[i], at, image_len, to, journal_len, all_at(UINT32_MAX));
         next_case();
@@ -382,7 +382,7 @@ static void fullest(void)
 
     begin("as many nops as an image of 16,777,216 bytes holds, up to the largest rate");
     hold("how many that are", 0, (int64_t)nops, 524283);
-    vtil_answer opened = vtil_open(file, len, at.writable, at.len, to.writable, to.len);
+    vtil_answer opened = vtil_open(file, len, at.writable, at.len, to.writable, to.len, any_rates());
     hold("opened", 0, (int64_t)opened.refusal, 0);
     struct ref_book same = {at.plain, to.plain, at.len, to.len, opened.book};
     for (size_t i = 0; i < sizeof rates / sizeof rates[0]; i++) {

@@ -561,7 +561,7 @@ static uint64_t last_due(size_t count)
 
 static void steps_of_machine(const struct ref_call *calls)
 {
-    struct ref_machine *machine = ref_machine_start(file.at, file.len, image.len, journal.len);
+    struct ref_machine *machine = ref_machine_start(file.at, file.len, image.len, journal.len, any_rates());
     for (size_t i = 0; i < STEPS; i++)
         hold("the machine's step", i, (int64_t)ref_machine_step(machine, &calls[i]).refusal, (int64_t)steps[i].refusal);
     ref_machine_free(machine);
@@ -578,7 +578,8 @@ static void lists(void)
         for (size_t j = 0; j < STEPS; j++)
             due("one by one", &calls[j], steps[j].refusal);
         for (size_t count = 0; count <= STEPS; count++) {
-            hold("by vtil_run", count, (int64_t)run_list(&file, calls, count).last, (int64_t)last_due(count));
+            hold("by vtil_run", count, (int64_t)run_list(&file, calls, count, any_rates()).last,
+                 (int64_t)last_due(count));
             hold("the rest by vtil_run_on", count, (int64_t)run_list_on(calls + count, STEPS - count).last,
                  count == STEPS ? 0 : (int64_t)last_due(STEPS));
         }
@@ -665,7 +666,7 @@ static void append_to_fullest(const struct lent *at, const uint8_t *routine, siz
     static struct bytes nop;
     nop.len = 0;
     put_instruction(&nop, NOP, 0);
-    vtil_answer opened = vtil_open(routine, len, at->writable, at->len, NULL, 0);
+    vtil_answer opened = vtil_open(routine, len, at->writable, at->len, NULL, 0, any_rates());
     vtil_answer got = vtil_append(opened.book, at->writable, at->len, NULL, 0, VIP, nop.at, nop.len);
     next_case();
     hold("opened", len, (int64_t)opened.refusal, 0);

@@ -15,7 +15,7 @@
 
 #define LISTS 350
 #define DAMAGED_JOURNALS 6000
-#define RANDOM_WORDS 10000
+#define RANDOM_WORDS 16000
 
 static struct bytes *samples;
 static size_t sample_count;
@@ -86,28 +86,9 @@ static void instances(void)
 static struct bytes instructions[CALLS];
 static struct ref_call calls[CALLS];
 
-/* A vip that some block has, or one of a few others. */
-static uint64_t some_vip(void)
-{
-    vtil_routine_look routine = ref_routine(&twin);
-    if (routine.refusal == 0 && routine.blocks > 0 && below(4) != 0)
-        return ref_block(&twin, below(routine.blocks)).vip;
-    return below(6);
-}
-
 static void make_call(size_t which)
 {
-    struct ref_call *call = &calls[which];
-    static const enum vtil_call kinds[] = {VTIL_CREATE, VTIL_CREATE, VTIL_REMOVE, VTIL_APPEND,
-                                           VTIL_APPEND, VTIL_APPEND, VTIL_UNDO,   VTIL_UNDO};
-    *call = call_of(kinds[below(8)], some_vip());
-    if (call->kind == VTIL_CREATE && below(3) != 0)
-        call->vip = below(UINT64_MAX);
-    if (call->kind != VTIL_APPEND)
-        return;
-    make_appended(&instructions[which]);
-    call->bytes = instructions[which].at;
-    call->len = instructions[which].len;
+    calls[which] = any_call(&instructions[which]);
 }
 
 /* The machine's routine is charged what the library charges for the book. */
@@ -133,13 +114,13 @@ static void hold_machine(struct ref_machine *machine, const struct ref_call *cal
     hold_machine_charge(machine, library.book);
 }
 
-/* Undo until nothing stands: the file's routine again, and a journal of zeros. */
-static void take_all_back(const uint8_t *opened, uint64_t written)
+/* Undo until nothing stands: the file's routine and its book again, and a journal of zeros. */
+static void take_all_back(const uint8_t *opened, vtil_book book)
 {
     struct ref_call undo = call_of(VTIL_UNDO, 0);
     while (call_both(&undo).refusal == 0)
         continue;
-    hold("all taken back", image.len, (int64_t)twin.numbers.written, (int64_t)written);
+    hold_book(twin.numbers, book);
     hold("the routine of the file", image.len, memcmp(image.plain, opened, image.len) == 0, 1);
 }
 
@@ -147,8 +128,9 @@ static void take_all_back(const uint8_t *opened, uint64_t written)
 static void run_in_parts(const struct bytes *file)
 {
     size_t parted = below(CALLS + 1);
-    run_list(file, calls, CALLS);
-    run_list(file, calls, parted);
+    vtil_rates rates = any_rates();
+    run_list(file, calls, CALLS, rates);
+    run_list(file, calls, parted, rates);
     run_list_on(calls + parted, CALLS - parted);
     open_both(file);
     for (size_t i = 0; i < parted; i++)
@@ -164,7 +146,8 @@ static void one_list(const struct bytes *file)
     if (!open_both(file))
         return;
     memcpy(opened, image.plain, image.len);
-    struct ref_machine *machine = ref_machine_start(file->at, file->len, image.len, journal.len);
+    vtil_book book = twin.numbers;
+    struct ref_machine *machine = ref_machine_start(file->at, file->len, image.len, journal.len, book.rates);
     for (size_t i = 0; i < CALLS; i++) {
         make_call(i);
         vtil_answer answer = call_both(&calls[i]);
@@ -173,7 +156,7 @@ static void one_list(const struct bytes *file)
             look_once(answer.book);
     }
     ref_machine_free(machine);
-    take_all_back(opened, size);
+    take_all_back(opened, book);
     run_in_parts(file);
 }
 
@@ -228,12 +211,12 @@ static void odd_runs(void)
         int64_t size = ref_check(samples[i].at, samples[i].len);
         lend_book(size < 0 ? 100 : (size_t)size + 40, 60);
         calls[0] = call_of(VTIL_CREATE, 77);
-        run_list(&samples[i], calls, 0);
+        run_list(&samples[i], calls, 0, any_rates());
         run_list_on(calls, 0);
-        run_list(&samples[i], calls, 1);
+        run_list(&samples[i], calls, 1, any_rates());
         run_list_on(calls, 0);
         lend_book(size < 1 ? 0 : (size_t)size - 1, 60);
-        run_list(&samples[i], calls, 1);
+        run_list(&samples[i], calls, 1, any_rates());
         run_list_on(calls, 0);
         run_list_on(calls, 1);
     }
@@ -253,7 +236,7 @@ static void make_smallest(struct bytes *smallest)
 static void hold_no_list(const uint64_t *words, size_t count)
 {
     static struct bytes smallest;
-    static const vtil_book spoiled = {.written = UINT64_MAX, .used = UINT64_MAX};
+    const vtil_book spoiled = any_book(UINT64_MAX, UINT64_MAX);
     struct ref_call create = call_of(VTIL_CREATE, 9);
     make_smallest(&smallest);
     for (int cut = 0; cut < 2; cut++) {
@@ -261,7 +244,7 @@ static void hold_no_list(const uint64_t *words, size_t count)
         lend_list(words, count, four_bytes, sizeof four_bytes);
         smallest.len -= (size_t)cut;
         lend_file(&smallest);
-        hold_run(library_run(), (vtil_run_answer){VTIL_NO_SUCH_BLOCK, 0, {0}});
+        hold_run(library_run(any_rates()), (vtil_run_answer){VTIL_NO_SUCH_BLOCK, 0, {0}});
     }
     make_smallest(&smallest);
     open_both(&smallest);
@@ -279,9 +262,10 @@ static void hold_one_call(const uint64_t *words, const struct ref_call *call)
     lend_book(200, 60);
     lend_list(words, 4, four_bytes, sizeof four_bytes);
     lend_file(&smallest);
-    ref_open(&twin, smallest.at, smallest.len);
+    vtil_rates rates = any_rates();
+    ref_open(&twin, smallest.at, smallest.len, rates);
     vtil_run_answer want = due_of_calls(call, 1);
-    hold_run(library_run(), want);
+    hold_run(library_run(rates), want);
     vtil_book before = twin.numbers;
     want = due_of_calls(call, 1);
     hold_run(library_run_on(before), want);
@@ -349,8 +333,9 @@ static void random_words(void)
             lend_list(words, count, bytes.at, bytes.len);
             lend_file(&b);
             if (on == 0) {
-                vtil_run_answer want = ref_run(&twin, b.at, b.len, &list);
-                hold_run(library_run(), want);
+                vtil_rates rates = any_rates();
+                vtil_run_answer want = ref_run(&twin, b.at, b.len, &list, rates);
+                hold_run(library_run(rates), want);
             } else {
                 vtil_run_answer want = ref_run_on(&twin, &list);
                 hold_run(library_run_on(before), want);
@@ -402,7 +387,7 @@ static void call_each(vtil_book numbers)
 
 static void hand_made_books(void)
 {
-    begin("books made by hand, both numbers at every extreme");
+    begin("books made by hand, both lengths at every extreme, with any rates and sum");
     seed(9);
     for (size_t i = 0; i < sample_count; i++) {
         uint64_t written[EXTREMES], used[EXTREMES];
@@ -415,7 +400,7 @@ static void hand_made_books(void)
         extremes(journal.len, used);
         for (int w = 0; w < EXTREMES; w++)
             for (int u = 0; u < EXTREMES; u++)
-                call_each((vtil_book){.written = written[w], .used = used[u]});
+                call_each(any_book(written[w], used[u]));
     }
     end();
 }
@@ -546,6 +531,8 @@ static void noise_journals(void)
 
 /* Lendings over the limit, of no bytes, and at the limit ------------------------------------------------- */
 
+static const vtil_rates some_rates = {{1, 2, 3, 4, 5, UINT32_MAX}};
+
 static void hold_answer_of_run(vtil_run_answer got, uint64_t refusal, uint64_t last, vtil_book book)
 {
     next_case();
@@ -582,7 +569,7 @@ static void hold_each(uint8_t *at, size_t image_len, uint8_t *to, size_t journal
 static void odd_lendings(const struct room *room)
 {
     static const size_t lengths[] = {VTIL_MOST_LENT + 1, (size_t)1 << 32, (size_t)1 << 63, SIZE_MAX};
-    static const vtil_book books[] = {{.written = 114}, {0}, {.written = UINT64_MAX, .used = UINT64_MAX}};
+    const vtil_book books[] = {any_book(114, 0), {0}, any_book(UINT64_MAX, UINT64_MAX)};
     begin("lendings over the limit, without access (10), and of no bytes (13)");
     for (size_t b = 0; b < 3; b++) {
         for (size_t i = 0; i < sizeof lengths / sizeof lengths[0]; i++) {
@@ -592,20 +579,21 @@ static void odd_lendings(const struct room *room)
         hold_each(NULL, 0, NULL, 0, books[b], 13);
         hold_each(no_access(room), 0, no_access(room), 0, books[b], 13);
     }
+    const struct bytes *file = &samples[0];
     const uint64_t no_list[1] = {0};
-    hold_answer_of_run(vtil_run(samples[0].at, samples[0].len, no_access(room), VTIL_MOST_LENT + 1, NULL, 0, NULL, 0, NULL, 0),
-                       10, 0, (vtil_book){0});
-    hold_answer_of_run(
-        vtil_run(samples[0].at, samples[0].len, no_access(room), VTIL_MOST_LENT + 1, NULL, 0, no_list, 1, NULL, 0), 15, 0,
-        (vtil_book){0});
+    uint8_t *at = no_access(room);
+    size_t len = VTIL_MOST_LENT + 1;
+    hold_answer_of_run(vtil_run(file->at, file->len, at, len, NULL, 0, NULL, 0, NULL, 0, some_rates), 10, 0, (vtil_book){0});
+    hold_answer_of_run(vtil_run(file->at, file->len, at, len, NULL, 0, no_list, 1, NULL, 0, some_rates), 15, 0, (vtil_book){0});
     end();
 }
 
+/* No block of these has an instruction, so the sum is 0. */
 static void hold_one(const char *what, vtil_answer got, uint64_t refusal, uint64_t written, uint64_t used)
 {
     next_case();
     hold(what, 0, (int64_t)got.refusal, (int64_t)refusal);
-    hold_book(got.book, (vtil_book){.written = written, .used = used});
+    hold_book(got.book, (vtil_book){written, used, some_rates, 0});
 }
 
 /* As many empty blocks as an image at the limit has room for; the reference would take too long, but the answers are plain. */
@@ -625,7 +613,7 @@ static void at_the_limit(void)
         put_at(file + 114 + 36 * i, 8, i);
 
     begin("an image of 16,777,216 bytes, full of blocks");
-    vtil_answer a = vtil_open(file, len, at.writable, at.len, to.writable, to.len);
+    vtil_answer a = vtil_open(file, len, at.writable, at.len, to.writable, to.len, some_rates);
     hold_one("open", a, 0, len, 0);
     hold_one("create", vtil_create_block(a.book, at.writable, at.len, to.writable, to.len, blocks), 11, len, 0);
     hold_one("create again", vtil_create_block(a.book, at.writable, at.len, to.writable, to.len, blocks - 1), 14, len, 0);

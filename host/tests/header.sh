@@ -29,14 +29,14 @@ number_asserts() {
     done
 }
 
-# The structs as the archive lays them out: no field moves, so nothing that was compiled before breaks.
+# The structs as the archive lays them out. A size that becomes another breaks every program that was compiled before.
 size_asserts() {
     local type size
     while read -r type size; do
         printf 'static_assert(sizeof(vtil_%s) == %d, "%s");\n' "$type" "$size" "$type"
     done <<'END'
-book 16
-answer 24
+book 48
+answer 56
 immediate_desc 16
 register_desc 24
 operand_desc 48
@@ -56,7 +56,7 @@ register_look 32
 rates 24
 charge_look 16
 written 16
-run_answer 32
+run_answer 64
 END
 }
 

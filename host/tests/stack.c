@@ -28,6 +28,7 @@ static uint8_t *file, *image, *journal;
 static size_t file_len, image_len, journal_len;
 static size_t last_block; /* where it begins in the file */
 static vtil_book book;
+static const vtil_rates rates = {{1, 2, 3, 4, 5, 6}};
 static struct bytes nop;
 
 /* The routine -------------------------------------------------------------------------------- */
@@ -122,7 +123,7 @@ static void check(void)
 static void open_file(void)
 {
     MARK_TOP();
-    take(vtil_open(file, file_len, image, image_len, journal, journal_len));
+    take(vtil_open(file, file_len, image, image_len, journal, journal_len, rates));
 }
 
 static void write_instruction(void)
@@ -208,7 +209,6 @@ static void look_register(void)
 
 static void look_charge(void)
 {
-    static const vtil_rates rates = {{1, 2, 3, 4, 5, 6}};
     MARK_TOP();
     refusal = vtil_charge(LENT, rates).refusal;
 }
@@ -260,7 +260,7 @@ static void make_list(void)
 static void run_list(void)
 {
     MARK_TOP();
-    take_run(vtil_run(file, file_len, image, image_len, journal, journal_len, words, 4 * CALLS, nop.at, nop.len));
+    take_run(vtil_run(file, file_len, image, image_len, journal, journal_len, words, 4 * CALLS, nop.at, nop.len, rates));
 }
 
 static void run_list_on(void)

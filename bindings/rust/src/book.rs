@@ -1,4 +1,4 @@
-use crate::c::{self, Lengths, Rates};
+use crate::c::{self, Numbers, Rates};
 use crate::list::{Call, Encoded};
 use crate::look::{Block, Convention, Links, Overview, Registers};
 use crate::read::{self, RoutineRef};
@@ -15,29 +15,69 @@ pub type Last = Result<(), Refusal>;
 /// Every call is the library's call of that name, on the memory as it is lent: nothing is copied or allocated, but
 /// for the operands of an [`Instruction`] that is looked at and the list that [`Book::run`] or [`Book::run_on`]
 /// encodes. Refusals come in the order in which they are listed. Before those of the call itself there are two more:
-/// 10, the image or the journal is too long; 13, the lengths, the image and the journal do not fit each other, which
+/// 10, the image or the journal is too long; 13, the numbers, the image and the journal do not fit each other, which
 /// happens only to a book from [`Book::resume`], and after a [`Book::reopen`] or a [`Book::run`] whose opening was
-/// refused.
+/// refused. (An edit or an undo may be refused 13 once more in the end, for the sum of a resumed book: see
+/// [`Numbers`].)
 ///
 /// A refused edit leaves the book as it was. Every call reads the whole image: its time grows with the image. To look
 /// at more than a part or two, use [`Book::read`].
+///
+/// What the routine costs at the rates that it was opened at is kept with every edit: [`Book::sum`] and
+/// [`Book::cents`] read it off, without a look at the image.
 #[derive(Clone, Debug)]
 pub struct Book<M> {
-    lengths: Lengths,
+    numbers: Numbers,
     pub(crate) image: M,
     pub(crate) journal: M,
 }
 
 impl<M> Book<M> {
-    /// Goes on with a book that was kept: its lengths, and its image and journal at the same lengths as before.
+    /// Goes on with a book that was kept: its numbers, and its image and journal at the same lengths as before.
     /// Nothing is tested here; each call tests it, and refuses 13 where the three do not fit.
-    pub fn resume(lengths: Lengths, image: M, journal: M) -> Book<M> {
-        Book { lengths, image, journal }
+    pub fn resume(numbers: Numbers, image: M, journal: M) -> Book<M> {
+        Book { numbers, image, journal }
     }
 
-    /// How many bytes of the image and of the journal count.
-    pub fn lengths(&self) -> Lengths {
-        self.lengths
+    /// The book's numbers: all there is to keep of it beside image and journal.
+    pub fn numbers(&self) -> Numbers {
+        self.numbers
+    }
+
+    /// The rates that the routine was opened at; all 0 after a refused opening.
+    pub fn rates(&self) -> Rates {
+        self.numbers.rates
+    }
+
+    /// What the routine costs at [`Book::rates`], in hundredths of a cent. It is kept with every edit and every undo,
+    /// so it is only read off here.
+    ///
+    /// The charge in whole cents is [`Book::cents`]; [`Book::charge`] works it out from the routine, at any rates.
+    ///
+    /// ```
+    /// use vtil::{Book, Instruction, Rates, Vip};
+    ///
+    /// # fn main() -> Result<(), Box<dyn std::error::Error>> {
+    /// # let folder = concat!(env!("CARGO_MANIFEST_DIR"), "/../../samples");
+    /// let file = std::fs::read(format!("{folder}/minimal.vtil"))?;
+    /// let rates = Rates([150, 0, 0, 0, 310, 20]);
+    /// let mut book = Book::open(&file, vec![0; 500], vec![0; 100], rates)?;
+    /// book.create_block(Vip(1))?;
+    /// assert_eq!((book.sum(), book.cents()), (0, 0));
+    /// let nop = Instruction { op: vtil::operation("nop").unwrap(), ..Default::default() };
+    /// book.append(Vip(1), &nop.to_bytes()?)?;
+    /// assert_eq!((book.sum(), book.cents()), (20, 1));
+    /// assert_eq!(book.charge(rates)?, 1);
+    /// # Ok(())
+    /// # }
+    /// ```
+    pub fn sum(&self) -> u64 {
+        self.numbers.sum
+    }
+
+    /// [`Book::sum`] in whole cents, rounded up: the charge, as long as the routine is billed at [`Book::rates`].
+    pub fn cents(&self) -> u64 {
+        self.numbers.cents()
     }
 }
 
@@ -58,7 +98,7 @@ impl<M: AsRef<[u8]>> Book<M> {
     /// image, the image.)
     pub fn written(&self) -> &[u8] {
         let image = self.image();
-        image.get(..self.lengths.written as usize).unwrap_or(image)
+        image.get(..self.numbers.written as usize).unwrap_or(image)
     }
 
     /// The routine's parts, to be read where they lie in the image. [`Book::written`] is validated once, here, as a file
@@ -75,7 +115,7 @@ impl<M: AsRef<[u8]>> Book<M> {
         let (image, journal) = (self.image(), self.journal());
         // SAFETY: each pointer and length is a slice's.
         let look =
-            unsafe { c::vtil_routine(self.lengths, image.as_ptr(), image.len(), journal.as_ptr(), journal.len()) };
+            unsafe { c::vtil_routine(self.numbers, image.as_ptr(), image.len(), journal.as_ptr(), journal.len()) };
         accepted(look.refusal)?;
         Ok(Overview {
             machine: look.arch_id,
@@ -90,7 +130,7 @@ impl<M: AsRef<[u8]>> Book<M> {
         let (image, journal) = (self.image(), self.journal());
         // SAFETY: each pointer and length is a slice's.
         let look =
-            unsafe { c::vtil_block(self.lengths, image.as_ptr(), image.len(), journal.as_ptr(), journal.len(), place) };
+            unsafe { c::vtil_block(self.numbers, image.as_ptr(), image.len(), journal.as_ptr(), journal.len(), place) };
         accepted(look.refusal)?;
         Ok(Block {
             vip: Vip(look.vip),
@@ -109,7 +149,7 @@ impl<M: AsRef<[u8]>> Book<M> {
         // SAFETY: each pointer and length is a slice's.
         let look = unsafe {
             c::vtil_instruction(
-                self.lengths,
+                self.numbers,
                 image.as_ptr(),
                 image.len(),
                 journal.as_ptr(),
@@ -129,7 +169,7 @@ impl<M: AsRef<[u8]>> Book<M> {
         // SAFETY: each pointer and length is a slice's.
         let look = unsafe {
             c::vtil_block_vip(
-                self.lengths,
+                self.numbers,
                 image.as_ptr(),
                 image.len(),
                 journal.as_ptr(),
@@ -149,7 +189,7 @@ impl<M: AsRef<[u8]>> Book<M> {
         let (image, journal) = (self.image(), self.journal());
         // SAFETY: each pointer and length is a slice's.
         let look = unsafe {
-            c::vtil_convention(self.lengths, image.as_ptr(), image.len(), journal.as_ptr(), journal.len(), place)
+            c::vtil_convention(self.numbers, image.as_ptr(), image.len(), journal.as_ptr(), journal.len(), place)
         };
         accepted(look.refusal)?;
         Ok(Convention {
@@ -169,7 +209,7 @@ impl<M: AsRef<[u8]>> Book<M> {
         // SAFETY: each pointer and length is a slice's.
         let look = unsafe {
             c::vtil_convention_register(
-                self.lengths,
+                self.numbers,
                 image.as_ptr(),
                 image.len(),
                 journal.as_ptr(),
@@ -184,7 +224,9 @@ impl<M: AsRef<[u8]>> Book<M> {
     }
 
     /// What the routine is billed at, in whole cents: every instruction of every block counts the rate of its
-    /// operation's group, and the sum is rounded up once. It costs two passes over the image.
+    /// operation's group, and the sum is rounded up once. It is worked out from the routine at the rates that are
+    /// handed in, whatever the book's own rates and sum are, and costs two passes over the image. At the rates of the
+    /// opening [`Book::cents`] says the same at once.
     ///
     /// How many instructions of a group there are is the charge at rate 100 for that group and 0 for the others.
     ///
@@ -194,7 +236,7 @@ impl<M: AsRef<[u8]>> Book<M> {
     /// # fn main() -> Result<(), Box<dyn std::error::Error>> {
     /// # let folder = concat!(env!("CARGO_MANIFEST_DIR"), "/../../samples");
     /// let file = std::fs::read(format!("{folder}/blocks.vtil"))?;
-    /// let book = Book::open(&file, vec![0; file.len()], vec![])?;
+    /// let book = Book::open(&file, vec![0; file.len()], vec![], Rates::default())?;
     /// let branches = book.charge(Rates([0, 0, 0, 0, 100, 0]))?;
     /// assert_eq!(branches, 4);
     /// // A mov and a str at 1.5 cents each, and the branches at 3.1 cents each: 15.4 cents.
@@ -206,7 +248,7 @@ impl<M: AsRef<[u8]>> Book<M> {
         let (image, journal) = (self.image(), self.journal());
         // SAFETY: each pointer and length is a slice's.
         let look = unsafe {
-            c::vtil_charge(self.lengths, image.as_ptr(), image.len(), journal.as_ptr(), journal.len(), rates)
+            c::vtil_charge(self.numbers, image.as_ptr(), image.len(), journal.as_ptr(), journal.len(), rates)
         };
         accepted(look.refusal)?;
         Ok(look.cents)
@@ -216,21 +258,22 @@ impl<M: AsRef<[u8]>> Book<M> {
 /// Opening and editing.
 impl<M: AsMut<[u8]>> Book<M> {
     /// Opens the routine at the start of `file`; bytes after it are ignored. The journal may have any length: an edit
-    /// that it has no room for is refused.
+    /// that it has no room for is refused. The book keeps the rates, and from here on the sum at them; where nothing is
+    /// billed they are `Rates::default()`.
     ///
     /// Refusals: 1 to 9, whichever field fails first; 11, the routine is longer than the image. Image and journal are
     /// then as they were.
-    pub fn open(file: &[u8], image: M, journal: M) -> Result<Book<M>, Refusal> {
-        let mut book = Book::resume(Lengths::default(), image, journal);
-        book.reopen(file)?;
+    pub fn open(file: &[u8], image: M, journal: M, rates: Rates) -> Result<Book<M>, Refusal> {
+        let mut book = Book::resume(Numbers::default(), image, journal);
+        book.reopen(file, rates)?;
         Ok(book)
     }
 
-    /// Opens another routine in the same image and journal.
+    /// Opens another routine, or the same at other rates, in the same image and journal.
     ///
-    /// Refusals: as [`Book::open`]. Image and journal are then as they were, but the lengths are 0: no routine is
-    /// open, and every other call is refused 13.
-    pub fn reopen(&mut self, file: &[u8]) -> Result<(), Refusal> {
+    /// Refusals: as [`Book::open`]. Image and journal are then as they were, but all numbers are 0, rates and sum
+    /// too: no routine is open, and every other call is refused 13.
+    pub fn reopen(&mut self, file: &[u8], rates: Rates) -> Result<(), Refusal> {
         // SAFETY: each pointer and length is a slice's, and slices that can be written overlap no other.
         self.call(|_, image, journal| unsafe {
             c::vtil_open(
@@ -240,11 +283,12 @@ impl<M: AsMut<[u8]>> Book<M> {
                 image.len(),
                 journal.as_mut_ptr(),
                 journal.len(),
+                rates,
             )
         })
     }
 
-    /// Adds an empty block after the last one. The image needs 36 bytes more and the journal 20.
+    /// Adds an empty block after the last one, which costs nothing. The image needs 36 bytes more and the journal 20.
     ///
     /// Refusals: 14, a block has this vip; 11, the image is full; 12, the journal is full.
     pub fn create_block(&mut self, vip: Vip) -> Result<(), Refusal> {
@@ -256,7 +300,8 @@ impl<M: AsMut<[u8]>> Book<M> {
 
     /// Removes a block; the last one takes its place. The journal needs the block's size and 20 bytes more.
     ///
-    /// Refusals: 15, no block has this vip; 12, the journal is full.
+    /// Refusals: 15, no block has this vip; 12, the journal is full; 13, the sum of a resumed book is less than what
+    /// the block costs.
     pub fn remove_block(&mut self, vip: Vip) -> Result<(), Refusal> {
         // SAFETY: as in `reopen`.
         self.call(|book, image, journal| unsafe {
@@ -272,7 +317,8 @@ impl<M: AsMut<[u8]>> Book<M> {
     /// is open, and [`Book::undo`] of the append that closed a block opens it again.
     ///
     /// Refusals: 1, 2, 5 to 8, whichever field fails first; 17, bytes are left after it; 15, no block has this vip;
-    /// 18, the block is closed; 11, the image is full; 12, the journal is full.
+    /// 18, the block is closed; 11, the image is full; 12, the journal is full; 13, the sum of a resumed book would
+    /// pass 2^64 - 1.
     pub fn append(&mut self, vip: Vip, instruction: &[u8]) -> Result<(), Refusal> {
         // SAFETY: as in `reopen`.
         self.call(|book, image, journal| unsafe {
@@ -291,7 +337,8 @@ impl<M: AsMut<[u8]>> Book<M> {
 
     /// Takes back the last edit that was not taken back yet.
     ///
-    /// Refusals: 16, there is none; 13, the journal of a resumed book does not end in an edit of this image.
+    /// Refusals: 16, there is none; 13, the journal of a resumed book does not end in an edit of this image, or its
+    /// sum is less than what goes or would pass 2^64 - 1 by what comes back.
     pub fn undo(&mut self) -> Result<(), Refusal> {
         // SAFETY: as in `reopen`.
         self.call(|book, image, journal| unsafe {
@@ -299,14 +346,14 @@ impl<M: AsMut<[u8]>> Book<M> {
         })
     }
 
-    /// Opens another routine in the same image and journal, and runs a list of calls on it, in which a refused call
-    /// changes nothing and the next one follows all the same. The list is encoded for the library first, which
-    /// allocates.
+    /// Opens another routine in the same image and journal, as [`Book::reopen`] does, and runs a list of calls on it,
+    /// in which a refused call changes nothing and the next one follows all the same. The list is encoded for the
+    /// library first, which allocates.
     ///
     /// Answers what the last call of the list answers; where the list is empty, that it was accepted.
     ///
     /// Refusals: as [`Book::open`]. No call is run then, and the book is left as a refused [`Book::reopen`] leaves it.
-    pub fn run(&mut self, file: &[u8], calls: &[Call]) -> Result<Last, Refusal> {
+    pub fn run(&mut self, file: &[u8], calls: &[Call], rates: Rates) -> Result<Last, Refusal> {
         let Encoded { words, bytes } = Encoded::of(calls);
         // SAFETY: as in `reopen`.
         self.list(|_, image, journal| unsafe {
@@ -321,6 +368,7 @@ impl<M: AsMut<[u8]>> Book<M> {
                 words.len(),
                 bytes.as_ptr(),
                 bytes.len(),
+                rates,
             )
         })
     }
@@ -347,17 +395,17 @@ impl<M: AsMut<[u8]>> Book<M> {
         run.expect("the library takes every list that is encoded")
     }
 
-    /// The lengths are those that the library answers, of a refused call too.
-    fn call(&mut self, call: impl FnOnce(Lengths, &mut [u8], &mut [u8]) -> c::Answer) -> Result<(), Refusal> {
-        let answer = call(self.lengths, self.image.as_mut(), self.journal.as_mut());
-        self.lengths = answer.book;
+    /// The numbers are those that the library answers, of a refused call too.
+    fn call(&mut self, call: impl FnOnce(Numbers, &mut [u8], &mut [u8]) -> c::Answer) -> Result<(), Refusal> {
+        let answer = call(self.numbers, self.image.as_mut(), self.journal.as_mut());
+        self.numbers = answer.book;
         accepted(answer.refusal)
     }
 
     /// As `call`, of a run over a list.
-    fn list(&mut self, run: impl FnOnce(Lengths, &mut [u8], &mut [u8]) -> c::RunAnswer) -> Result<Last, Refusal> {
-        let answer = run(self.lengths, self.image.as_mut(), self.journal.as_mut());
-        self.lengths = answer.book;
+    fn list(&mut self, run: impl FnOnce(Numbers, &mut [u8], &mut [u8]) -> c::RunAnswer) -> Result<Last, Refusal> {
+        let answer = run(self.numbers, self.image.as_mut(), self.journal.as_mut());
+        self.numbers = answer.book;
         accepted(answer.refusal)?;
         Ok(accepted(answer.last))
     }

@@ -2,17 +2,8 @@
 
 use std::mem::size_of;
 
-/// What a book says of its image and journal: how many bytes of them count. The rest of the image is 0.
-#[repr(C)]
-#[derive(Clone, Copy, Debug, Default, PartialEq, Eq)]
-pub struct Lengths {
-    /// Bytes of the image that are the routine's written form.
-    pub written: u64,
-    /// Bytes of the journal that are used.
-    pub used: u64,
-}
-
-/// What one instruction costs, in hundredths of a cent, by the group of its operation. Any numbers are rates.
+/// What one instruction costs, in hundredths of a cent, by the group of its operation. Any numbers are rates. Where
+/// nothing is billed, `Rates::default()` has 0 for every group.
 ///
 /// | Group | Operations |
 /// |---|---|
@@ -26,17 +17,46 @@ pub struct Lengths {
 #[derive(Clone, Copy, Debug, Default, PartialEq, Eq)]
 pub struct Rates(pub [u32; 6]);
 
+/// What a book says beside its image and journal, and is kept with them: how many bytes of them count, and what the
+/// routine costs. Of a book that was opened they are true, and stay so with every call.
+///
+/// Any numbers can be handed to [`Book::resume`](crate::Book::resume), and no call trusts them. Whether `written` and
+/// `used` fit image and journal is tested by each, which else refuses 13. `rates` and `sum` are not compared with the
+/// routine, since that takes a walk over it: an edit or an undo changes the sum by what the instructions cost that
+/// come or go, and is refused 13, after all its other refusals, where the sum is less than what is to be subtracted
+/// or would pass 2^64 - 1.
+#[repr(C)]
+#[derive(Clone, Copy, Debug, Default, PartialEq, Eq)]
+pub struct Numbers {
+    /// Bytes of the image that are the routine's written form. The rest of the image is 0.
+    pub written: u64,
+    /// Bytes of the journal that are used.
+    pub used: u64,
+    /// The rates that the routine was opened at: they stay until another opening.
+    pub rates: Rates,
+    /// What the routine's instructions cost at these rates, in hundredths of a cent.
+    pub sum: u64,
+}
+
+impl Numbers {
+    /// The sum in whole cents, rounded up.
+    pub fn cents(&self) -> u64 {
+        // Not (sum + 99) / 100: any number can be handed in as a sum, and the largest would wrap.
+        self.sum.div_ceil(100)
+    }
+}
+
 #[repr(C)]
 pub struct Answer {
     pub refusal: u64,
-    pub book: Lengths,
+    pub book: Numbers,
 }
 
 #[repr(C)]
 pub struct RunAnswer {
     pub refusal: u64,
     pub last: u64,
-    pub book: Lengths,
+    pub book: Numbers,
 }
 
 #[repr(C)]
@@ -212,10 +232,10 @@ pub const UNDO: u64 = 3;
 
 // The sizes that host/tests/header.sh holds the header to.
 const _: () = {
-    assert!(size_of::<Lengths>() == 16);
     assert!(size_of::<Rates>() == 24);
-    assert!(size_of::<Answer>() == 24);
-    assert!(size_of::<RunAnswer>() == 32);
+    assert!(size_of::<Numbers>() == 48);
+    assert!(size_of::<Answer>() == 56);
+    assert!(size_of::<RunAnswer>() == 64);
     assert!(size_of::<ImmediateDesc>() == 16);
     assert!(size_of::<RegisterDesc>() == 24);
     assert!(size_of::<OperandDesc>() == 48);
@@ -251,17 +271,18 @@ extern "C" {
         image_len: usize,
         journal: *mut u8,
         journal_len: usize,
+        rates: Rates,
     ) -> Answer;
     pub fn vtil_write_instruction(value: InstructionDesc, image: *mut u8, image_len: usize) -> Written;
     pub fn vtil_routine(
-        book: Lengths,
+        book: Numbers,
         image: *const u8,
         image_len: usize,
         journal: *const u8,
         journal_len: usize,
     ) -> RoutineLook;
     pub fn vtil_block(
-        book: Lengths,
+        book: Numbers,
         image: *const u8,
         image_len: usize,
         journal: *const u8,
@@ -269,7 +290,7 @@ extern "C" {
         place: u64,
     ) -> BlockLook;
     pub fn vtil_instruction(
-        book: Lengths,
+        book: Numbers,
         image: *const u8,
         image_len: usize,
         journal: *const u8,
@@ -278,7 +299,7 @@ extern "C" {
         place: u64,
     ) -> InstructionLook;
     pub fn vtil_block_vip(
-        book: Lengths,
+        book: Numbers,
         image: *const u8,
         image_len: usize,
         journal: *const u8,
@@ -288,7 +309,7 @@ extern "C" {
         place: u64,
     ) -> VipLook;
     pub fn vtil_convention(
-        book: Lengths,
+        book: Numbers,
         image: *const u8,
         image_len: usize,
         journal: *const u8,
@@ -296,7 +317,7 @@ extern "C" {
         place: u64,
     ) -> ConventionLook;
     pub fn vtil_convention_register(
-        book: Lengths,
+        book: Numbers,
         image: *const u8,
         image_len: usize,
         journal: *const u8,
@@ -306,7 +327,7 @@ extern "C" {
         place: u64,
     ) -> RegisterLook;
     pub fn vtil_charge(
-        book: Lengths,
+        book: Numbers,
         image: *const u8,
         image_len: usize,
         journal: *const u8,
@@ -314,7 +335,7 @@ extern "C" {
         rates: Rates,
     ) -> ChargeLook;
     pub fn vtil_create_block(
-        book: Lengths,
+        book: Numbers,
         image: *mut u8,
         image_len: usize,
         journal: *mut u8,
@@ -322,7 +343,7 @@ extern "C" {
         vip: u64,
     ) -> Answer;
     pub fn vtil_remove_block(
-        book: Lengths,
+        book: Numbers,
         image: *mut u8,
         image_len: usize,
         journal: *mut u8,
@@ -330,7 +351,7 @@ extern "C" {
         vip: u64,
     ) -> Answer;
     pub fn vtil_append(
-        book: Lengths,
+        book: Numbers,
         image: *mut u8,
         image_len: usize,
         journal: *mut u8,
@@ -339,7 +360,7 @@ extern "C" {
         instruction: *const u8,
         instruction_len: usize,
     ) -> Answer;
-    pub fn vtil_undo(book: Lengths, image: *mut u8, image_len: usize, journal: *mut u8, journal_len: usize) -> Answer;
+    pub fn vtil_undo(book: Numbers, image: *mut u8, image_len: usize, journal: *mut u8, journal_len: usize) -> Answer;
     pub fn vtil_run(
         file: *const u8,
         file_len: usize,
@@ -351,9 +372,10 @@ extern "C" {
         words_len: usize,
         bytes: *const u8,
         bytes_len: usize,
+        rates: Rates,
     ) -> RunAnswer;
     pub fn vtil_run_on(
-        book: Lengths,
+        book: Numbers,
         image: *mut u8,
         image_len: usize,
         journal: *mut u8,

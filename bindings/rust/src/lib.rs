@@ -3,15 +3,18 @@
 //! A [`Routine`] owns its memory:
 //!
 //! ```
-//! use vtil::{Routine, Vip};
+//! use vtil::{Rates, Routine, Vip};
 //!
 //! # fn main() -> Result<(), Box<dyn std::error::Error>> {
 //! # let folder = concat!(env!("CARGO_MANIFEST_DIR"), "/../../samples");
 //! let file = std::fs::read(format!("{folder}/blocks.vtil"))?;
-//! let mut routine = Routine::open(&file)?;
+//! // What an instruction of each group of operations costs, in hundredths of a cent.
+//! let mut routine = Routine::open(&file, Rates([150, 200, 200, 250, 310, 0]))?;
+//! assert_eq!(routine.cents(), 20);
 //! routine.remove_block(Vip(0x1010))?;
+//! assert_eq!(routine.cents(), 15);
 //! routine.undo()?;
-//! assert_eq!(routine.written(), file);
+//! assert_eq!((routine.written(), routine.cents()), (&file[..], 20));
 //! # Ok(())
 //! # }
 //! ```
@@ -31,13 +34,13 @@
 //! A [`Book`] is the same as a [`Routine`], in memory of fixed lengths that the caller lends:
 //!
 //! ```
-//! use vtil::{Book, Refusal, Vip};
+//! use vtil::{Book, Rates, Refusal, Vip};
 //!
 //! # fn main() -> Result<(), Box<dyn std::error::Error>> {
 //! # let folder = concat!(env!("CARGO_MANIFEST_DIR"), "/../../samples");
 //! let file = std::fs::read(format!("{folder}/minimal.vtil"))?;
 //! let (mut image, mut journal) = ([0; 114 + 36], [0; 20]);
-//! let mut book = Book::open(&file, &mut image[..], &mut journal[..])?;
+//! let mut book = Book::open(&file, &mut image[..], &mut journal[..], Rates::default())?;
 //! book.create_block(Vip(1))?;
 //! assert_eq!(book.create_block(Vip(2)), Err(Refusal::ImageFull));
 //! # Ok(())
@@ -54,7 +57,7 @@ mod routine;
 mod value;
 
 pub use book::{Book, Last};
-pub use c::{Lengths, Rates};
+pub use c::{Numbers, Rates};
 pub use list::Call;
 pub use look::{Block, Convention, Links, Overview, Registers};
 pub use read::{read, read_at, BlockRef, ConventionRef, InstructionRef, Part, Parts, RoutineRef};

@@ -10,7 +10,8 @@ use crate::MOST_LENT;
 /// each; so [`Refusal::ImageFull`] and [`Refusal::JournalFull`] come only there.
 ///
 /// A refused call leaves the routine as it was. Every call reads the whole image: its time grows with the routine. To
-/// look at more than a part or two, use [`Routine::read`].
+/// look at more than a part or two, use [`Routine::read`]. What the routine costs at the rates that it was opened at
+/// is kept with every edit, and [`Routine::sum`] and [`Routine::cents`] read it off.
 ///
 /// What the library proves of each call holds here; what it proves of whole lists of calls is for an image and a
 /// journal whose lengths stay, as a [`Book`]'s do.
@@ -30,13 +31,14 @@ fn grow(bytes: &mut Vec<u8>) -> bool {
 }
 
 impl Routine {
-    /// Opens the routine at the start of `file`; bytes after it are ignored.
+    /// Opens the routine at the start of `file`; bytes after it are ignored. The routine keeps the rates, and from
+    /// here on the sum at them; where nothing is billed they are `Rates::default()`.
     ///
     /// Refusals: 1 to 9, whichever field fails first; 11, the routine has over 16,777,216 bytes.
-    pub fn open(file: &[u8]) -> Result<Routine, Refusal> {
+    pub fn open(file: &[u8], rates: Rates) -> Result<Routine, Refusal> {
         // The written form is no longer than what it was read from.
         let image = vec![0; file.len().min(MOST_LENT)];
-        let mut book = Book::open(file, image, Vec::new())?;
+        let mut book = Book::open(file, image, Vec::new(), rates)?;
         let written = book.written().len();
         book.image.truncate(written);
         Ok(Routine { book })
@@ -131,7 +133,24 @@ impl Routine {
         self.book.convention_register(convention, list, place)
     }
 
-    /// What the routine is billed at, in whole cents, as [`Book::charge`] says. It costs two passes over the image.
+    /// The rates that the routine was opened at.
+    pub fn rates(&self) -> Rates {
+        self.book.rates()
+    }
+
+    /// What the routine costs at [`Routine::rates`], in hundredths of a cent, as [`Book::sum`] says. It is only read
+    /// off.
+    pub fn sum(&self) -> u64 {
+        self.book.sum()
+    }
+
+    /// [`Routine::sum`] in whole cents, rounded up.
+    pub fn cents(&self) -> u64 {
+        self.book.cents()
+    }
+
+    /// What the routine is billed at, in whole cents, at any rates, as [`Book::charge`] says. It costs two passes
+    /// over the image.
     pub fn charge(&self, rates: Rates) -> u64 {
         self.book.charge(rates).expect("nobody else writes the image, so it is not spoiled")
     }

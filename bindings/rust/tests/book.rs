@@ -1,7 +1,8 @@
 //! Books over lent memory: what each call leaves in it, and every refusal at exact lengths.
 
 use vtil::{
-    check, check_raw, operation, Book, Call, Immediate, Instruction, Lengths, Operand, Refusal, Routine, Vip, MOST_LENT,
+    check, check_raw, operation, Book, Call, Immediate, Instruction, Numbers, Operand, Rates, Refusal, Routine, Vip,
+    MOST_LENT,
 };
 
 const MINIMAL: usize = 114;
@@ -21,8 +22,12 @@ fn jmp() -> Instruction {
     Instruction { op: operation("jmp").unwrap(), operands, ..Default::default() }
 }
 
-fn lengths(written: usize, used: usize) -> Lengths {
-    Lengths { written: written as u64, used: used as u64 }
+/// The rates of every opening here.
+const RATES: Rates = Rates([1, 20, 300, 4_000, 50_000, 600_000]);
+
+/// Of a routine without instructions.
+fn numbers(written: usize, used: usize) -> Numbers {
+    Numbers { written: written as u64, used: used as u64, rates: RATES, sum: 0 }
 }
 
 /// Bytes that no call leaves by accident.
@@ -38,9 +43,9 @@ fn journal_before(length: usize) -> Vec<u8> {
 fn opening_fills_what_is_lent() {
     let file = sample("odd-flags");
     let (mut image, mut journal) = (image_before(file.len() + 50), journal_before(30));
-    let book = Book::open(&file, &mut image[..], &mut journal[..]).unwrap();
-    assert_eq!(book.lengths(), lengths(file.len(), 0));
-    assert_eq!(book.written(), Routine::open(&file).unwrap().written());
+    let book = Book::open(&file, &mut image[..], &mut journal[..], RATES).unwrap();
+    assert_eq!(book.numbers(), Numbers { sum: 600_000, ..numbers(file.len(), 0) });
+    assert_eq!(book.written(), Routine::open(&file, RATES).unwrap().written());
     assert_eq!(book.image()[..file.len()], *book.written());
     assert_eq!(book.image()[file.len()..], [0; 50]);
     assert_eq!(book.journal(), [0; 30]);
@@ -49,7 +54,7 @@ fn opening_fills_what_is_lent() {
 /// What a refused opening answers, which has to leave the memory alone.
 fn refused_opening(file: &[u8], image_length: usize, journal_length: usize) -> Refusal {
     let (mut image, mut journal) = (image_before(image_length), journal_before(journal_length));
-    let refusal = Book::open(file, &mut image[..], &mut journal[..]).expect_err("it has to be refused");
+    let refusal = Book::open(file, &mut image[..], &mut journal[..], RATES).expect_err("it has to be refused");
     assert!(image == image_before(image_length) && journal == journal_before(journal_length));
     refusal
 }
@@ -68,21 +73,21 @@ fn opening_is_refused_at_exact_lengths() {
     assert_eq!(refused_opening(&[], 0, 0), Refusal::ShortFile);
     assert_eq!(refused_opening(&[], MOST_LENT + 1, 0), Refusal::LendingTooLarge);
     for (image, journal) in [(MINIMAL, 0), (MOST_LENT, MOST_LENT)] {
-        assert!(Book::open(&file, image_before(image), journal_before(journal)).is_ok());
+        assert!(Book::open(&file, image_before(image), journal_before(journal), RATES).is_ok());
     }
 }
 
 /// Nothing is open after a refused opening, whatever was before it.
 #[test]
 fn a_book_is_opened_again() {
-    let mut book = Book::open(&sample("minimal"), image_before(1500), journal_before(20)).unwrap();
+    let mut book = Book::open(&sample("minimal"), image_before(1500), journal_before(20), RATES).unwrap();
     book.create_block(Vip(1)).unwrap();
-    book.reopen(&sample("blocks")).unwrap();
-    assert_eq!((book.lengths(), book.overview().unwrap().blocks), (lengths(1134, 0), 3));
+    book.reopen(&sample("blocks"), RATES).unwrap();
+    assert_eq!((book.numbers(), book.overview().unwrap().blocks), (Numbers { sum: 804_022, ..numbers(1134, 0) }, 3));
     assert_eq!(book.written(), sample("blocks"));
 
-    assert_eq!(book.reopen(&sample("wrong-mark")), Err(Refusal::WrongMark));
-    assert_eq!((book.lengths(), book.written()), (lengths(0, 0), &[][..]));
+    assert_eq!(book.reopen(&sample("wrong-mark"), RATES), Err(Refusal::WrongMark));
+    assert_eq!((book.numbers(), book.written()), (Numbers::default(), &[][..]));
     assert_eq!(book.image()[..1134], sample("blocks"));
     assert_eq!(book.overview(), Err(Refusal::SpoiledBook));
     assert_eq!(book.undo(), Err(Refusal::SpoiledBook));
@@ -92,7 +97,7 @@ fn a_book_is_opened_again() {
 #[test]
 fn edits_are_refused_at_exact_lengths() {
     let create = |image, journal| {
-        let mut book = Book::open(&sample("minimal"), image_before(image), journal_before(journal)).unwrap();
+        let mut book = Book::open(&sample("minimal"), image_before(image), journal_before(journal), RATES).unwrap();
         book.create_block(Vip(1))
     };
     assert_eq!(create(MINIMAL + 36, 20), Ok(()));
@@ -101,7 +106,7 @@ fn edits_are_refused_at_exact_lengths() {
     assert_eq!(create(MINIMAL + 36, 19), Err(Refusal::JournalFull));
 
     let append = |image, journal| {
-        let mut book = Book::open(&sample("minimal"), image_before(image), journal_before(journal)).unwrap();
+        let mut book = Book::open(&sample("minimal"), image_before(image), journal_before(journal), RATES).unwrap();
         book.create_block(Vip(1)).unwrap();
         book.append(Vip(1), &nop().to_bytes().unwrap())
     };
@@ -110,7 +115,8 @@ fn edits_are_refused_at_exact_lengths() {
     assert_eq!(append(MINIMAL + 36 + 32, 39), Err(Refusal::JournalFull));
 
     let remove = |journal| {
-        let mut book = Book::open(&sample("minimal"), image_before(MINIMAL + 36), journal_before(journal)).unwrap();
+        let mut book =
+            Book::open(&sample("minimal"), image_before(MINIMAL + 36), journal_before(journal), RATES).unwrap();
         book.create_block(Vip(1)).unwrap();
         book.remove_block(Vip(1))
     };
@@ -125,7 +131,7 @@ fn a_closed_block_is_refused_in_its_order() {
     let longer = [&nop[..], &[0]].concat();
     for (image, journal) in [(0, 0), (0, 20), (32, 0), (31, 19), (32, 20), (500, 500)] {
         let image = image_before(MINIMAL + 36 + jmp.len() + image);
-        let mut book = Book::open(&sample("minimal"), image, journal_before(40 + journal)).unwrap();
+        let mut book = Book::open(&sample("minimal"), image, journal_before(40 + journal), RATES).unwrap();
         book.create_block(Vip(1)).unwrap();
         book.append(Vip(1), &jmp).unwrap();
         let before = book.clone();
@@ -134,7 +140,7 @@ fn a_closed_block_is_refused_in_its_order() {
         assert_eq!(book.append(Vip(1), &longer), Err(Refusal::Leftover));
         assert_eq!(book.append(Vip(2), &nop), Err(Refusal::NoSuchBlock));
         assert_eq!(book.append(Vip(1), &nop), Err(Refusal::ClosedBlock));
-        assert_eq!(book.lengths(), before.lengths());
+        assert_eq!(book.numbers(), before.numbers());
         assert_eq!((book.image(), book.journal()), (before.image(), before.journal()));
         book.undo().unwrap();
         assert_eq!(book.append(Vip(1), &nop), Ok(()));
@@ -157,38 +163,38 @@ fn a_list_meets_a_closed_block() {
         (Call::Append(Vip(1), &nop), Err(Refusal::ClosedBlock)),
     ];
     let list: Vec<Call> = calls.iter().map(|(call, _)| *call).collect();
-    let mut one_by_one = Book::open(&file, image_before(400), journal_before(200)).unwrap();
+    let mut one_by_one = Book::open(&file, image_before(400), journal_before(200), RATES).unwrap();
     for (place, (call, due)) in calls.iter().enumerate() {
         assert_eq!(one_by_one.run_on(&[*call]), *due, "call {place}");
-        let mut whole = Book::resume(Lengths::default(), image_before(400), journal_before(200));
-        assert_eq!(whole.run(&file, &list[..=place]), Ok(*due), "up to call {place}");
-        assert_eq!(whole.lengths(), one_by_one.lengths());
+        let mut whole = Book::resume(Numbers::default(), image_before(400), journal_before(200));
+        assert_eq!(whole.run(&file, &list[..=place], RATES), Ok(*due), "up to call {place}");
+        assert_eq!(whole.numbers(), one_by_one.numbers());
         assert_eq!((whole.image(), whole.journal()), (one_by_one.image(), one_by_one.journal()));
     }
 }
 
 #[test]
 fn a_refused_edit_leaves_the_book_as_it_was() {
-    let mut book = Book::open(&sample("minimal"), image_before(MINIMAL + 36), journal_before(40)).unwrap();
+    let mut book = Book::open(&sample("minimal"), image_before(MINIMAL + 36), journal_before(40), RATES).unwrap();
     book.create_block(Vip(1)).unwrap();
     let before = book.clone();
     assert_eq!(book.create_block(Vip(1)), Err(Refusal::BlockPresent));
     assert_eq!(book.create_block(Vip(2)), Err(Refusal::ImageFull));
     assert_eq!(book.remove_block(Vip(2)), Err(Refusal::NoSuchBlock));
     assert_eq!(book.append(Vip(1), &[]), Err(Refusal::ShortFile));
-    assert_eq!(book.lengths(), before.lengths());
+    assert_eq!(book.numbers(), before.numbers());
     assert_eq!((book.image(), book.journal()), (before.image(), before.journal()));
 }
 
 #[test]
 fn an_edit_and_its_entry_are_taken_back() {
     let (mut image, mut journal) = (image_before(MINIMAL + 36), journal_before(20));
-    let mut book = Book::open(&sample("minimal"), &mut image[..], &mut journal[..]).unwrap();
+    let mut book = Book::open(&sample("minimal"), &mut image[..], &mut journal[..], RATES).unwrap();
     book.create_block(Vip(7)).unwrap();
-    assert_eq!(book.lengths(), lengths(MINIMAL + 36, 20));
+    assert_eq!(book.numbers(), numbers(MINIMAL + 36, 20));
     assert_eq!(book.journal(), [7, 0, 0, 0, 0, 0, 0, 0, 0, 0, 0, 0, 0, 0, 0, 0, 1, 0, 0, 0]);
     book.undo().unwrap();
-    assert_eq!(book.lengths(), lengths(MINIMAL, 0));
+    assert_eq!(book.numbers(), numbers(MINIMAL, 0));
     assert_eq!((book.written(), book.journal()), (&sample("minimal")[..], &[0; 20][..]));
     assert_eq!(book.undo(), Err(Refusal::NothingToTakeBack));
 }
@@ -197,9 +203,9 @@ fn an_edit_and_its_entry_are_taken_back() {
 #[test]
 fn a_kept_book_goes_on() {
     let (mut image, mut journal) = (image_before(MINIMAL + 36), journal_before(20));
-    let mut book = Book::open(&sample("minimal"), &mut image[..], &mut journal[..]).unwrap();
+    let mut book = Book::open(&sample("minimal"), &mut image[..], &mut journal[..], RATES).unwrap();
     book.create_block(Vip(7)).unwrap();
-    let kept = book.lengths();
+    let kept = book.numbers();
 
     let read_only = Book::resume(kept, &image[..], &journal[..]);
     assert_eq!(read_only.block(0).unwrap().vip, Vip(7));
@@ -214,20 +220,20 @@ fn a_spoiled_book_is_refused() {
     let file = sample("minimal");
     let image = [&file[..], &[0; 36]].concat();
     let at = |kept| Book::resume(kept, image.clone(), journal_before(20));
-    assert_eq!(at(lengths(MINIMAL, 0)).overview().unwrap().blocks, 0);
-    for kept in [lengths(MINIMAL - 1, 0), lengths(MINIMAL + 1, 0), lengths(MINIMAL, 21), lengths(usize::MAX, 0)] {
+    assert_eq!(at(numbers(MINIMAL, 0)).overview().unwrap().blocks, 0);
+    for kept in [numbers(MINIMAL - 1, 0), numbers(MINIMAL + 1, 0), numbers(MINIMAL, 21), numbers(usize::MAX, 0)] {
         assert_eq!(at(kept).overview(), Err(Refusal::SpoiledBook), "{kept:?}");
         assert_eq!(at(kept).create_block(Vip(1)), Err(Refusal::SpoiledBook), "{kept:?}");
     }
     // These 20 bytes of journal are no edit of this image.
-    assert_eq!(at(lengths(MINIMAL, 20)).undo(), Err(Refusal::SpoiledBook));
-    assert_eq!(at(lengths(usize::MAX, 0)).written(), image);
+    assert_eq!(at(numbers(MINIMAL, 20)).undo(), Err(Refusal::SpoiledBook));
+    assert_eq!(at(numbers(usize::MAX, 0)).written(), image);
 
     let mut odd = image.clone();
     odd[MINIMAL] = 1;
-    let book = Book::resume(lengths(MINIMAL, 0), odd, vec![]);
+    let book = Book::resume(numbers(MINIMAL, 0), odd, vec![]);
     assert_eq!(book.block(0), Err(Refusal::SpoiledBook));
-    let long = Book::resume(lengths(MINIMAL, 0), image, vec![0; MOST_LENT + 1]);
+    let long = Book::resume(numbers(MINIMAL, 0), image, vec![0; MOST_LENT + 1]);
     assert_eq!(long.block(0), Err(Refusal::LendingTooLarge));
 }
 
@@ -248,19 +254,19 @@ fn some_calls(nop: &[u8]) -> [Call<'_>; 6] {
 fn a_list_is_run() {
     let (file, nop) = (sample("minimal"), nop().to_bytes().unwrap());
     let calls = some_calls(&nop);
-    let mut one_by_one = Book::open(&file, image_before(300), journal_before(100)).unwrap();
+    let mut one_by_one = Book::open(&file, image_before(300), journal_before(100), RATES).unwrap();
     one_by_one.create_block(Vip(1)).unwrap();
     one_by_one.append(Vip(1), &nop).unwrap();
-    let mut book = Book::resume(Lengths::default(), image_before(300), journal_before(100));
-    assert_eq!(book.run(&file, &calls), Ok(Err(Refusal::NoSuchBlock)));
-    assert_eq!(book.lengths(), one_by_one.lengths());
+    let mut book = Book::resume(Numbers::default(), image_before(300), journal_before(100));
+    assert_eq!(book.run(&file, &calls, RATES), Ok(Err(Refusal::NoSuchBlock)));
+    assert_eq!(book.numbers(), one_by_one.numbers());
     assert_eq!((book.image(), book.journal()), (one_by_one.image(), one_by_one.journal()));
 
-    assert_eq!(book.run(&file, &calls[..5]), Ok(Ok(())));
-    assert_eq!(book.run(&file, &calls[..3]), Ok(Err(Refusal::ShortFile)));
-    assert_eq!((book.run(&file, &[]), book.lengths()), (Ok(Ok(())), lengths(MINIMAL, 0)));
-    assert_eq!(book.run(&[], &calls), Err(Refusal::ShortFile));
-    assert_eq!((book.lengths(), book.image()[..MINIMAL].to_vec()), (lengths(0, 0), file));
+    assert_eq!(book.run(&file, &calls[..5], RATES), Ok(Ok(())));
+    assert_eq!(book.run(&file, &calls[..3], RATES), Ok(Err(Refusal::ShortFile)));
+    assert_eq!((book.run(&file, &[], RATES), book.numbers()), (Ok(Ok(())), numbers(MINIMAL, 0)));
+    assert_eq!(book.run(&[], &calls, RATES), Err(Refusal::ShortFile));
+    assert_eq!((book.numbers(), book.image()[..MINIMAL].to_vec()), (Numbers::default(), file));
 }
 
 /// The same on a book that is there, wherever the list is parted.
@@ -268,24 +274,24 @@ fn a_list_is_run() {
 fn a_list_is_run_on_a_book() {
     let (file, nop) = (sample("minimal"), nop().to_bytes().unwrap());
     let calls = some_calls(&nop);
-    let open = || Book::open(&file, image_before(300), journal_before(100)).unwrap();
+    let open = || Book::open(&file, image_before(300), journal_before(100), RATES).unwrap();
     let mut whole = open();
-    assert_eq!(whole.run(&file, &calls), Ok(Err(Refusal::NoSuchBlock)));
+    assert_eq!(whole.run(&file, &calls, RATES), Ok(Err(Refusal::NoSuchBlock)));
     for parted in 0..calls.len() {
         let mut book = open();
         let first = book.run_on(&calls[..parted]);
         assert_eq!(first, if parted == 3 { Err(Refusal::ShortFile) } else { Ok(()) }, "{parted}");
         assert_eq!(book.run_on(&calls[parted..]), Err(Refusal::NoSuchBlock), "{parted}");
-        assert_eq!(book.lengths(), whole.lengths(), "{parted}");
+        assert_eq!(book.numbers(), whole.numbers(), "{parted}");
         assert_eq!((book.image(), book.journal()), (whole.image(), whole.journal()), "{parted}");
     }
     let before = whole.clone();
-    assert_eq!((whole.run_on(&[]), whole.lengths()), (Ok(()), before.lengths()));
+    assert_eq!((whole.run_on(&[]), whole.numbers()), (Ok(()), before.numbers()));
     assert_eq!((whole.image(), whole.journal()), (before.image(), before.journal()));
 
-    let mut spoiled = Book::resume(lengths(MINIMAL - 1, 0), file.clone(), journal_before(20));
+    let mut spoiled = Book::resume(numbers(MINIMAL - 1, 0), file.clone(), journal_before(20));
     assert_eq!(spoiled.run_on(&calls), Err(Refusal::SpoiledBook));
-    assert_eq!((spoiled.lengths(), spoiled.image()), (lengths(MINIMAL - 1, 0), &file[..]));
+    assert_eq!((spoiled.numbers(), spoiled.image()), (numbers(MINIMAL - 1, 0), &file[..]));
 }
 
 #[test]

@@ -2,7 +2,7 @@
 
 use std::ops::RangeInclusive;
 use vtil::{
-    operation, Book, Immediate, Instruction, Lengths, Operand, Rates, Refusal, Routine, Vip, MOST_LENT, OPERATIONS,
+    operation, Book, Immediate, Instruction, Numbers, Operand, Rates, Refusal, Routine, Vip, MOST_LENT, OPERATIONS,
 };
 
 /// The operations of each group, by number.
@@ -29,7 +29,7 @@ fn nop() -> Instruction {
 
 /// A routine with a block for each list, which has these instructions.
 fn routine_of(blocks: &[&[Instruction]]) -> Routine {
-    let mut routine = Routine::open(&sample("minimal")).unwrap();
+    let mut routine = Routine::open(&sample("minimal"), Rates::default()).unwrap();
     for (place, instructions) in blocks.iter().enumerate() {
         let vip = Vip(place as u64);
         routine.create_block(vip).unwrap();
@@ -97,7 +97,7 @@ fn the_sum_is_rounded_up_once() {
 #[test]
 fn edits_change_the_charge() {
     let file = sample("blocks");
-    let mut routine = Routine::open(&file).unwrap();
+    let mut routine = Routine::open(&file, Rates::default()).unwrap();
     let before = routine.charge(DIFFERENT);
     assert_eq!(before, 2 + 2 + 4 + 4 * 5 + 6);
     routine.create_block(Vip(0x1030)).unwrap();
@@ -122,7 +122,7 @@ fn the_largest_charge() {
     file.extend((count as u32).to_le_bytes());
     file.extend(nop.repeat(count));
     file.extend([0; 8]);
-    let book = Book::open(&file, vec![0; MOST_LENT], vec![]).unwrap();
+    let book = Book::open(&file, vec![0; MOST_LENT], vec![], Rates::default()).unwrap();
     assert_eq!(book.charge(each(u32::MAX)), Ok((count as u64 * u64::from(u32::MAX)).div_ceil(100)));
     assert_eq!(book.charge(alone(5, 100)), Ok(count as u64));
     assert_eq!(book.charge(Rates([u32::MAX, u32::MAX, u32::MAX, u32::MAX, u32::MAX, 0])), Ok(0));
@@ -133,22 +133,22 @@ fn the_largest_charge() {
 fn refused_books() {
     let file = sample("blocks");
     let image = [&file[..], &[0; 36]].concat();
-    let fits = Lengths { written: file.len() as u64, used: 0 };
-    let charge = |lengths, image: &[u8], journal: &[u8]| Book::resume(lengths, image, journal).charge(DIFFERENT);
+    let fits = Numbers { written: file.len() as u64, ..Numbers::default() };
+    let charge = |numbers, image: &[u8], journal: &[u8]| Book::resume(numbers, image, journal).charge(DIFFERENT);
     assert_eq!(charge(fits, &image, &[]), Ok(34));
 
-    let shorter = Lengths { written: fits.written - 1, ..fits };
-    for lengths in [shorter, Lengths { written: fits.written + 1, ..fits }, Lengths { used: 1, ..fits }] {
-        assert_eq!(charge(lengths, &image, &[]), Err(Refusal::SpoiledBook), "{lengths:?}");
+    let shorter = Numbers { written: fits.written - 1, ..fits };
+    for numbers in [shorter, Numbers { written: fits.written + 1, ..fits }, Numbers { used: 1, ..fits }] {
+        assert_eq!(charge(numbers, &image, &[]), Err(Refusal::SpoiledBook), "{numbers:?}");
     }
     let mut odd = image.clone();
     *odd.last_mut().unwrap() = 1;
     assert_eq!(charge(fits, &odd, &[]), Err(Refusal::SpoiledBook));
 
     let over = vec![0; MOST_LENT + 1];
-    for lengths in [fits, shorter] {
-        assert_eq!(charge(lengths, &over, &[]), Err(Refusal::LendingTooLarge), "{lengths:?}");
-        assert_eq!(charge(lengths, &image, &over), Err(Refusal::LendingTooLarge), "{lengths:?}");
+    for numbers in [fits, shorter] {
+        assert_eq!(charge(numbers, &over, &[]), Err(Refusal::LendingTooLarge), "{numbers:?}");
+        assert_eq!(charge(numbers, &image, &over), Err(Refusal::LendingTooLarge), "{numbers:?}");
     }
     assert_eq!(charge(fits, &image, &over[1..]), Ok(34));
 }

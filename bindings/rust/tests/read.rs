@@ -1,8 +1,8 @@
 //! Reading by offset: every part beside the look at its place, and any bytes at any offset.
 
 use vtil::{
-    check, operation, read, read_at, BlockRef, Book, ConventionRef, Immediate, Instruction, InstructionRef, Lengths,
-    Links, Operand, Part, Refusal, Register, Registers, Routine, RoutineRef, Vip,
+    check, operation, read, read_at, BlockRef, Book, ConventionRef, Immediate, Instruction, InstructionRef, Links,
+    Numbers, Operand, Part, Rates, Refusal, Register, Registers, Routine, RoutineRef, Vip,
 };
 
 const ACCEPTED: [&str; 5] = ["minimal", "trailing", "odd-flags", "blocks", "all-operations"];
@@ -69,7 +69,7 @@ fn conventions(read: RoutineRef<'_>) -> impl Iterator<Item = ConventionRef<'_>> 
 fn samples_are_read_as_looks_show_them() {
     for name in ACCEPTED {
         let file = sample(name);
-        let routine = Routine::open(&file).unwrap();
+        let routine = Routine::open(&file, Rates::default()).unwrap();
         let look = routine.overview();
         for read in [read(&file).unwrap(), routine.read()] {
             assert_eq!((read.arch_id(), read.vip()), (look.machine, look.entry_vip), "{name}");
@@ -235,7 +235,7 @@ fn parts_are_read_at_any_offset() {
 fn a_book_is_read() {
     let file = sample("blocks");
     let (mut image, mut journal) = ([0xa5; 2000], [0x5a; 1000]);
-    let mut book = Book::open(&file, &mut image[..], &mut journal[..]).unwrap();
+    let mut book = Book::open(&file, &mut image[..], &mut journal[..], Rates::default()).unwrap();
     book.create_block(Vip(7)).unwrap();
     let other = read(&file).unwrap();
     for instruction in other.find_block(Vip(0x1000)).unwrap().instructions() {
@@ -257,12 +257,12 @@ fn a_book_is_read() {
 #[test]
 fn a_book_without_a_routine_is_refused() {
     let file = sample("minimal");
-    let at = |written, image: &[u8]| Book::resume(Lengths { written, used: 0 }, image.to_vec(), vec![]);
+    let at = |written, image: &[u8]| Book::resume(Numbers { written, ..Numbers::default() }, image.to_vec(), vec![]);
     assert_eq!(at(114, &file).read().map(|routine| routine.bytes().len()), Ok(114));
     assert_eq!(at(113, &file).read().map(|_| ()), Err(Refusal::ShortFile));
     assert_eq!(at(114, &[0; 114]).read().map(|_| ()), Err(Refusal::WrongMark));
     let mut book = at(114, &file);
-    assert_eq!(book.reopen(&sample("wrong-mark")), Err(Refusal::WrongMark));
+    assert_eq!(book.reopen(&sample("wrong-mark"), Rates::default()), Err(Refusal::WrongMark));
     assert_eq!(book.read().map(|_| ()), Err(Refusal::ShortFile));
 }
 

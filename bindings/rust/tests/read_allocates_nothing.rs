@@ -3,7 +3,7 @@
 use std::alloc::{GlobalAlloc, Layout, System};
 use std::cell::Cell;
 
-use vtil::{read, ConventionRef, Operand, Routine, RoutineRef};
+use vtil::{read, ConventionRef, Operand, Rates, Routine, RoutineRef};
 
 thread_local! {
     static ALLOCATIONS: Cell<usize> = const { Cell::new(0) };
@@ -61,7 +61,7 @@ fn count(routine: RoutineRef) -> [usize; 4] {
 fn nothing_is_allocated() {
     let path = format!("{}/../../samples/blocks.vtil", env!("CARGO_MANIFEST_DIR"));
     let file = std::fs::read(&path).unwrap_or_else(|error| panic!("{path}: {error}"));
-    let opened = Routine::open(&file).unwrap();
+    let opened = Routine::open(&file, Rates::default()).unwrap();
     let mut counted = [[0; 4]; 2];
     let allocations = allocations_of(|| counted = [count(read(&file).unwrap()), count(opened.read())]);
     assert_eq!((counted[0], allocations), (counted[1], 0));

@@ -1,13 +1,20 @@
 //! The crate over the archive: document 01's instances, the samples, and every kind of call and refusal.
 
 use vtil::{
-    check, operation, Immediate, Instruction, Links, Operand, Overview, Refusal, Register, Registers, Routine, Vip,
-    LONGEST_INSTRUCTION, OPERATIONS,
+    check, operation, Immediate, Instruction, Links, Operand, Overview, Rates, Refusal, Register, Registers, Routine,
+    Vip, LONGEST_INSTRUCTION, OPERATIONS,
 };
 
 fn sample(name: &str) -> Vec<u8> {
     let path = format!("{}/../../samples/{name}.vtil", env!("CARGO_MANIFEST_DIR"));
     std::fs::read(&path).unwrap_or_else(|error| panic!("{path}: {error}"))
+}
+
+/// Nothing is billed here.
+const FREE: Rates = Rates([0; 6]);
+
+fn opened(name: &str) -> Routine {
+    Routine::open(&sample(name), FREE).unwrap()
 }
 
 fn nop() -> Instruction {
@@ -35,7 +42,7 @@ fn samples_are_accepted_or_refused() {
             Ok(consumed) => assert!(words.starts_with(&format!("accepted, {consumed} bytes consumed")), "{line}"),
             Err(refusal) => assert_eq!(words, refusal.to_string()),
         }
-        assert_eq!(Routine::open(&file).map(|routine| routine.written().len()), check(&file), "{line}");
+        assert_eq!(Routine::open(&file, FREE).map(|routine| routine.written().len()), check(&file), "{line}");
     }
 }
 
@@ -53,16 +60,16 @@ fn refusals_have_numbers_and_words() {
 #[test]
 fn the_written_form_is_normal() {
     let file = sample("odd-flags");
-    let routine = Routine::open(&file).unwrap();
+    let routine = Routine::open(&file, FREE).unwrap();
     let changed: Vec<usize> = (0..file.len()).filter(|&i| file[i] != routine.written()[i]).collect();
     assert_eq!(changed, [5, 60, 173]);
-    assert_eq!(Routine::open(routine.written()).unwrap().written(), routine.written());
-    assert_eq!(Routine::open(&sample("trailing")).unwrap().written(), sample("minimal"));
+    assert_eq!(Routine::open(routine.written(), FREE).unwrap().written(), routine.written());
+    assert_eq!(opened("trailing").written(), sample("minimal"));
 }
 
 #[test]
 fn create_remove_and_undo() {
-    let mut routine = Routine::open(&sample("minimal")).unwrap();
+    let mut routine = opened("minimal");
     assert_eq!(routine.undo(), Err(Refusal::NothingToTakeBack));
     for vip in [5, 6, 7] {
         routine.create_block(Vip(vip)).unwrap();
@@ -93,7 +100,7 @@ fn append_and_look() {
         sp_reset: true,
     };
     assert_eq!((nop().to_bytes().unwrap().len(), mov.to_bytes().unwrap().len()), (32, 76));
-    let mut routine = Routine::open(&sample("minimal")).unwrap();
+    let mut routine = opened("minimal");
     assert_eq!(routine.append_instruction(Vip(1), &mov), Err(Refusal::NoSuchBlock));
     routine.create_block(Vip(1)).unwrap();
     routine.append_instruction(Vip(1), &mov).unwrap();
@@ -115,7 +122,7 @@ fn refused_instructions() {
     assert_eq!(with(jmp, vec![foreign; 4]), Err(Refusal::WrongOperandCount));
     assert_eq!(with(jmp, vec![foreign]), Err(Refusal::ForeignRegister));
 
-    let mut routine = Routine::open(&sample("odd-flags")).unwrap();
+    let mut routine = opened("odd-flags");
     let before = routine.written().to_vec();
     let bytes = nop().to_bytes().unwrap();
     let longer = [&bytes[..], &[0]].concat();
@@ -132,7 +139,7 @@ fn refused_instructions() {
 /// Each in a block of its own, since some of them close it.
 #[test]
 fn every_operation_is_written_and_read() {
-    let mut routine = Routine::open(&sample("minimal")).unwrap();
+    let mut routine = opened("minimal");
     let register = Operand::Register(Register::default());
     let mut longest = 0;
     for (op, (name, count)) in OPERATIONS.into_iter().enumerate() {
@@ -153,7 +160,7 @@ fn every_operation_is_written_and_read() {
 fn a_closed_block_takes_no_more() {
     for before in [None, Some(nop())] {
         for (op, (name, _)) in OPERATIONS.into_iter().enumerate() {
-            let mut routine = Routine::open(&sample("minimal")).unwrap();
+            let mut routine = opened("minimal");
             routine.create_block(Vip(5)).unwrap();
             before.iter().for_each(|nop| routine.append_instruction(Vip(5), nop).unwrap());
             routine.append_instruction(Vip(5), &instruction(op)).unwrap();
@@ -175,7 +182,7 @@ fn a_closed_block_takes_no_more() {
 #[test]
 fn undo_opens_a_closed_block() {
     for op in 37..=40 {
-        let mut routine = Routine::open(&sample("odd-flags")).unwrap();
+        let mut routine = opened("odd-flags");
         routine.append_instruction(Vip(5), &instruction(op)).unwrap();
         assert_eq!(routine.append_instruction(Vip(5), &nop()), Err(Refusal::ClosedBlock));
         routine.undo().unwrap();
@@ -189,7 +196,7 @@ fn undo_opens_a_closed_block() {
 #[test]
 fn closed_blocks_of_a_file() {
     let file = sample("blocks");
-    let mut routine = Routine::open(&file).unwrap();
+    let mut routine = Routine::open(&file, FREE).unwrap();
     for vip in vips(&routine) {
         assert_eq!(routine.append_instruction(Vip(vip), &nop()), Err(Refusal::ClosedBlock), "{vip:#x}");
     }
@@ -205,13 +212,13 @@ fn closed_blocks_of_a_file() {
     assert_eq!(routine.append_instruction(Vip(0x1010), &nop()), Err(Refusal::ClosedBlock));
     assert_eq!(routine.written(), file);
 
-    let mut open = Routine::open(&sample("all-operations")).unwrap();
+    let mut open = opened("all-operations");
     assert_eq!(open.append_instruction(Vip(1), &nop()), Ok(()));
 }
 
 #[test]
 fn looks_at_a_sample() {
-    let routine = Routine::open(&sample("blocks")).unwrap();
+    let routine = opened("blocks");
     let overview = Overview { machine: 0, entry_vip: Vip(0x1000), special_conventions: 2, blocks: 3 };
     assert_eq!(routine.overview(), overview);
     let first = routine.block(0).unwrap();
@@ -233,7 +240,7 @@ fn looks_at_a_sample() {
 /// Image and journal grow: more blocks than the first room holds, all taken back.
 #[test]
 fn room_grows() {
-    let mut routine = Routine::open(&sample("minimal")).unwrap();
+    let mut routine = opened("minimal");
     for vip in 0..1000 {
         routine.create_block(Vip(vip)).unwrap();
     }
@@ -247,7 +254,7 @@ fn room_grows() {
 
 #[test]
 fn a_copy_is_another_routine() {
-    let mut one = Routine::open(&sample("minimal")).unwrap();
+    let mut one = opened("minimal");
     one.create_block(Vip(1)).unwrap();
     let mut two = one.clone();
     two.undo().unwrap();
@@ -264,5 +271,5 @@ fn the_limit() {
     file.extend(links.to_le_bytes());
     file.resize(file.len() + 8 * links as usize + 4, 0);
     assert_eq!(check(&file), Ok(file.len()));
-    assert_eq!(Routine::open(&file).err(), Some(Refusal::ImageFull));
+    assert_eq!(Routine::open(&file, FREE).err(), Some(Refusal::ImageFull));
 }

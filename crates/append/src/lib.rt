@@ -82,8 +82,8 @@ fn is_closed(image: &[u8], last: LastInstruction) -> bool
     leaves_block(instruction::op_of(image, last.from))
 }
 
-// The instruction that `instruction` is, and nothing after it, goes last in the block with the vip: what reading refuses, 17, 15, 18, then 11, 12. The
-// walk to the block's last instruction also tells where the new one goes.
+// The instruction that `instruction` is, and nothing after it, goes last in the block with the vip: what reading refuses, 17, 15, 18, then 11, 12, and 13
+// where the sum is too large for what the instruction adds. The walk to the block's last instruction also tells where the new one goes.
 pub fn append(
     book: Book,
     image: &mut [u8],
@@ -116,6 +116,11 @@ pub fn append(
     if refusal != 0 {
         return book::refuse(book, refusal);
     }
+    let sum = book.sum;
+    let more = charge::sum_of_instruction(instruction, 0, book.rates);
+    if !book::can_add(sum, more) {
+        return book::refuse(book, book::SPOILED_BOOK);
+    }
     insert_instruction(image, found.at, last.end, written, instruction);
     journal::put_trailer(
         journal,
@@ -125,5 +130,5 @@ pub fn append(
         size as u32,
         journal::APPEND,
     );
-    book::accept(grown, spent)
+    book::accept(grown, spent, book.rates, sum + more)
 }

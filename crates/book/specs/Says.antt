@@ -14,7 +14,7 @@ use Rattle.book.specs.declared.Book.{Book}
 use Rattle.book.specs.declared.Answer.{Answer}
 
 abbrev pub book-of : Book → machine-book.Book
-book-of b = record { written = b .written; used = b .used }
+book-of b = record { written = b .written; used = b .used; rates = b .rates .rate; sum = b .sum }
 
 -- the state that a call finds
 abbrev pub state : List ℕ → List ℕ → Book → State
@@ -24,9 +24,9 @@ state image journal b = record { image = image; journal = journal; book = book-o
 abbrev pub leaving : State → machine.Answer × State
 leaving s = (accepted (book-answers s .0), s)
 
--- the answer and the state of taking back an entry
-abbrev pub taking-back : State → Outcome (Routine × ℕ) → machine.Answer × State
-taking-back s entry = attempt s (restored s entry)
+-- the answer and the state of taking back an entry, where the book holds r
+abbrev pub taking-back : State → Routine → Outcome (Routine × ℕ) → machine.Answer × State
+taking-back s r entry = attempt s (restored s r entry)
 
 -- the answer and the state that a call leaves
 abbrev pub outcome : Answer → List ℕ → List ℕ → machine.Answer × State

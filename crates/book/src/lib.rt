@@ -1,17 +1,28 @@
-// The book that a caller keeps, what a call on it answers, and the rates of a charge. Books and answers are built here, and nowhere else.
+// The book that a caller keeps, what a call on it answers, and the rates of a charge. Books and answers are built here, and nowhere else; and what edits
+// test last is tested here: 11 and 12, and of a sum whether it can be added to.
 ghost use mathlib.Core.Path.{_≡_};
 ghost use mathlib.Core.List.{List};
-ghost use Prim.Native.Nat.{ℕ, _<_};
+ghost use Prim.Native.Nat.{ℕ, _+_, _<_, _^_};
+ghost use lib.Dec.{ltb};
 ghost use Rattle.fields.specs.Outcome.{refused};
 ghost use Rattle.machine.specs.Book.{unopened};
 ghost use Rattle.machine.specs.Edits as edits;
 ghost use Rattle.book.specs.Says.{state, outcome, leaving, refusal-of};
 
-// Document 01's book: the written length of the routine in the image, and the journal bytes used.
+// The rates of the six groups of operations, in hundredths of a cent per instruction.
+#[repr(C)]
+pub struct Rates {
+    pub rate: [u32; 6],
+}
+
+// Document 01's book: the written length of the routine in the image, and the journal bytes used. And document 02's, d: the rates, fixed at opening, and
+// the running sum in hundredths of a cent.
 #[repr(C)]
 pub struct Book {
     pub written: u64,
     pub used: u64,
+    pub rates: Rates,
+    pub sum: u64,
 }
 
 // What opening, an edit or an undo answers: refusal 0 with the new book, or a refusal's number with the book as handed in (of an opening: a book
@@ -20,12 +31,6 @@ pub struct Book {
 pub struct Answer {
     pub refusal: u64,
     pub book: Book,
-}
-
-// The rates of the six groups of operations, in hundredths of a cent per instruction.
-#[repr(C)]
-pub struct Rates {
-    pub rate: [u32; 6],
 }
 
 // The refusals that calls on a book give beside those of reading, as the numbers that an answer holds.
@@ -54,7 +59,7 @@ pub fn refuse(book: Book, refusal: u64) -> Answer
     Answer { refusal, book }
 }
 
-// A refused opening answers its number, and a book of zeros.
+// A refused opening answers its number, and a book of zeros, rates and sum too.
 pub fn refuse_opening(refusal: u64) -> Answer
     ensures { λ r. ⌜ ((image journal : List ℕ) → 0 < refusal → outcome r image journal ≡ (refused refusal, unopened image journal)) ⌝ }
 {
@@ -63,19 +68,24 @@ pub fn refuse_opening(refusal: u64) -> Answer
         book: Book {
             written: 0,
             used: 0,
+            rates: Rates { rate: [0; 6] },
+            sum: 0,
         },
     }
 }
 
-// An accepted call answers the book of what is written and used after it.
-pub fn accept(written: usize, used: usize) -> Answer
-    ensures { λ r. ⌜ ((image journal : List ℕ) → outcome r image journal ≡ leaving (record { image = image; journal = journal; book = record { written = written; used = used } })) ⌝ }
+// An accepted call answers the book of what is written and used after it, the rates and the sum.
+pub fn accept(written: usize, used: usize, rates: Rates, sum: u64) -> Answer
+    ensures { λ r. ⌜ ((image journal : List ℕ) → outcome r image journal
+        ≡ leaving (record { image = image; journal = journal; book = record { written = written; used = used; rates = rates .rate; sum = sum } })) ⌝ }
 {
     Answer {
         refusal: 0,
         book: Book {
             written: written as u64,
             used: used as u64,
+            rates,
+            sum,
         },
     }
 }
@@ -91,4 +101,11 @@ pub fn admit(image_len: usize, journal_len: usize, written: usize, used: usize) 
         return JOURNAL_FULL;
     }
     0
+}
+
+// Whether a sum of 64 bits has 64 bits after adding. By a subtraction, which does not wrap.
+pub fn can_add(sum: u64, more: u64) -> bool
+    ensures { λ r. ⌜ r ≡ ltb (sum + more) (2 ^ 64) ⌝ }
+{
+    more <= 0xffff_ffff_ffff_ffff - sum
 }

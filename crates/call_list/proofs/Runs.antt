@@ -16,6 +16,7 @@ use Rattle.fields.specs.Lists.{choose, Each}
 use Rattle.fields.specs.Bytes.{Bytes}
 use Rattle.machine.specs.Edits.{create, remove, append}
 use Rattle.machine.specs.Machine.{Call, edit, undo, Sendable, Reply, Answer}
+use Rattle.machine.specs.Charge.{Rates}
 use Rattle.machine.specs.Book.{State, book-answers, unopened, opening, open-book, step, run}
 use Rattle.machine.specs.CallList.{is-call-list, call-of, call-at, calls, last-refusal, ran, run-on, open-and-run}
 use Rattle.demands.specs.Demand3.{Opening, fresh}
@@ -134,24 +135,24 @@ module _ (words bytes : List ℕ) (s : State) where
   ran-on h x e = rw (h, e)
 
 -- and from the opening of a file
-module _ (file image journal words bytes : List ℕ) where
-  pub no-list : is-call-list words bytes ≡ false → (15, 0, unopened image journal) ≡ told (open-and-run file image journal words bytes)
+module _ (file image journal words bytes : List ℕ) (rates : Rates) where
+  pub no-list : is-call-list words bytes ≡ false → (15, 0, unopened image journal) ≡ told (open-and-run file image journal words bytes rates)
   unfolding open-and-run refuse-unless choose after attempt refusal-of last-in
   no-list h = rw h
 
-  module _ (h : is-call-list words bytes ≡ true) (x : Answer × State) (e : x ≡ open-book file image journal) where
-    pub not-opened : {k : ℕ} → x .0 ≡ refused k → (k, 0, x .1) ≡ told (open-and-run file image journal words bytes)
+  module _ (h : is-call-list words bytes ≡ true) (x : Answer × State) (e : x ≡ open-book file image journal rates) where
+    pub not-opened : {k : ℕ} → x .0 ≡ refused k → (k, 0, x .1) ≡ told (open-and-run file image journal words bytes rates)
     unfolding open-and-run refuse-unless choose after attempt refusal-of last-in open-book
-    not-opened {k} q = rw h (go (opening file image journal) e)
+    not-opened {k} q = rw h (go (opening file image journal rates) e)
       where
         go : (o : Outcome (Reply × State)) → x ≡ attempt (unopened image journal) o
             → (k, 0, x .1) ≡ told (attempt (unopened image journal) (o >>= λ y. accepted (ran 0 (calls words bytes) (y .1))))
         go (refused j) w = let z : j ≡ k = cc in let v : x .1 ≡ unopened image journal = ap (λ y. y .1) w in rw (z, v)
         go (accepted y) w = let u : x .0 ≡ accepted (y .0) = ap (λ y. y .0) w in not-both (sym q ∙ u)
 
-    pub opened-ran : {b : Reply} → x .0 ≡ accepted b → (y : ℕ × State) → y ≡ ran 0 (calls words bytes) (x .1) → (0, y .0, y .1) ≡ told (open-and-run file image journal words bytes)
+    pub opened-ran : {b : Reply} → x .0 ≡ accepted b → (y : ℕ × State) → y ≡ ran 0 (calls words bytes) (x .1) → (0, y .0, y .1) ≡ told (open-and-run file image journal words bytes rates)
     unfolding open-and-run refuse-unless choose after attempt refusal-of last-in open-book
-    opened-ran {b} q y f = rw h (go (opening file image journal) e)
+    opened-ran {b} q y f = rw h (go (opening file image journal rates) e)
       where
         go : (o : Outcome (Reply × State)) → x ≡ attempt (unopened image journal) o
             → (0, y .0, y .1) ≡ told (attempt (unopened image journal) (o >>= λ y. accepted (ran 0 (calls words bytes) (y .1))))
@@ -183,16 +184,24 @@ agrees : (o : Opening) (cs : List Call) → Each Sendable cs → Agrees o cs (0,
 unfolding ran
 agrees o cs f =
     let g = follows o cs f in
-    record { refusal = refl; last = ap (last-refusal 0) (g .answers); image = g .image; written = g .written; used = g .used }
+    record {
+      refusal = refl;
+      last = ap (last-refusal 0) (g .answers);
+      image = g .image;
+      written = g .written;
+      used = g .used;
+      rates = g .rates;
+      sum-afresh = g .sum-afresh;
+    }
 
-module _ (file image journal words bytes : List ℕ) (w : (i : ℕ) → getD words i 0 < 2 ^ 64) (b : Bytes bytes) (x : ℕ × ℕ × State)
-    (e : x ≡ told (open-and-run file image journal words bytes)) where
-  claim : (o : Opening) → o .file ≡ file → o .image ≡ image → o .journal ≡ journal → is-call-list words bytes ≡ true
+module _ (file image journal words bytes : List ℕ) (rates : Rates) (w : (i : ℕ) → getD words i 0 < 2 ^ 64) (b : Bytes bytes) (x : ℕ × ℕ × State)
+    (e : x ≡ told (open-and-run file image journal words bytes rates)) where
+  claim : (o : Opening) → o .file ≡ file → o .image ≡ image → o .journal ≡ journal → o .rates ≡ rates → is-call-list words bytes ≡ true
       → Agrees o (calls words bytes) x
-  claim o p q r h =
-      let z : open-book (o .file) (o .image) (o .journal) ≡ open-book file image journal = rw (p, q, r) in
-      let n = opened-ran file image journal words bytes h (open-book (o .file) (o .image) (o .journal)) z (o .accepts) _ refl in
+  claim o p q r t h =
+      let z : open-book (o .file) (o .image) (o .journal) (o .rates) ≡ open-book file image journal rates = rw (p, q, r, t) in
+      let n = opened-ran file image journal words bytes rates h (open-book (o .file) (o .image) (o .journal) (o .rates)) z (o .accepts) _ refl in
       rw (e ∙ sym n) (agrees o (calls words bytes) (sent words bytes w b))
 
-  pub replays : Runs file image journal words bytes x
+  pub replays : Runs file image journal words bytes rates x
   replays = record { is = e; claim = claim }

@@ -1,5 +1,5 @@
 -- What is promised of the function that opens a file and runs a list of calls: what it leaves is what the definitions say, and where the opening is
--- accepted it is what the routine machine says, of every list at once. So what demand 3 says of the machine holds of code that runs.
+-- accepted it is what the routine machine says, with its routine's sum, of every list at once. So what demand 3 says of the machine holds of code that runs.
 use mathlib.Core.Path.{_≡_}
 use mathlib.Core.Bool.{true}
 use mathlib.Core.List.{List}
@@ -8,6 +8,7 @@ use lib.ListN.{length, getD}
 use Rattle.fields.specs.Bytes.{Bytes}
 use Rattle.machine.specs.Edits.{size}
 use Rattle.machine.specs.Machine.{Call, used-by}
+use Rattle.machine.specs.Charge.{Rates, sum}
 use Rattle.machine.specs.Book.{State, in-image}
 use Rattle.machine.specs.CallList.{is-call-list, calls, last-refusal, open-and-run}
 use Rattle.demands.specs.Demand3.{Opening, machine-runs, machine-after}
@@ -21,11 +22,14 @@ pub record Agrees (o : Opening) (cs : List Call) (x : ℕ × ℕ × State) : Typ
   pub image : x .2 .image ≡ in-image (length (o .image)) (machine-after o cs .now)
   pub written : x .2 .book .written ≡ size (machine-after o cs .now)
   pub used : x .2 .book .used ≡ used-by (machine-after o cs .stack)
+  pub rates : x .2 .book .rates ≡ o .rates
+  pub sum-afresh : x .2 .book .sum ≡ sum (o .rates) (machine-after o cs .now)
 
-pub record Runs (file image journal words bytes : List ℕ) (x : ℕ × ℕ × State) : Type 0 where
-  pub is : x ≡ told (open-and-run file image journal words bytes)
+pub record Runs (file image journal words bytes : List ℕ) (rates : Rates) (x : ℕ × ℕ × State) : Type 0 where
+  pub is : x ≡ told (open-and-run file image journal words bytes rates)
   pub claim :
-      (o : Opening) → o .file ≡ file → o .image ≡ image → o .journal ≡ journal → is-call-list words bytes ≡ true → Agrees o (calls words bytes) x
+      (o : Opening) → o .file ≡ file → o .image ≡ image → o .journal ≡ journal → o .rates ≡ rates → is-call-list words bytes ≡ true
+      → Agrees o (calls words bytes) x
 
 -- Words and bytes that encode a list of calls, and can be handed in: the words fit 64 bits where the bytes' length does, as every slice's does.
 -- Each list has some (`every`, proofs/Every.antt), so `Runs` leaves no list out.

@@ -1,6 +1,7 @@
 // A list of calls, run on a book that is there, or on a file from its opening on.
 use book::Answer;
 use book::Book;
+use book::Rates;
 use pod::Vip;
 ghost use mathlib.Core.Path.{_≡_};
 ghost use Rattle.machine.specs.Book.{step};
@@ -135,20 +136,21 @@ fn run_calls(book: Book, image: &mut [u8], journal: &mut [u8], words: &[u64], by
     Ran { last, book: held }
 }
 
-// Opens a file and runs a list of calls.
+// Opens a file at rates and runs a list of calls.
 pub fn run(
     file: &[u8],
     image: &mut [u8],
     journal: &mut [u8],
     words: &[u64],
     bytes: &[u8],
+    rates: Rates,
 ) -> RunAnswer
-    ensures { λ r. ⌜ Runs (now (file .entry)) (now (image .entry)) (now (journal .entry)) (now (words .entry)) (now (bytes .entry)) (run-outcome r (now (image .exit)) (now (journal .exit))) ⌝ }
+    ensures { λ r. ⌜ Runs (now (file .entry)) (now (image .entry)) (now (journal .entry)) (now (words .entry)) (now (bytes .entry)) (rates .rate) (run-outcome r (now (image .exit)) (now (journal .exit))) ⌝ }
 {
     if !is_call_list(words, bytes) {
         return not_run(book::refuse_opening(book::NO_SUCH_BLOCK));
     }
-    let opened = opening::open(file, image, journal);
+    let opened = opening::open(file, image, journal, rates);
     if opened.refusal != 0 {
         return not_run(opened);
     }

@@ -4,7 +4,7 @@ use mathlib.Core.Path.{_≡_}
 use mathlib.Core.List.{List}
 use lib.ListN.{length, getD}
 use Rattle.fields.specs.Parse.{Reader, ok, many}
-use Rattle.pod.specs.Values.{BasicBlock}
+use Rattle.pod.specs.Values.{Instruction, BasicBlock, Routine}
 use Rattle.pod.specs.Layout.{block}
 use Rattle.machine.specs.Charge.{Rates, group, total, block-sum}
 use Rattle.charge.specs.declared.Summed.{Summed}
@@ -13,6 +13,17 @@ use Rattle.charge.specs.declared.Summed.{Summed}
 pub record Table (rates : Rates) (t : List ℕ) : Type 0 where
   pub size : length t ≡ 49
   pub is : (op : ℕ) → op < 49 → getD t op 0 ≡ getD rates (group op) 0
+
+-- what a table has of an instruction
+abbrev pub in-table : List ℕ → Instruction → ℕ
+in-table t i = getD t (i .op) 0
+
+-- and of a block and a routine, all their instructions added up
+abbrev pub block-in : List ℕ → BasicBlock → ℕ
+block-in t b = total (in-table t) (b .instructions)
+
+abbrev pub routine-in : List ℕ → Routine → ℕ
+routine-in t r = total (block-in t) (r .explored-blocks)
 
 -- of what p reads at o: its sum as f says, and where it ends
 abbrev pub Sums : {A : Type 0} → Reader A → (A → ℕ) → List ℕ → ℕ → Summed → Type 0

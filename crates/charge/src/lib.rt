@@ -1,7 +1,8 @@
 // The charge for a routine, document 02, a. One walk over an inspected image: each instruction counts the rate of its operation's group, in hundredths of
-// a cent, and the sum is rounded up once.
+// a cent, and the sum is rounded up once. And what an instruction and a block come to, for the sum that a book carries.
 ghost use mathlib.Core.Path.{_≡_};
 ghost use Prim.Native.Nat.{ℕ};
+ghost use Rattle.pod.specs.Values.{BasicBlock};
 ghost use Rattle.fields.specs.Parse.{ok, many};
 ghost use Rattle.pod.specs.Values.{Instruction};
 ghost use Rattle.pod.specs.Layout.{instruction, block};
@@ -11,7 +12,7 @@ ghost use Rattle.machine.specs.Charge as charges;
 ghost use Rattle.machine.specs.Look.{look-charge};
 ghost use Rattle.book.specs.Says.{state};
 ghost use Rattle.charge.specs.Answers.{charge-look};
-ghost use Rattle.charge.specs.Sums.{Table, Sums, Summable};
+ghost use Rattle.charge.specs.Sums.{Table, in-table, Sums, Summable};
 use book::Book;
 use book::Rates;
 
@@ -23,7 +24,7 @@ pub struct ChargeLook {
 }
 
 // What was passed: its sum, in hundredths of a cent, and the offset past it.
-struct Summed {
+pub struct Summed {
     pub sum: u64,
     pub end: usize,
 }
@@ -44,7 +45,7 @@ fn group_of(op: usize) -> usize
 
 // The rate of each operation, that of its group. The walk looks here, and not at the groups' ranges: a test for each range is a jump that no processor
 // foresees.
-fn fill(table: &mut [u32], rates: Rates)
+pub fn fill(table: &mut [u32], rates: Rates)
     requires { ⌜ length (now table) ≡ 49 ⌝ }
     ensures { λ _. ⌜ Table (rates .rate) (now (table .exit)) ⌝ }
 {
@@ -56,9 +57,9 @@ fn fill(table: &mut [u32], rates: Rates)
     }
 }
 
-// The rate of the instruction at `at`, which was accepted before.
-fn rate_at(s: &[u8], at: usize, table: &[u32]) -> u32
-    ensures { λ r. ⌜ ((rates : charges.Rates) → Table rates (now (table .entry)) → (i : Instruction) (n : ℕ) → instruction (now (s .entry)) at ≡ ok i n → r ≡ rate-of rates i) ⌝ }
+// What the table has of the instruction at `at`, which was accepted before.
+pub fn rate_at(s: &[u8], at: usize, table: &[u32]) -> u32
+    ensures { λ r. ⌜ ((i : Instruction) (n : ℕ) → instruction (now (s .entry)) at ≡ ok i n → r ≡ in-table (now (table .entry)) i) ⌝ }
 {
     let op = instruction::op_of(s, at);
     if op < table.len() { table[op] } else { 0 }
@@ -108,6 +109,25 @@ fn blocks_sum(s: &[u8], at: usize, count: u32, table: &[u32]) -> Summed
         blocks -= 1;
     }
     Summed { sum, end: o }
+}
+
+// What an instruction at `at` comes to that was accepted before, in hundredths of a cent.
+pub fn sum_of_instruction(s: &[u8], at: usize, rates: Rates) -> u64
+    ensures { λ r. ⌜ ((i : Instruction) (n : ℕ) → instruction (now (s .entry)) at ≡ ok i n → r ≡ rate-of (rates .rate) i) ⌝ }
+{
+    let rate = rates.rate;
+    let op = instruction::op_of(s, at);
+    rate[group_of(op)] as u64
+}
+
+// What a block at `at` comes to that was accepted before.
+pub fn sum_of_block(s: &[u8], at: usize, rates: Rates) -> u64
+    ensures { λ r. ⌜ ((b : BasicBlock) (n : ℕ) → block (now (s .entry)) at ≡ ok b n → r ≡ block-sum (rates .rate) b) ⌝ }
+{
+    let mut table = [0; 49];
+    fill(&mut table, rates);
+    let passed = block_sum(s, at, &table);
+    passed.sum
 }
 
 // Hundredths rounded up to whole cents.

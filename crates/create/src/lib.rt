@@ -28,7 +28,7 @@ fn add_block(image: &mut [u8], written: usize, vip: Vip)
     buffer::put_u32(image, start - ends::COUNT_SIZE, count + 1);
 }
 
-// The block, where its vip is not present yet: 14, then 11, 12.
+// The block, where its vip is not present yet: 14, then 11, 12. It has no instructions, so the sum stays, whatever it is.
 pub fn create_block(book: Book, image: &mut [u8], journal: &mut [u8], vip: Vip) -> Answer
     requires { ⌜ Is-sound (state (now image) (now journal) book) ⌝ }
     ensures { λ r. ⌜ outcome r (now (image .exit)) (now (journal .exit)) ≡ step (edit (create (vip .0))) (state (now (image .entry)) (now (journal .entry)) book) ⌝ }
@@ -48,5 +48,5 @@ pub fn create_block(book: Book, image: &mut [u8], journal: &mut [u8], vip: Vip) 
     }
     add_block(image, written, vip);
     journal::put_trailer(journal, used, vip, count, 0, journal::CREATE);
-    book::accept(grown, spent)
+    book::accept(grown, spent, book.rates, book.sum)
 }

@@ -48,7 +48,7 @@ module _ (s : State) where
       → ((r r′ : Routine) → held s ≡ accepted r → edited e r ≡ accepted r′ → length (s .image) < size r′ → In (call-refusals (edit e)) 11)
       → Refuses (call-refusals (edit e)) s (step (edit e) s)
   unfolding step call-book
-  edit-calls e p₁₀ p₁₃ p₁₂ h f = attempted s _ (next-is (held s) _ (held-only p₁₃ p₁₀ s) λ r q. edit-book-only p₁₂ e s r (h r) (λ r′ x. f r r′ q x))
+  edit-calls e p₁₀ p₁₃ p₁₂ h f = attempted s _ (next-is (held s) _ (held-only p₁₃ p₁₀ s) λ r q. edit-book-only p₁₂ p₁₃ e s r (h r) (λ r′ x. f r r′ q x))
 
   -- a removal leaves less than the image held
   removal-fits : (v : ℕ) (r r′ : Routine) → held s ≡ accepted r → edited (remove v) r ≡ accepted r′ → length (s .image) < size r′ → ⊥
@@ -89,17 +89,18 @@ module _ (s : List ℕ) (o : ℕ) where
   vip-numbered : Reading (λ e. e ≡ 1) (u64 s o)
   vip-numbered = a-vip s refl o
 
-opens : (file image journal : List ℕ) → Refuses opening-refusals (unopened image journal) (open-book file image journal)
+opens : (file image journal : List ℕ) (rates : Rates) → Refuses opening-refusals (unopened image journal) (open-book file image journal rates)
 unfolding open-book has choose
-opens file image journal =
-    attempted (unopened image journal) _ (opening-only refl refl file image journal (a-routine file refl refl refl refl refl refl refl refl refl 0))
+opens file image journal rates =
+    attempted (unopened image journal) _ (opening-only refl refl file image journal rates (a-routine file refl refl refl refl refl refl refl refl refl 0))
 
-runs : (file image journal words bytes : List ℕ) → Refuses (no-such-block ∷ opening-refusals) (unopened image journal) (open-and-run file image journal words bytes)
+runs : (file image journal words bytes : List ℕ) (rates : Rates)
+    → Refuses (no-such-block ∷ opening-refusals) (unopened image journal) (open-and-run file image journal words bytes rates)
 unfolding open-and-run has choose
-runs file image journal words bytes =
+runs file image journal words bytes rates =
     attempted (unopened image journal) _
     (next _ _ (unless _ 15 refl) λ u.
-    next _ _ (opening-only refl refl file image journal (a-routine file refl refl refl refl refl refl refl refl refl 0)) λ x. accepts _)
+    next _ _ (opening-only refl refl file image journal rates (a-routine file refl refl refl refl refl refl refl refl refl 0)) λ x. accepts _)
 
 runs-on : (words bytes : List ℕ) (s : State) → Refuses (no-such-block ∷ []) s (run-on words bytes s)
 unfolding run-on has choose

@@ -13,6 +13,7 @@ use Rattle.pod.specs.Written.{routine-bytes}
 use Rattle.laws.proofs.Layouts.{routine-layout, injective}
 use Rattle.machine.specs.Edits.{size, Edit, create, remove, append, edited, Lengths, lengths}
 use Rattle.machine.specs.Machine.{Call, edit, undo, Sendable, Machine, start, used-by, machine-call, machine-step, machine-run}
+use Rattle.machine.specs.Charge.{sum}
 use Rattle.machine.specs.Book.{in-image, held, run}
 use Rattle.demands.specs.Demand3.{Opening, fresh, after-calls, machine-runs, machine-after, next-answer, written-bytes, is-accepted}
 use Rattle.demands.specs.Demand3.{edits-standing, Unspoiled, Follows, Told-apart, Standing-edit, Taken-back, Demand-3}
@@ -22,6 +23,7 @@ use Rattle.demands.proofs.Openings.{small, journal-small, fresh-sim}
 use Rattle.demands.proofs.Refusals.{an-instruction}
 use Rattle.fields.proofs.Only.{Only, attempts}
 use Rattle.demands.proofs.Only.{created-only, removed-only, appended-only, machine-edit-only, machine-undo-only}
+use Rattle.demands.proofs.OneCall.{keeps-sum, sum-last}
 use Rattle.demands.proofs.Stacks.{each-append, run-append, Along, run-along, top-stands, returns}
 
 -- the machine answers neither 10 nor 13
@@ -57,8 +59,8 @@ module _ (o : Opening) (cs : List Call) (f : Each Sendable cs) where
   abbrev lent : Lengths
   lent = lengths (o .image) (o .journal)
 
-  simulated : (run cs (fresh o) .0 ≡ machine-runs o cs .0) × Sim lent (machine-after o cs) (after-calls o cs)
-  simulated = run-sim lent (small o) (journal-small o) cs (start (o .routine)) (fresh o) f (fresh-sim o)
+  simulated : (run cs (fresh o) .0 ≡ machine-runs o cs .0) × Sim lent (o .rates) (machine-after o cs) (after-calls o cs)
+  simulated = run-sim lent (small o) (journal-small o) (o .rates) (o .rates-fit) cs (start (o .routine)) (fresh o) f (fresh-sim o)
 
   pub follows : Follows o cs
   follows =
@@ -68,7 +70,9 @@ module _ (o : Opening) (cs : List Call) (f : Each Sendable cs) where
         image = ap (λ x. x .image) (s .is);
         written = ap (λ x. x .book .written) (s .is);
         used = ap (λ x. x .book .used) (s .is) ∙ sym (linked-used (lent .image) (machine-after o cs .now) (machine-after o cs .stack) (s .j) (s .link));
-        holds = ap held (s .is) ∙ holds-it lent (small o) (journal-small o) (machine-after o cs .now) (s .j) (s .holds) (s .room) (s .journal-room);
+        rates = ap (λ x. x .book .rates) (s .is);
+        sum-afresh = ap (λ x. x .book .sum) (s .is);
+        holds = ap held (s .is) ∙ holds-it lent (small o) (journal-small o) (o .rates) (o .rates-fit) (machine-after o cs .now) (s .j) (s .holds) (s .room) (s .journal-room);
       }
 
   -- the written bytes are the written form of the machine's routine
@@ -97,8 +101,14 @@ module _ (o : Opening) (cs ds : List Call) (f : Each Sendable cs) (g : Each Send
   same-used : after-calls o cs .book .used ≡ after-calls o ds .book .used
   same-used = follows o cs f .used ∙ ap (λ m. used-by (m .stack)) same ∙ sym (follows o ds g .used)
 
+  same-rates : after-calls o cs .book .rates ≡ after-calls o ds .book .rates
+  same-rates = follows o cs f .rates ∙ sym (follows o ds g .rates)
+
+  same-sum : after-calls o cs .book .sum ≡ after-calls o ds .book .sum
+  same-sum = follows o cs f .sum-afresh ∙ ap (λ m. sum (o .rates) (m .now)) same ∙ sym (follows o ds g .sum-afresh)
+
   same-book : after-calls o cs .book ≡ after-calls o ds .book
-  same-book i = record { written = same-written i; used = same-used i }
+  same-book i = record { written = same-written i; used = same-used i; rates = same-rates i; sum = same-sum i }
 
 module _ (o : Opening) (cs : List Call) (f : Each Sendable cs) where
   abbrev lent′ : Lengths
@@ -128,4 +138,4 @@ module _ (o : Opening) (cs : List Call) (f : Each Sendable cs) where
       }
 
 pub demand-3 : Demand-3
-demand-3 = record { follows = follows; never-spoiled = never-spoiled; told-apart = told-apart; undoes = undoes; taken-back = taken-back }
+demand-3 = record { follows = follows; never-spoiled = never-spoiled; told-apart = told-apart; undoes = undoes; taken-back = taken-back; keeps-sum = keeps-sum; sum-last = λ c s r f n i j h. sum-last s r f n i j h c }

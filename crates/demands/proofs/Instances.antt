@@ -1,8 +1,9 @@
 -- Every starred instance holds: each is computed by the definitions.
 use mathlib.Core.Path.{refl}
+use native.Mathlib.Omega.{arith}
 use Rattle.fields.specs.Parse.{bind, le, uint, int, part, many, span, pad, flag}
 use Rattle.fields.specs.Bytes.{put}
-use Rattle.fields.specs.Outcome.{after, refuse-if, refuse-unless, what-is-read, attempt}
+use Rattle.fields.specs.Outcome.{after, refusal-of, refuse-if, refuse-unless, what-is-read, attempt}
 use Rattle.fields.specs.Lists.{choose, same, has, last-of, but-last, last-is}
 use Rattle.op.specs.Ops.{names, counts, index-of}
 use Rattle.op.specs.Text.{lead, next-state, text}
@@ -18,14 +19,14 @@ use Rattle.machine.specs.Charge as c
 use Rattle.demands.specs.Instances.{Instances}
 
 pub instances : Instances
-unfolding refuse-if refuse-unless what-is-read attempt bind choose le uint int part many span pad flag after names counts same index-of lead
+unfolding refusal-of refuse-if refuse-unless what-is-read attempt bind choose le uint int part many span pad flag after names counts same index-of lead
     next-state text has repeats layout.header layout.register layout.immediate layout.operand layout.named layout.opcode layout.after-opcode
     layout.instruction layout.convention layout.block layout.blocks layout.routine w.bytes w.many-bytes w.counted-bytes w.header-bytes
     w.register-bytes w.immediate-bytes w.operand-bytes w.name-bytes w.instruction-bytes w.convention-bytes w.block-head-bytes w.block-bytes
     w.routine-head-bytes w.routine-bytes e.place last-of but-last last-is e.remove-at e.insert-at e.change-at e.leaves-block e.edited e.cost e.admit m.used-by m.machine-edit
     m.machine-undo m.machine-call m.machine-step m.machine-run tr.trailer-bytes tr.trailer j.read-size j.entry j.is-fresh j.or-spoiled j.whole
     j.undo-create j.undo-remove j.without-last j.undo-append j.undo-entry j.undone put b.in-image b.opened b.opening b.open-book b.held
-    b.edit-book b.restored b.undo-book b.call-book b.step b.run c.group c.total c.cents
+    b.edit-book b.restored b.undo-book b.call-book b.step b.run c.group c.total c.cents c.subtracted c.added c.carried
 instances =
     record {
       smallest-read = refl;
@@ -68,4 +69,19 @@ instances =
       library-closing = refl;
       library-closed-refused = refl;
       library-opened-again = refl;
+      sums = refl;
+      rates-stay = refl;
+      removed-short = refl;
+      undone-short = refl;
+      appended-over = refl;
+      restored-over = refl;
+      created-any = refl;
+      uncreated-any = refl;
+      full-first = refl;
+      refused-opening = refl;
+      largest-rates = (omega arith, (omega arith, (omega arith, (omega arith, (omega arith, (omega arith, tt))))));
+      own-rates = refl;
+      opened-sum = refl;
+      image-full-first = refl;
+      charged-afresh = refl;
     }

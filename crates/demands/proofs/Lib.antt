@@ -1,5 +1,6 @@
 pub mod Openings
 pub mod Stacks
+pub mod OneCall
 pub mod Refusals
 pub mod Only
 pub mod Demand1

@@ -17,6 +17,7 @@ use Rattle.machine.specs.Trailer.{Trailer}
 use Rattle.machine.specs.Edits.{size, Edit, create, remove, append, edited, Lengths, admit}
 use Rattle.machine.specs.Machine.{Stack, Machine, machine-edit, machine-undo}
 use Rattle.machine.specs.Journal.{undo-create, undo-append, undo-entry, undone}
+use Rattle.machine.specs.Charge.{Rates, subtracted, added, carried}
 use Rattle.machine.specs.Book.{State, opened, opening, edit-book, restored, undo-book}
 use Rattle.machine.specs.Look.{element, vip-list, register-list}
 use Rattle.fields.proofs.Only.{Only, refuses, accepts, next-is, next, either, unless, when}
@@ -54,11 +55,17 @@ module _ {P : ℕ → Type 0} where
     appended-only p₁₇ p₁₈ v s h r =
         next _ _ (reads _ h) λ x. next _ _ (when _ 17 p₁₇) λ u. next _ _ (unless _ 15 p₁₅) λ w. next _ _ (when _ 18 p₁₈) λ w. accepts _
 
+  -- the sum's
+  carried-only : P 13 → (rates : Rates) (r r′ : Routine) (n : ℕ) → Only P (carried rates r r′ n)
+  unfolding carried subtracted added
+  carried-only p₁₃ rates r r′ n = next _ _ (next _ _ (unless _ 13 p₁₃) λ u. accepts _) λ m. next _ _ (unless _ 13 p₁₃) λ u. accepts _
+
   -- what follows them
-  pub edit-book-only : P 12 → (e : Edit) (s : State) (r : Routine) → Only P (edited e r) → ((r′ : Routine) → edited e r ≡ accepted r′ → length (s .image) < size r′ → P 11)
+  pub edit-book-only : P 12 → P 13 → (e : Edit) (s : State) (r : Routine) → Only P (edited e r) → ((r′ : Routine) → edited e r ≡ accepted r′ → length (s .image) < size r′ → P 11)
       → Only P (edit-book e s r)
   unfolding edit-book
-  edit-book-only p₁₂ e s r h f = next-is _ _ h λ r′ q. next _ _ (admit-only p₁₂ _ _ _ (f r′ q)) λ u. accepts _
+  edit-book-only p₁₂ p₁₃ e s r h f =
+      next-is _ _ h λ r′ q. next _ _ (admit-only p₁₂ _ _ _ (f r′ q)) λ u. next _ _ (carried-only p₁₃ _ _ _ _) λ n. accepts _
 
   pub machine-edit-only : P 11 → P 12 → (lent : Lengths) (e : Edit) (m : Machine) → Only P (edited e (m .now)) → Only P (machine-edit lent e m)
   unfolding machine-edit
@@ -90,12 +97,12 @@ module _ {P : ℕ → Type 0} where
 
     pub undo-book-only : P 16 → (s : State) (r : Routine) → Only P (undo-book s r)
     unfolding undo-book restored
-    undo-book-only p₁₆ s r = next _ _ (when _ 16 p₁₆) λ u. next _ _ (undone-only _ r _) λ x. accepts _
+    undo-book-only p₁₆ s r = next _ _ (when _ 16 p₁₆) λ u. next _ _ (undone-only _ r _) λ x. next _ _ (carried-only p₁₃ _ _ _ _) λ n. accepts _
 
   -- opening: 10, reading, 11
-  pub opening-only : P 10 → P 11 → (file image journal : List ℕ) → Reading P (read-file file) → Only P (opening file image journal)
+  pub opening-only : P 10 → P 11 → (file image journal : List ℕ) (rates : Rates) → Reading P (read-file file) → Only P (opening file image journal rates)
   unfolding opening opened
-  opening-only p₁₀ p₁₁ file image journal h = next _ _ (unless _ 10 p₁₀) λ u. next _ _ (reads _ h) λ x. next _ _ (unless _ 11 p₁₁) λ u. accepts _
+  opening-only p₁₀ p₁₁ file image journal rates h = next _ _ (unless _ 10 p₁₀) λ u. next _ _ (reads _ h) λ x. next _ _ (unless _ 11 p₁₁) λ u. accepts _
 
   -- a look: 15 where a place is not there
   module _ (p₁₅ : P 15) where

@@ -18,6 +18,7 @@ use Rattle.pod.specs.Layout.{read-file}
 use Rattle.laws.proofs.Layouts.{routine-layout, read-holds}
 use Rattle.machine.specs.Edits.{size, lengths}
 use Rattle.machine.specs.Machine.{Reply, start}
+use Rattle.machine.specs.Charge.{Rates, Fit-rates, sum}
 use Rattle.machine.specs.Book.{holding, unopened, opened, opening, open-book}
 use Rattle.machine.proofs.Held.{both}
 use Rattle.machine.proofs.Simulation.{Sim, state-of}
@@ -32,10 +33,10 @@ pub record Opens (file image journal : List ℕ) : Type 0 where
   pub small : length image ≤ most-lent
   pub journal-small : length journal ≤ most-lent
 
-pub opens : (file image journal : List ℕ) {reply : Reply} → open-book file image journal .0 ≡ accepted reply → Opens file image journal
+pub opens : (file image journal : List ℕ) (rates : Rates) {reply : Reply} → open-book file image journal rates .0 ≡ accepted reply → Opens file image journal
 unfolding open-book opening opened
-opens file image journal a =
-    let y = attempt-was (unopened image journal) (opening file image journal) a in
+opens file image journal rates a =
+    let y = attempt-was (unopened image journal) (opening file image journal rates) a in
     let l = unless-passed 10 _ _ (y .1) in
     let lent = both (leb (length image) most-lent) (leb (length journal) most-lent) (l .0) in
     let x = came (what-is-read (read-file file)) _ (l .1) in
@@ -50,31 +51,34 @@ opens file image journal a =
     }
 
 -- so an opening is asked for nothing but that it is accepted
-abbrev pub opening-of : (file image journal : List ℕ) (reply : Reply) → Bytes file → open-book file image journal .0 ≡ accepted reply → Opening
-opening-of file image journal reply f a =
-    let o = opens file image journal a in
+abbrev pub opening-of : (file image journal : List ℕ) (rates : Rates) (reply : Reply) → Bytes file → Fit-rates rates
+    → open-book file image journal rates .0 ≡ accepted reply → Opening
+opening-of file image journal rates reply f t a =
+    let o = opens file image journal rates a in
     record {
       file = file;
       image = image;
       journal = journal;
+      rates = rates;
       reply = reply;
       bytes = f;
+      rates-fit = t;
       accepts = a;
       routine = o .routine;
       end = o .end;
       reads = o .reads;
     }
 
-fresh-is : (file image journal : List ℕ) {r : Routine} {n : ℕ} → read-file file ≡ ok r n → length image ≤ most-lent → length journal ≤ most-lent → size r ≤ length image
-    → open-book file image journal .1 ≡ state-of (lengths image journal) r []
+fresh-is : (file image journal : List ℕ) (rates : Rates) {r : Routine} {n : ℕ} → read-file file ≡ ok r n → length image ≤ most-lent → length journal ≤ most-lent
+    → size r ≤ length image → open-book file image journal rates .1 ≡ state-of (lengths image journal) rates r []
 unfolding open-book opening opened refuse-unless choose after what-is-read attempt
-fresh-is file image journal {r} {n} e i j k =
+fresh-is file image journal rates {r} {n} e i j k =
     rw (le-leb (length image) most-lent i, le-leb (length journal) most-lent j, e, le-leb (size r) (length image) k)
-    (ap (λ m. holding (length image) r 0 (zeros m)) (sym (sub-zero (length journal))))
+    (ap (λ m. holding (length image) r (zeros m) 0 rates (sum rates r)) (sym (sub-zero (length journal))))
 
 module _ (o : Opening) where
   given : Opens (o .file) (o .image) (o .journal)
-  given = opens (o .file) (o .image) (o .journal) (o .accepts)
+  given = opens (o .file) (o .image) (o .journal) (o .rates) (o .accepts)
 
   pub small : length (o .image) ≤ most-lent
   small = given .small
@@ -89,11 +93,11 @@ module _ (o : Opening) where
       let e : given .routine ≡ o .routine = cc in
       rw (← e) (given .room)
 
-  pub fresh-sim : Sim (lengths (o .image) (o .journal)) (start (o .routine)) (fresh o)
+  pub fresh-sim : Sim (lengths (o .image) (o .journal)) (o .rates) (start (o .routine)) (fresh o)
   fresh-sim =
       record {
         j = [];
-        is = fresh-is (o .file) (o .image) (o .journal) (o .reads) small journal-small room;
+        is = fresh-is (o .file) (o .image) (o .journal) (o .rates) (o .reads) small journal-small room;
         room = room;
         journal-room = omega arith;
         holds = read-holds routine-layout (o .bytes) (o .reads);

@@ -46,7 +46,8 @@ charge-refusals = lending-too-large ∷ spoiled-book ∷ []
 abbrev pub writer-refusals : List ℕ
 writer-refusals = lending-too-large ∷ unknown-operation ∷ wrong-operand-count ∷ foreign-register ∷ unknown-operand-kind ∷ image-full ∷ []
 
--- of each call on a book, after 10 and 13: create 14, 11, 12; remove 15, 12; append the instruction's, 17, 15, 18, 11, 12; take back 16
+-- of each call on a book, after 10 and 13: create 14, 11, 12; remove 15, 12; append the instruction's, 17, 15, 18, 11, 12; take back 16. The sum's 13 comes
+-- last; create never gets it
 abbrev pub call-refusals : Call → List ℕ
 call-refusals (edit (create v)) = lending-too-large ∷ spoiled-book ∷ block-present ∷ image-full ∷ journal-full ∷ []
 call-refusals (edit (remove v)) = lending-too-large ∷ spoiled-book ∷ no-such-block ∷ journal-full ∷ []
@@ -71,11 +72,12 @@ pub record Demand-1 : Type 0 where
   pub reading-block : (s : List ℕ) (o e : ℕ) → block s o ≡ no e → has e instruction-refusals ≡ true
   pub reading-instruction : (s : List ℕ) (o e : ℕ) → instruction s o ≡ no e → has e instruction-refusals ≡ true
   pub reading-vip : (s : List ℕ) (o e : ℕ) → u64 s o ≡ no e → e ≡ short-file
-  -- image and journal stay, and the book is one of zeros
-  pub opening : (file image journal : List ℕ) → Refuses opening-refusals (unopened image journal) (open-book file image journal)
+  -- image and journal stay, and the book is one of zeros, whatever the rates
+  pub opening : (file image journal : List ℕ) (rates : Rates) → Refuses opening-refusals (unopened image journal) (open-book file image journal rates)
   pub calling : (c : Call) (s : State) → Refuses (call-refusals c) s (step c s)
   -- a run over a list, from an opening or on a book: 15 for words that are no list
-  pub running : (file image journal words bytes : List ℕ) → Refuses (no-such-block ∷ opening-refusals) (unopened image journal) (open-and-run file image journal words bytes)
+  pub running : (file image journal words bytes : List ℕ) (rates : Rates)
+      → Refuses (no-such-block ∷ opening-refusals) (unopened image journal) (open-and-run file image journal words bytes rates)
   pub running-on : (words bytes : List ℕ) (s : State) → Refuses (no-such-block ∷ []) s (run-on words bytes s)
   -- a look leaves nothing, nor does the charge
   pub at-routine : (s : State) → Numbered look-refusals (look-routine s)

@@ -1,28 +1,33 @@
--- Demand 3, whole: one claim about every file, every pair of lendings whose opening is accepted, and every list of calls.
-use Prim.Native.Nat.{ℕ}
+-- Demand 3, whole: one claim about every file, every pair of lendings and all rates whose opening is accepted, and every list of calls; and about one
+-- call on any book.
+use Prim.Native.Nat.{ℕ, _+_, _<_, _^_}
 use mathlib.Core.Path.{_≡_}
-use mathlib.Core.Bool.{Bool, true, false}
+use mathlib.Core.Bool.{Bool, true, false, _&&_}
 use mathlib.Core.List.{List, [], _∷_, _++_}
 use lib.ListN.{length, take}
+use lib.Dec.{leb, ltb}
 use Rattle.fields.specs.Refusals.{lending-too-large, spoiled-book}
 use Rattle.fields.specs.Parse.{ok}
 use Rattle.fields.specs.Outcome.{Outcome, refused, accepted}
-use Rattle.fields.specs.Lists.{Each}
+use Rattle.fields.specs.Lists.{choose, Each}
 use Rattle.fields.specs.Bytes.{Bytes}
 use Rattle.pod.specs.Values.{Routine}
 use Rattle.pod.specs.Layout.{read-file}
 use Rattle.machine.specs.Edits.{size, lengths}
 use Rattle.machine.specs.Machine.{Call, edit, undo, Sendable, Reply, Answer, Machine, start, used-by, machine-run, machine-step}
-use Rattle.machine.specs.Book.{State, in-image, held, open-book, run}
+use Rattle.machine.specs.Charge.{Rates, Fit-rates, sum}
+use Rattle.machine.specs.Book.{State, in-image, held, open-book, step, run}
 
--- an accepted opening of a file into two lendings
+-- an accepted opening of a file into two lendings, at rates of 32 bits
 pub record Opening : Type 0 where
   pub file : List ℕ
   pub image : List ℕ
   pub journal : List ℕ
+  pub rates : Rates
   pub reply : Reply
   pub bytes : Bytes file
-  pub accepts : open-book file image journal .0 ≡ accepted reply
+  pub rates-fit : Fit-rates rates
+  pub accepts : open-book file image journal rates .0 ≡ accepted reply
   -- what the file says: the routine that the machine starts from
   pub routine : Routine
   pub end : ℕ
@@ -30,7 +35,7 @@ pub record Opening : Type 0 where
 
 -- the fresh book, and the book after a list of calls
 abbrev pub fresh : Opening → State
-fresh o = open-book (o .file) (o .image) (o .journal) .1
+fresh o = open-book (o .file) (o .image) (o .journal) (o .rates) .1
 
 abbrev pub after-calls : Opening → List Call → State
 after-calls o cs = run cs (fresh o) .1
@@ -78,13 +83,15 @@ abbrev pub Unspoiled : {A : Type 0} → Outcome A → Type 0
 Unspoiled (accepted a) = Unit
 Unspoiled (refused e) = (e ≡ lending-too-large → ⊥) × (e ≡ spoiled-book → ⊥)
 
--- every answer equals the machine's; the image holds the written form of the machine's routine, then zeros; the book its length and used; and a look at
--- the book is a look at the machine's routine
+-- every answer equals the machine's; the image holds the written form of the machine's routine, then zeros; the book its length and used, the rates of
+-- the opening, and the sum worked afresh at these on the machine's routine; and a look at the book is a look at that routine
 pub record Follows (o : Opening) (cs : List Call) : Type 0 where
   pub answers : run cs (fresh o) .0 ≡ machine-runs o cs .0
   pub image : after-calls o cs .image ≡ in-image (length (o .image)) (machine-after o cs .now)
   pub written : after-calls o cs .book .written ≡ size (machine-after o cs .now)
   pub used : after-calls o cs .book .used ≡ used-by (machine-after o cs .stack)
+  pub rates : after-calls o cs .book .rates ≡ o .rates
+  pub sum-afresh : after-calls o cs .book .sum ≡ sum (o .rates) (machine-after o cs .now)
   pub holds : held (after-calls o cs) ≡ accepted (machine-after o cs .now)
 
 -- two books hold equal written bytes exactly when the machine ends in equal routines
@@ -105,6 +112,35 @@ pub record Taken-back (o : Opening) (cs earlier : List Call) : Type 0 where
   pub image : after-calls o (cs ++ (undo ∷ [])) .image ≡ after-calls o earlier .image
   pub book : after-calls o (cs ++ (undo ∷ [])) .book ≡ after-calls o earlier .book
 
+-- An accepted call on any book that is not spoiled, whatever its rates and its sum are: the book after it is not spoiled, the rates stay, and the sum
+-- changes by exactly what the routine's sum changes by
+pub record Keeps-sum (c : Call) (s : State) (r : Routine) : Type 0 where
+  -- the routine after the call
+  pub routine : Routine
+  pub holds : held (step c s .1) ≡ accepted routine
+  pub rates : step c s .1 .book .rates ≡ s .book .rates
+  pub sum-changes : step c s .1 .book .sum + sum (s .book .rates) r ≡ s .book .sum + sum (s .book .rates) routine
+
+-- the same book with the sum worked afresh on r
+abbrev pub afresh : Routine → State → State
+afresh r s =
+    record {
+      image = s .image;
+      journal = s .journal;
+      book = record { written = s .book .written; used = s .book .used; rates = s .book .rates; sum = sum (s .book .rates) r };
+    }
+
+-- a sum n that changes as `before` does to `after` is neither below 0 nor too large for 64 bits
+abbrev pub can-change : ℕ → ℕ → ℕ → Bool
+can-change before after n = leb before (n + after) && ltb (n + after) (2 ^ 64 + before)
+
+-- The sum's test, and that it comes last: whatever the sum, a call is refused as on the book with the sum worked afresh; and where it is accepted there,
+-- it is answered the same, or 13 where the sum cannot change as that one does
+pub record Sum-last (c : Call) (s : State) (r : Routine) : Type 0 where
+  pub refuses : (e : ℕ) → step c (afresh r s) .0 ≡ refused e → step c s .0 ≡ refused e
+  pub tests : (a : Reply) → step c (afresh r s) .0 ≡ accepted a
+      → step c s .0 ≡ choose (can-change (sum (s .book .rates) r) (step c (afresh r s) .1 .book .sum) (s .book .sum)) (accepted a) (refused spoiled-book)
+
 pub record Demand-3 : Type 0 where
   pub follows : (o : Opening) (cs : List Call) → Each Sendable cs → Follows o cs
   -- the machine gives neither 10 nor 13, so in these lists no call does
@@ -113,3 +149,8 @@ pub record Demand-3 : Type 0 where
   -- where a take back is accepted, an edit stands; and where one stands, a take back is accepted and returns to what was before the last that does
   pub undoes : (o : Opening) (cs : List Call) → Each Sendable cs → is-accepted (next-answer o cs undo) ≡ true → Standing-edit o cs
   pub taken-back : (o : Opening) (cs : List Call) → Each Sendable cs → (s : Standing-edit o cs) → Taken-back o cs (s .earlier)
+  -- one call, also on a book that no list led to
+  pub keeps-sum : (c : Call) (s : State) (r : Routine) → Sendable c → Bytes (s .image) → Bytes (s .journal) → held s ≡ accepted r → is-accepted (step c s .0) ≡ true
+      → Keeps-sum c s r
+  pub sum-last : (c : Call) (s : State) (r : Routine) → Fit-rates (s .book .rates) → s .book .sum < 2 ^ 64 → Bytes (s .image) → Bytes (s .journal) → held s ≡ accepted r
+      → Sum-last c s r

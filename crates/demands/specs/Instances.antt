@@ -1,5 +1,5 @@
--- Document 01's starred instances, and some of the charge and of closed blocks, as one claim about the layouts, the machine and the charge.
-use Prim.Native.Nat.{ℕ, _+_}
+-- Document 01's starred instances, and some of the charge, of closed blocks and of the running sum, as one claim about the layouts, the machine and the charge.
+use Prim.Native.Nat.{ℕ, _+_, _-_, _^_}
 use mathlib.Core.Path.{_≡_}
 use mathlib.Core.Bool.{Bool, true, false}
 use mathlib.Core.List.{List, [], _∷_, _++_, map}
@@ -7,19 +7,20 @@ use lib.ListN.{length, take, getD, replicate}
 use lib.IntN.{pos}
 use Rattle.fields.specs.Parse.{ok, no, span}
 use Rattle.fields.specs.Bytes.{zeros}
-use Rattle.fields.specs.Outcome.{Outcome, refused, accepted}
+use Rattle.fields.specs.Outcome.{Outcome, refused, accepted, refusal-of}
 use Rattle.op.specs.Ops.{number}
 use Rattle.pod.specs.Values.{Instruction, RoutineConvention, Routine}
 use Rattle.pod.specs.Blocks.{vips}
 use Rattle.pod.specs.Layout.{instruction, read-file}
-use Rattle.pod.specs.Written.{bytes, instruction-bytes}
+use Rattle.pod.specs.Written.{bytes, instruction-bytes, routine-bytes}
 use Rattle.pod.specs.declared.RegisterDesc.{RegisterDesc}
 use Rattle.pod.specs.declared.Operand.{Operand}
 use Rattle.pod.specs.declared.Operand.the-variants.{Imm, Reg}
 use Rattle.machine.specs.Edits.{create, remove, append, edited, empty-block, with-instructions, with-blocks, leaves-block, is-closed}
 use Rattle.machine.specs.Machine.{Call, edit, undo, Answer, start, machine-run}
-use Rattle.machine.specs.Book.{State, held, open-book, run}
-use Rattle.machine.specs.Charge.{group, sum, cents}
+use Rattle.machine.specs.Book.{Book, State, held, open-book, step, run}
+use Rattle.machine.specs.Charge.{Rates, Fit-rates, group, rate-of, sum, cents}
+use Rattle.machine.specs.Look.{look-charge}
 
 -- a header: its marks, machine and pad
 abbrev pub header-of : ℕ → ℕ → ℕ → ℕ → List ℕ
@@ -35,7 +36,7 @@ odd = header-of 0x4c495456 2 255 0xdead ++ (zeros 52 ++ (7 ∷ zeros 53))
 
 -- the image that an opening leaves of n bytes that were 9
 abbrev pub image-of : ℕ → List ℕ → List ℕ
-image-of n file = open-book file (replicate n 9) [] .1 .image
+image-of n file = open-book file (replicate n 9) [] (replicate 6 0) .1 .image
 
 -- a file up to the id of the routine convention's frame register
 abbrev pub up-to-id : ℕ → List ℕ
@@ -96,7 +97,7 @@ vips-after cs = vips (machine-run (record { image = 222; journal = 116 }) cs (st
 
 -- the same of the library's steps, from the opening of the smallest file; the vips are those of the routine that the book then holds
 abbrev pub library-run : List Call → List Answer × State
-library-run cs = run cs (open-book smallest (replicate 222 9) (replicate 116 9) .1)
+library-run cs = run cs (open-book smallest (replicate 222 9) (replicate 116 9) (replicate 6 0) .1)
 
 abbrev pub library-answer-to : List Call → Answer
 library-answer-to cs = last-answer (library-run cs .0)
@@ -157,6 +158,49 @@ appends-behind = closes ++ (append-to-5 a-nop ∷ [])
 abbrev pub opens-again : List Call
 opens-again = closes ++ (undo ∷ append-to-5 a-nop ∷ [])
 
+-- six rates that differ: a nop counts 130, and a jmp 5
+abbrev pub six-rates : Rates
+six-rates = 1 ∷ 2 ∷ 3 ∷ 4 ∷ 5 ∷ 130 ∷ []
+
+-- the smallest file, opened at them into an image of 300 and a journal of n bytes, and the book after a list of calls
+abbrev pub charged-run : ℕ → List Call → State
+charged-run n cs = run cs (open-book smallest (replicate 300 9) (replicate n 9) six-rates .1) .1
+
+abbrev pub book-after : List Call → Book
+book-after cs = charged-run 220 cs .book
+
+-- create 5, append a nop; and then append a jmp, remove 5, and take all three back
+abbrev pub appends-nop : List Call
+appends-nop = edit (create 5) ∷ append-to-5 a-nop ∷ []
+
+abbrev pub and-back : List Call
+and-back = append-to-5 a-jmp ∷ edit (remove 5) ∷ undo ∷ undo ∷ undo ∷ []
+
+-- a state whose book is handed in with the sum n
+abbrev pub handed : ℕ → State → State
+handed n s =
+    record {
+      image = s .image;
+      journal = s .journal;
+      book = record { written = s .book .written; used = s .book .used; rates = s .book .rates; sum = n };
+    }
+
+-- a call's refusal, and the sum after it
+abbrev pub told-sum : Answer × State → ℕ × ℕ
+told-sum x = (refusal-of (x .0), x .1 .book .sum)
+
+-- of one call on the book after the calls cs, handed in with the sum n. After create 5 and the nop 40 bytes of the journal are used
+abbrev pub on-sum : ℕ → List Call → Call → ℕ → ℕ × ℕ
+on-sum journal cs c n = told-sum (step c (handed n (charged-run journal cs)))
+
+-- the largest sum
+abbrev pub most-sum : ℕ
+most-sum = 2 ^ 64 - 1
+
+-- the two nops, opened at the six rates into an image of n bytes
+abbrev pub two-opened : ℕ → State
+two-opened n = open-book (routine-bytes two-nops) (replicate n 9) (replicate 40 9) six-rates .1
+
 pub record Instances : Type 0 where
   -- Header of machine 2 and 106 zeros: consumed 114. Its first 113: 1. Empty: 1
   pub smallest-read : read-file smallest ≡ ok smallest-routine 114
@@ -214,3 +258,31 @@ pub record Instances : Type 0 where
   pub library-closing : library-answer-to closes ≡ answered 198 40
   pub library-closed-refused : library-answer-to appends-behind ≡ refused 18
   pub library-opened-again : library-answer-to opens-again ≡ answered 182 40
+  -- At six rates, on the 114 bytes: create 5 leaves the sum 0; append a nop 130, a jmp 135; remove 5 leaves 0; taken back one by one 135, 130 and 0
+  pub sums : map (λ k. book-after (take k (appends-nop ++ and-back)) .sum) (0 ∷ 1 ∷ 2 ∷ 3 ∷ 4 ∷ 5 ∷ 6 ∷ 7 ∷ []) ≡ 0 ∷ 0 ∷ 130 ∷ 135 ∷ 0 ∷ 135 ∷ 130 ∷ 0 ∷ []
+  pub rates-stay : book-after (appends-nop ++ and-back) .rates ≡ six-rates
+  -- A block of one nop: a sum of 129 is smaller than what its removal, or taking the append back, subtracts, and 130 is not
+  pub removed-short : map (on-sum 220 appends-nop (edit (remove 5))) (0 ∷ 129 ∷ 130 ∷ most-sum ∷ []) ≡ (13, 0) ∷ (13, 129) ∷ (0, 0) ∷ (0, most-sum - 130) ∷ []
+  pub undone-short : map (on-sum 220 appends-nop undo) (0 ∷ 129 ∷ 130 ∷ most-sum ∷ []) ≡ (13, 0) ∷ (13, 129) ∷ (0, 0) ∷ (0, most-sum - 130) ∷ []
+  -- Another nop, or the block restored, adds 130: a sum of 2^64 is too large, and one less is not
+  pub appended-over : map (on-sum 220 appends-nop (append-to-5 a-nop)) (0 ∷ (most-sum - 130) ∷ (most-sum - 129) ∷ most-sum ∷ []) ≡ (0, 130) ∷ (0, most-sum) ∷ (13, most-sum - 129) ∷ (13, most-sum) ∷ []
+  pub restored-over :
+      map (on-sum 220 (appends-nop ++ (edit (remove 5) ∷ [])) undo) (0 ∷ (most-sum - 130) ∷ (most-sum - 129) ∷ most-sum ∷ []) ≡ (0, 130) ∷ (0, most-sum) ∷ (13, most-sum - 129) ∷ (13, most-sum) ∷ []
+  -- Create and its take back take any sum
+  pub created-any : map (on-sum 220 appends-nop (edit (create 6))) (0 ∷ most-sum ∷ []) ≡ (0, 0) ∷ (0, most-sum) ∷ []
+  pub uncreated-any : map (on-sum 220 (edit (create 5) ∷ []) undo) (0 ∷ most-sum ∷ []) ≡ (0, 0) ∷ (0, most-sum) ∷ []
+  -- In a journal of 40 bytes the removal and the append are 12, whatever the sum
+  pub full-first : map (on-sum 40 appends-nop (edit (remove 5))) (0 ∷ most-sum ∷ []) ++ map (on-sum 40 appends-nop (append-to-5 a-nop)) (0 ∷ most-sum ∷ [])
+      ≡ (12, 0) ∷ (12, most-sum) ∷ (12, 0) ∷ (12, most-sum) ∷ []
+  -- A refused opening answers a book of zeros, whatever the rates
+  pub refused-opening : open-book (take 113 smallest) [] [] six-rates .1 .book ≡ record { written = 0; used = 0; rates = 0 ∷ 0 ∷ 0 ∷ 0 ∷ 0 ∷ 0 ∷ []; sum = 0 }
+  -- Any rates of 32 bits can be handed in
+  pub largest-rates : Fit-rates (replicate 6 (2 ^ 32 - 1))
+  -- Each group counts at its own rate
+  pub own-rates : map (λ op. rate-of six-rates (plain op [])) (0 ∷ 4 ∷ 15 ∷ 26 ∷ 37 ∷ 41 ∷ []) ≡ six-rates
+  -- An opening works the sum out: two nops
+  pub opened-sum : two-opened 250 .book .sum ≡ 260
+  -- In an image without room an append is 11, whatever the sum
+  pub image-full-first : map (λ n. told-sum (step (edit (append 1 (instruction-bytes a-nop))) (handed n (two-opened 250)))) (0 ∷ most-sum ∷ []) ≡ (11, 0) ∷ (11, most-sum) ∷ []
+  -- The charge is worked afresh at the rates handed in, whatever rates and sum the book has
+  pub charged-afresh : look-charge (7 ∷ 7 ∷ 7 ∷ 7 ∷ 7 ∷ 100 ∷ []) (handed 1 (two-opened 250)) ≡ accepted 2

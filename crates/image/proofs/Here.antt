@@ -1,4 +1,5 @@
--- The block at a place of an image that begins with a routine's written form: its bytes stand at its start, and the walk ends it where they end.
+-- The block at a place of an image that begins with a routine's written form: its bytes stand at its start, are read there, and the walk ends it where
+-- they end.
 -- By splitting the blocks at the place.
 -- Assumes nothing.
 use mathlib.Core.Path.{_≡_, refl, ap, _∙_}
@@ -7,8 +8,11 @@ use Prim.Native.Nat.{ℕ, suc, _+_, _-_, _<_}
 use native.Mathlib.Omega.{arith}
 use lib.ListN.{length, take, drop}
 use lib.Seq.{split-at, take-at}
+use Rattle.fields.specs.Parse.{ok}
 use Rattle.laws.specs.At.{At}
+use Rattle.laws.proofs.Layouts.{block-layout}
 use Rattle.pod.specs.Values.{BasicBlock, Routine}
+use Rattle.pod.specs.Layout.{block}
 use Rattle.pod.specs.Written.{block-bytes}
 use Rattle.ends.specs.Ends.{blockEnd}
 use Rattle.machine.specs.Edits.{empty-block, block-at, size}
@@ -44,3 +48,7 @@ module _ (r : Routine) (i : ℕ) (h : i < length (r .explored-blocks)) where
 
     pub end-here : (at : ℕ) → at ≡ block-start r i → blockEnd image at ≡ at + weight here
     end-here at e = rw e (block-far (block-start r i) here (block-holds held i h) stands)
+
+    -- and it is read there
+    pub read-here : (at : ℕ) → at ≡ block-start r i → block image at ≡ ok here (at + weight here)
+    read-here at e = rw e (block-layout .back here (block-holds held i h) image (block-start r i) stands)

@@ -3,7 +3,7 @@
 -- Assumes nothing.
 use mathlib.Core.Path.{_≡_, refl, sym, ap, _∙_}
 use mathlib.Core.List.{List}
-use Prim.Native.Nat.{ℕ, zero, suc, _+_, _-_, _<_}
+use Prim.Native.Nat.{ℕ, zero, suc, _+_, _-_, _≤_, _<_}
 use native.Mathlib.Omega.{arith}
 use lib.ListN.{length, getD}
 use Rattle.fields.specs.Parse.{ok}
@@ -50,6 +50,16 @@ module _ (x : Routine) (i : ℕ) where
             let k : length is - 1 ≡ length is = omega arith in
             absurd (e (z .from ∙ ap (instruction-start x i) k ∙ sym (z .end)))
         go (suc n) q = omega arith
+
+    -- in that order
+    pub ordered : last .from ≤ last .end
+    ordered = go (length is) refl
+      where
+        go : (n : ℕ) → length is ≡ n → last .from ≤ last .end
+        go zero q =
+            let k : length is - 1 ≡ length is = omega arith in
+            omega (arith, z .from ∙ ap (instruction-start x i) k ∙ sym (z .end))
+        go (suc n) q = omega (arith, final-size (omega arith))
 
     pub final-read : {s : List ℕ} → Holding s x → i < length (x .explored-blocks) → 0 < length is → (n : ℕ) × (instruction s (last .from) ≡ ok (final b) n)
     final-read {s} h l n =

@@ -3,14 +3,14 @@
 -- Assumes nothing.
 use mathlib.Core.Path.{_≡_, refl, sym, ap, _∙_}
 use mathlib.Core.List.{List, [], _∷_, _++_, append-assoc}
-use Prim.Native.Nat.{ℕ, zero, suc, _+_, _-_, _<_}
+use Prim.Native.Nat.{ℕ, suc, _+_, _-_, _<_}
 use native.Mathlib.Omega.{arith}
 use lib.ListN.{length, take, drop, length-append, length-drop}
 use lib.Seq.{split-at, take-at}
 use Rattle.fields.specs.Lists.{last-of, but-last}
 use Rattle.pod.specs.Values.{BasicBlock}
 use Rattle.machine.specs.Edits.{empty-block, block-at, remove-at, insert-at}
-use Rattle.machine.proofs.Lists.{total, total-snoc, but-last-snoc, snoc-but-last, snoc-last}
+use Rattle.machine.proofs.Lists.{but-last-snoc, snoc-but-last, snoc-last}
 
 -- the last block goes
 pub remove-end : (p : List BasicBlock) (b : BasicBlock) → remove-at (length p) (p ++ (b ∷ [])) ≡ p
@@ -38,14 +38,6 @@ pub insert-mid : (b : BasicBlock) (p : List BasicBlock) (y : BasicBlock) (m : Li
 unfolding insert-at
 insert-mid b [] y m = refl
 insert-mid b (x ∷ p) y m = ap (λ l. x ∷ l) (insert-mid b p y m)
-
--- a sum over the blocks with one more
-pub total-insert : (f : BasicBlock → ℕ) (i : ℕ) (b : BasicBlock) (bs : List BasicBlock) → total f (insert-at i b bs) ≡ total f bs + f b
-unfolding total insert-at
-total-insert f zero b [] = omega arith
-total-insert f zero b (x ∷ bs) = omega (arith, total-snoc f bs x)
-total-insert f (suc i) b [] = omega arith
-total-insert f (suc i) b (x ∷ bs) = omega (arith, total-insert f i b bs)
 
 -- the block at a place that is not the last: those between it and the last, and the last
 pub record Between (i : ℕ) (bs : List BasicBlock) : Type 0 where

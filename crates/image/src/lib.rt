@@ -157,17 +157,6 @@ pub fn instruction_offset(image: &[u8], at: usize, k: u32) -> usize
     ends::instructions_end(image, a, k)
 }
 
-// The offset past the instructions of the block at offset `at`.
-pub fn instructions_end(image: &[u8], at: usize) -> usize
-    ensures { λ r. ⌜ ((x : Routine) (i : ℕ) → Holding (now (image .entry)) x → i < length (x .explored-blocks) → at ≡ block-start x i
-        → r ≡ instruction-start x i (length (block-at i (x .explored-blocks) .instructions))) ⌝ }
-{
-    let a = ends::jump(image, at, ends::BLOCK_HEAD_SIZE);
-    let count = ends::word32(image, a);
-    let b = ends::jump(image, a, ends::COUNT_SIZE);
-    ends::instructions_end(image, b, count)
-}
-
 // The last instruction of the block at offset `at`, in one walk over those before it.
 pub fn last_instruction(image: &[u8], at: usize) -> LastInstruction
     ensures { λ r. ⌜ ((x : Routine) (i : ℕ) → Holding (now (image .entry)) x → i < length (x .explored-blocks) → at ≡ block-start x i → Finds-last x i r) ⌝ }

@@ -15,6 +15,7 @@ use Rattle.pod.specs.Values.{Routine}
 use Rattle.machine.specs.Edits.{size, Edit, edited, Lengths, admit}
 use Rattle.machine.specs.Machine.{Call, edit, undo, Answer}
 use Rattle.machine.specs.Journal.{entry, undone}
+use Rattle.machine.specs.Charge.{carried}
 use Rattle.machine.specs.Book.{State, holding, book-answers, held, edit-book, restored, undo-book, call-book, step}
 
 -- 11, 12, or neither
@@ -80,11 +81,18 @@ module _ (s : State) (r : Routine) (h : held s ≡ accepted r) where
     pub edit-journal-full : size r′ ≤ N → length (s .journal) < spent → step (edit e) s ≡ (refused 12, s)
     edit-journal-full n m = edit-not-admitted (not-admitted-12 lent (size r′) spent n m)
 
-    pub edit-done : admit lent (size r′) spent ≡ accepted tt → step (edit e) s ≡ left (holding N r′ spent (put (s .book .used) (entry e r) (s .journal)))
-    unfolding step call-book edit-book attempt after
-    edit-done n = rw (h, q, n)
+    -- the sum's 13, and none of them
+    module _ (a : admit lent (size r′) spent ≡ accepted tt) where
+      pub edit-spoiled : {k : ℕ} → carried (s .book .rates) r r′ (s .book .sum) ≡ refused k → step (edit e) s ≡ (refused k, s)
+      unfolding step call-book edit-book attempt after
+      edit-spoiled c = rw (h, q, a, c)
 
-  -- take back: nothing is used, the entry does not fit, or it does
+      pub edit-done : {n : ℕ} → carried (s .book .rates) r r′ (s .book .sum) ≡ accepted n
+          → step (edit e) s ≡ left (holding N r′ (put (s .book .used) (entry e r) (s .journal)) spent (s .book .rates) n)
+      unfolding step call-book edit-book attempt after
+      edit-done c = rw (h, q, a, c)
+
+  -- take back: nothing is used, the entry does not fit, the sum does not, or both do
   pub undo-empty : s .book .used ≡ 0 → step undo s ≡ (refused 16, s)
   unfolding step call-book undo-book attempt after refuse-if choose
   undo-empty z = rw (h, eq-eqb (s .book .used) 0 z)
@@ -93,7 +101,7 @@ module _ (s : State) (r : Routine) (h : held s ≡ accepted r) where
     abbrev last : Outcome (Routine × ℕ)
     last = undone (length (s .image)) r (take (s .book .used) (s .journal))
 
-    pub undo-is : step undo s ≡ attempt s (restored s last)
+    pub undo-is : step undo s ≡ attempt s (restored s r last)
     unfolding step call-book undo-book after refuse-if choose
     undo-is = rw (h, ne-eqb (s .book .used) 0 (λ e. omega arith))
 
@@ -101,7 +109,11 @@ module _ (s : State) (r : Routine) (h : held s ≡ accepted r) where
     unfolding restored attempt after
     undo-spoiled q = undo-is ∙ rw q
 
-    pub undo-done : {x : Routine × ℕ} → last ≡ accepted x
-        → step undo s ≡ left (holding (length (s .image)) (x .0) (s .book .used - x .1) (put (s .book .used - x .1) (zeros (x .1)) (s .journal)))
+    pub undo-sum-spoiled : {x : Routine × ℕ} → last ≡ accepted x → {k : ℕ} → carried (s .book .rates) r (x .0) (s .book .sum) ≡ refused k → step undo s ≡ (refused k, s)
     unfolding restored attempt after
-    undo-done q = undo-is ∙ rw q
+    undo-sum-spoiled q c = undo-is ∙ rw (q, c)
+
+    pub undo-done : {x : Routine × ℕ} → last ≡ accepted x → {n : ℕ} → carried (s .book .rates) r (x .0) (s .book .sum) ≡ accepted n
+        → step undo s ≡ left (holding (length (s .image)) (x .0) (put (s .book .used - x .1) (zeros (x .1)) (s .journal)) (s .book .used - x .1) (s .book .rates) n)
+    unfolding restored attempt after
+    undo-done q c = undo-is ∙ rw (q, c)

@@ -21,9 +21,11 @@ use Rattle.op.proofs.Same.{same-yes, same-eq}
 use Rattle.pod.specs.Values.{Routine}
 use Rattle.pod.specs.Layout.{read-file}
 use Rattle.pod.specs.Written.{routine-bytes}
+use Rattle.laws.specs.Holds.{Routine-holds}
 use Rattle.laws.proofs.Layouts.{routine-layout, read-all, read-holds}
 use Rattle.machine.specs.Journal.{or-spoiled, whole}
-use Rattle.machine.specs.Book.{State, in-image, held}
+use Rattle.machine.specs.Charge.{Rates}
+use Rattle.machine.specs.Book.{State, in-image, holding, held}
 use Rattle.machine.specs.Sound.{Sound}
 use Rattle.machine.specs.Edits.{size}
 
@@ -63,6 +65,21 @@ sound-held {s} {r} g =
     let x : read-file (take (size r) (s .image)) ≡ ok r (size r) = ap read-file t ∙ read-all routine-layout r (g .holds) in
     rw (le-leb n most-lent (g .image-lent), le-leb (length (s .journal)) most-lent (g .journal-lent), g .written, le-leb (size r) n (g .room), le-leb (s .book .used) (length (s .journal)) (g .used))
     (rw (whole-yes routine-bytes (take (size r) (s .image)) (read-file (take (size r) (s .image))) x t, same-yes (drop (size r) (s .image)) (zeros (n - size r)) d))
+
+-- a book of a routine that the layouts hold, and that fits, with no more used than the journal has
+pub holding-held : (n : ℕ) (r : Routine) (journal : List ℕ) (used : ℕ) (rates : Rates) (sum : ℕ) → Routine-holds r → size r ≤ n → used ≤ length journal
+    → n ≤ most-lent → length journal ≤ most-lent → held (holding n r journal used rates sum) ≡ accepted r
+holding-held n r journal used rates sum o room u small journal-small =
+    let l = length-image n r room in
+    sound-held (record {
+      image-lent = rw l small;
+      journal-lent = journal-small;
+      used = u;
+      written = refl;
+      room = rw l room;
+      image = ap (λ i. in-image i r) (sym l);
+      holds = o;
+    })
 
 pub both : (t u : Bool) → (t && u) ≡ true → (t ≡ true) × (u ≡ true)
 both true u q = (refl, q)

@@ -21,7 +21,7 @@ use Rattle.pod.specs.Written.{many-bytes, instruction-bytes, block-bytes, routi
 use Rattle.laws.specs.Holds.{Instruction-holds, Block-holds, Routine-holds}
 use Rattle.laws.proofs.Layouts.{instruction-layout, read-holds, read-to, read-within}
 use Rattle.laws.proofs.Sizes.{instruction-size, block-size, block-least, block-empty, routine-size}
-use Rattle.machine.specs.Edits.{Edit, create, remove, append, present, place, empty-block, block-at, remove-at, change-at, append-to, with-blocks, is-closed, edited, size}
+use Rattle.machine.specs.Edits.{Edit, create, remove, append, present, place, empty-block, block-at, remove-at, change-at, append-to, with-instructions, with-blocks, is-closed, edited, size}
 use Rattle.machine.specs.Machine.{edit, Sendable}
 use Rattle.machine.proofs.Lists.{total, total-snoc, total-least, many-total, total-remove, total-change, each-snoc, each-at, each-remove}
 use Rattle.machine.proofs.Lists.{each-change, one, one-same, one-other, found, absent-count, once-count, count-once}
@@ -115,7 +115,7 @@ module _ (r : Routine) where
         omega (arith, size-blocks r (change-at i (append-to x) blocks), size-blocks r blocks, total-change weight i (append-to x) blocks h, weight-append x (block-at i blocks))
 
 -- What the layouts hold: a routine of blocks that are held, without a vip twice, and not too large
-made : (r : Routine) (bs : List BasicBlock) → Routine-holds r → Each Block-holds bs → ((v : ℕ) → total (one v) bs ≤ 1) → size (with-blocks bs r) ≤ most-lent
+pub made : (r : Routine) (bs : List BasicBlock) → Routine-holds r → Each Block-holds bs → ((v : ℕ) → total (one v) bs ≤ 1) → size (with-blocks bs r) ≤ most-lent
     → Routine-holds (with-blocks bs r)
 made r bs h e u n =
     record {
@@ -140,34 +140,43 @@ empty-holds v h =
       next = record { count = omega arith; each = tt };
     }
 
-append-holds : (i : Instruction) (b : BasicBlock) → Block-holds b → Instruction-holds i → weight (append-to i b) ≤ most-lent → Block-holds (append-to i b)
-append-holds i b h k n =
+-- a block with other instructions that are held, and not too large
+pub recoded : (b : BasicBlock) (is : List Instruction) → Block-holds b → Each Instruction-holds is → weight (with-instructions is b) ≤ most-lent
+    → Block-holds (with-instructions is b)
+recoded b is h e n =
     record {
       vip = h .vip;
       sp-offset = h .sp-offset;
       sp-index = h .sp-index;
       last-temporary = h .last-temporary;
-      instructions = record {
-        count = omega (arith, instructions-few (append-to i b));
-        each = each-snoc Instruction-holds (b .instructions) i (h .instructions .each) k;
-      };
+      instructions = record { count = omega (arith, instructions-few (with-instructions is b)); each = e };
       prev = h .prev;
       next = h .next;
     }
 
-same-one : (u : ℕ) (i : Instruction) (b : BasicBlock) → one u (append-to i b) ≡ one u b
+same-one : (u : ℕ) (a b : BasicBlock) → a .vip ≡ b .vip → one u a ≡ one u b
 unfolding one
-same-one u i b = refl
+same-one u a b e = rw e
+
+-- a routine with a block changed that keeps its vip
+pub changed : (r : Routine) (i : ℕ) (g : BasicBlock → BasicBlock) → Routine-holds r → let bs = r .explored-blocks in i < length bs → Block-holds (g (block-at i bs))
+    → g (block-at i bs) .vip ≡ block-at i bs .vip → size (with-blocks (change-at i g bs) r) ≤ most-lent → Routine-holds (with-blocks (change-at i g bs) r)
+changed r i g h w k v n =
+    let bs = r .explored-blocks in
+    made r (change-at i g bs) h
+    (each-change Block-holds i g bs (h .blocks .listed .each) w k)
+    (λ u. omega (arith, total-change (one u) i g bs w, same-one u (g (block-at i bs)) (block-at i bs) v, once-count u bs (h .blocks .distinct)))
+    n
 
 -- no vip twice, with one more that was absent
-snoc-once : (bs : List BasicBlock) (v : ℕ) → present v bs ≡ false → repeats (vips bs) ≡ false → (w : ℕ) → total (one w) (bs ++ (empty-block v ∷ [])) ≤ 1
-snoc-once bs v a d w = omega (arith, total-snoc (one w) bs (empty-block v), go (eqb v w) refl)
+pub once-more : (bs : List BasicBlock) (b : BasicBlock) → present (b .vip) bs ≡ false → repeats (vips bs) ≡ false → (w : ℕ) → total (one w) bs + one w b ≤ 1
+once-more bs b a d w = go (eqb (b .vip) w) refl
   where
-    go : (t : Bool) → eqb v w ≡ t → total (one w) bs + one w (empty-block v) ≤ 1
+    go : (t : Bool) → eqb (b .vip) w ≡ t → total (one w) bs + one w b ≤ 1
     go true q =
-        let e = eqb-true v w q in
-        omega (arith, one-same w (empty-block v) e, absent-count w bs (rw e at a))
-    go false q = omega (arith, one-other w (empty-block v) (eqb-false v w q), once-count w bs d)
+        let e = eqb-true (b .vip) w q in
+        omega (arith, one-same w b e, absent-count w bs (rw e at a))
+    go false q = omega (arith, one-other w b (eqb-false (b .vip) w q), once-count w bs d)
 
 pub keeps : (e : Edit) (r r′ : Routine) → Sendable (edit e) → Routine-holds r → Did e r r′ → size r′ ≤ most-lent → Routine-holds r′
 keeps (create v) r r′ f h d n =
@@ -175,7 +184,7 @@ keeps (create v) r r′ f h d n =
     rw (d .1)
     (made r (bs ++ (empty-block v ∷ [])) h
     (each-snoc Block-holds bs (empty-block v) (h .blocks .listed .each) (empty-holds v f))
-    (snoc-once bs v (d .0) (h .blocks .distinct))
+    (λ u. omega (arith, total-snoc (one u) bs (empty-block v), once-more bs (empty-block v) (d .0) (h .blocks .distinct) u))
     (rw (d .1) at n))
 keeps (remove v) r r′ f h d n =
     let bs = r .explored-blocks in
@@ -188,14 +197,12 @@ keeps (remove v) r r′ f h d n =
 keeps (append v s) r r′ f h d n =
     let bs = r .explored-blocks in
     let i = place v bs in
-    let g = append-to (d .instruction′) in
+    let x = d .instruction′ in
+    let g = append-to x in
+    let b = block-at i bs in
     let w = found v bs (d .there) .within in
+    let l = each-at Block-holds (empty-block 0) i bs (h .blocks .listed .each) w in
     let m : size (with-blocks (change-at i g bs) r) ≤ most-lent = rw (d .is) at n in
-    let k : weight (g (block-at i bs)) ≤ most-lent =
-    omega (arith, size-blocks r (change-at i g bs), total-change weight i g bs w, total-remove weight i bs w) in
-    rw (d .is)
-    (made r (change-at i g bs) h
-    (each-change Block-holds i g bs (h .blocks .listed .each) w
-    (append-holds (d .instruction′) (block-at i bs) (each-at Block-holds (empty-block 0) i bs (h .blocks .listed .each) w) (d .holds) k))
-    (λ u. omega (arith, total-change (one u) i g bs w, same-one u (d .instruction′) (block-at i bs), once-count u bs (h .blocks .distinct)))
-    m)
+    let k : weight (g b) ≤ most-lent = omega (arith, size-blocks r (change-at i g bs), total-change weight i g bs w, total-remove weight i bs w) in
+    let y = recoded b (b .instructions ++ (x ∷ [])) l (each-snoc Instruction-holds (b .instructions) x (l .instructions .each) (d .holds)) k in
+    rw (d .is) (changed r i g h w y refl m)

@@ -2,6 +2,7 @@ pub mod Lists
 pub mod Keeps
 pub mod Undo
 pub mod Held
+pub mod Restores
 pub mod Simulation
 pub mod Parts
 pub mod Calls

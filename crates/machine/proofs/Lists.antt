@@ -6,7 +6,7 @@ use mathlib.Core.List.{List, [], _∷_, _++_}
 use Prim.Native.Nat.{ℕ, zero, suc, _+_, _-_, _*_, _≤_, _<_}
 use native.Mathlib.Nat.{not-suc-le-zero, le-of-suc-le-suc}
 use native.Mathlib.Omega.{arith}
-use lib.ListN.{length, getD, length-append}
+use lib.ListN.{length, getD, take, length-append}
 use lib.Dec.{eqb}
 use borrow.Author.Tests.{eqb-true, eqb-false, eq-eqb, ne-eqb}
 use Rattle.fields.specs.Lists.{choose, has, Each, last-of, but-last, last-is}
@@ -14,19 +14,16 @@ use Rattle.pod.specs.Values.{BasicBlock}
 use Rattle.pod.specs.Blocks.{vips, repeats}
 use Rattle.pod.specs.Written.{many-bytes}
 use Rattle.machine.specs.Edits.{present, place, block-at, remove-at, insert-at, change-at}
+unfoldable pub use Rattle.machine.specs.Charge.{total}
 
--- a sum over a list
-unfoldable pub total : {A : Type 0} → (A → ℕ) → List A → ℕ
-total f [] = 0
-total f (x ∷ xs) = f x + total f xs
-
+-- sums over a list
 module _ {A : Type 0} (f : A → ℕ) where
   pub total-snoc : (xs : List A) (x : A) → total f (xs ++ (x ∷ [])) ≡ total f xs + f x
   unfolding total
   total-snoc [] x = omega arith
   total-snoc (y ∷ xs) x = omega (arith, total-snoc xs x)
 
-  total-last : (x : A) (xs : List A) → f (last-of x xs) + total f (but-last x xs) ≡ f x + total f xs
+  pub total-last : (x : A) (xs : List A) → f (last-of x xs) + total f (but-last x xs) ≡ f x + total f xs
   unfolding total last-of but-last
   total-last x [] = refl
   total-last x (y ∷ ys) = omega (arith, total-last y ys)
@@ -57,16 +54,36 @@ module _ (f : BasicBlock → ℕ) where
   total-change zero g (b ∷ bs) h = omega arith
   total-change (suc i) g (b ∷ bs) h = omega (arith, total-change i g bs (le-of-suc-le-suc h))
 
+  pub total-insert : (i : ℕ) (b : BasicBlock) (bs : List BasicBlock) → total f (insert-at i b bs) ≡ total f bs + f b
+  unfolding total insert-at
+  total-insert zero b [] = omega arith
+  total-insert zero b (x ∷ xs) = omega (arith, total-snoc f xs x)
+  total-insert (suc i) b [] = omega arith
+  total-insert (suc i) b (x ∷ xs) = omega (arith, total-insert i b xs)
+
+  -- all but the last
+  pub total-take : (i : ℕ) (bs : List BasicBlock) → i + 1 ≡ length bs → total f (take i bs) + f (block-at i bs) ≡ total f bs
+  unfolding total
+  total-take i [] h = absurd (omega arith)
+  total-take zero (b ∷ []) h = omega arith
+  total-take zero (b ∷ x ∷ xs) h = absurd (omega arith)
+  total-take (suc i) (b ∷ bs) h = omega (arith, total-take i bs (omega arith))
+
 -- what holds of each
 module _ {A : Type 0} (P : A → Type 0) where
   pub each-snoc : (xs : List A) (x : A) → Each P xs → P x → Each P (xs ++ (x ∷ []))
   each-snoc [] x e p = (p, tt)
   each-snoc (y ∷ xs) x e p = (e .0, each-snoc xs x (e .1) p)
 
-  each-last : (x : A) (xs : List A) → P x → Each P xs → P (last-of x xs) × Each P (but-last x xs)
+  pub each-last : (x : A) (xs : List A) → P x → Each P xs → P (last-of x xs) × Each P (but-last x xs)
   unfolding last-of but-last
   each-last x [] p e = (p, tt)
   each-last x (y ∷ ys) p e = let l = each-last y ys (e .0) (e .1) in (l .0, (p, l .1))
+
+  pub each-take : (i : ℕ) (xs : List A) → Each P xs → Each P (take i xs)
+  each-take zero xs e = tt
+  each-take (suc i) [] e = tt
+  each-take (suc i) (x ∷ xs) e = (e .0, each-take i xs (e .1))
 
   pub each-at : (d : A) (i : ℕ) (xs : List A) → Each P xs → i < length xs → P (getD xs i d)
   each-at d i [] e h = absurd (not-suc-le-zero h)
@@ -80,6 +97,13 @@ module _ (P : BasicBlock → Type 0) where
   each-remove zero (b ∷ []) e = tt
   each-remove zero (b ∷ x ∷ xs) e = each-last P x xs (e .1 .0) (e .1 .1)
   each-remove (suc i) (b ∷ bs) e = (e .0, each-remove i bs (e .1))
+
+  pub each-insert : (i : ℕ) (b : BasicBlock) (bs : List BasicBlock) → Each P bs → P b → Each P (insert-at i b bs)
+  unfolding insert-at
+  each-insert zero b [] e p = (p, tt)
+  each-insert zero b (x ∷ xs) e p = (p, each-snoc P xs x (e .1) (e .0))
+  each-insert (suc i) b [] e p = (p, tt)
+  each-insert (suc i) b (x ∷ xs) e p = (e .0, each-insert i b xs (e .1) p)
 
   pub each-change : (i : ℕ) (g : BasicBlock → BasicBlock) (bs : List BasicBlock) → Each P bs → i < length bs → P (g (block-at i bs)) → Each P (change-at i g bs)
   unfolding change-at
@@ -128,6 +152,14 @@ unfolding last-of
 snoc-last x [] y = refl
 snoc-last x (z ∷ xs) y = snoc-last z xs y
 
+-- the last element by its place
+pub last-of-at : {A : Type 0} (d x : A) (xs : List A) → getD (x ∷ xs) (length (x ∷ xs) - 1) d ≡ last-of x xs
+unfolding last-of
+last-of-at d x [] = refl
+last-of-at d x (y ∷ ys) =
+    let e : length (x ∷ y ∷ ys) - 1 ≡ suc (length (y ∷ ys) - 1) = omega arith in
+    ap (λ k. getD (x ∷ y ∷ ys) k d) e ∙ last-of-at d y ys
+
 -- a test of the last element
 module _ {A : Type 0} (f : A → Bool) where
   pub last-is-snoc : (xs : List A) (x : A) → last-is f (xs ++ (x ∷ [])) ≡ f x
@@ -146,12 +178,9 @@ module _ {A : Type 0} (f : A → Bool) where
   last-is-some (x ∷ xs) h = omega arith
 
   pub last-is-at : (d : A) (xs : List A) → 0 < length xs → last-is f xs ≡ f (getD xs (length xs - 1) d)
-  unfolding last-is last-of
+  unfolding last-is
   last-is-at d [] h = absurd (omega arith)
-  last-is-at d (x ∷ []) h = refl
-  last-is-at d (x ∷ y ∷ ys) h =
-      let e : suc (length (y ∷ ys) - 1) ≡ length (x ∷ y ∷ ys) - 1 = omega arith in
-      last-is-at d (y ∷ ys) (omega arith) ∙ ap (λ k. f (getD (x ∷ y ∷ ys) k d)) e
+  last-is-at d (x ∷ xs) h = ap f (sym (last-of-at d x xs))
 
 -- the removed block put back
 pub insert-remove : (i : ℕ) (bs : List BasicBlock) → i < length bs → insert-at i (block-at i bs) (remove-at i bs) ≡ bs

@@ -1,5 +1,5 @@
--- The calls on a book answer as the machine does. The invariant: the state is that of the machine's routine and of a used part of the journal
--- which is, entry by entry, what the edits on the machine's stack wrote. Every call keeps it.
+-- The calls on a book answer as the machine does. The invariant: the state is that of the machine's routine, with its sum worked afresh, and of a used
+-- part of the journal which is, entry by entry, what the edits on the machine's stack wrote. Every call keeps it.
 -- Assumes nothing.
 use mathlib.Core.Path.{_≡_, refl, sym, ap, ap₂, _∙_}
 use mathlib.Core.List.{List, [], _∷_, _++_, append-assoc}
@@ -16,10 +16,12 @@ use Rattle.laws.specs.Holds.{Routine-holds}
 use Rattle.machine.specs.Edits.{size, Edit, create, remove, append, edited, cost, Lengths, lengths, admit}
 use Rattle.machine.specs.Machine.{Call, edit, undo, Sendable, Answer, Stack, used-by, Machine, machine-answers, machine-edit, machine-undo, machine-call, machine-step, machine-run}
 use Rattle.machine.specs.Journal.{entry, undone}
-use Rattle.machine.specs.Book.{State, in-image, holding, held, step, run}
-use Rattle.machine.proofs.Held.{length-image, sound-held}
+use Rattle.machine.specs.Charge.{Rates, Fit-rates, sum, carried}
+use Rattle.machine.specs.Book.{State, holding, held, step, run}
+use Rattle.machine.proofs.Held.{length-image, holding-held}
 use Rattle.machine.proofs.Keeps.{Did, did, keeps}
 use Rattle.machine.proofs.Undo.{entry-cost, leads-back}
+use Rattle.machine.proofs.Sums.{fit-small, sum-under, carried-to}
 use Rattle.machine.proofs.Calls.{left, was-admitted, edit-refused, edit-not-admitted, edit-done, undo-empty, undo-done}
 
 -- Bytes put over the zeros after j, and zeros put back
@@ -73,9 +75,9 @@ linked-used N r [] j l = sym (ap length l)
 linked-used N r (p ∷ ps) j l =
     omega (arith, linked-used N (p .0) ps (l .0 .rest) (l .1), ap length (l .0 .is), length-append (l .0 .rest) (entry (l .0 .by) (p .0)), l .0 .costs)
 
--- the state of a routine and a used part, in lendings of these lengths
-abbrev pub state-of : Lengths → Routine → List ℕ → State
-state-of lent r j = holding (lent .image) r (length j) (j ++ zeros (lent .journal - length j))
+-- the state of a routine and a used part, in lendings of these lengths, at these rates
+abbrev pub state-of : Lengths → Rates → Routine → List ℕ → State
+state-of lent rates r j = holding (lent .image) r (j ++ zeros (lent .journal - length j)) (length j) rates (sum rates r)
 
 -- the machine after an edit of that cost
 abbrev pushed : Machine → Routine → ℕ → Machine
@@ -85,19 +87,19 @@ pushed-used : (m : Machine) (r : Routine) (k : ℕ) → used-by (pushed m r k .s
 unfolding used-by
 pushed-used m r k = omega arith
 
-pub record Sim (lent : Lengths) (m : Machine) (s : State) : Type 0 where
+pub record Sim (lent : Lengths) (rates : Rates) (m : Machine) (s : State) : Type 0 where
   pub j : List ℕ
-  pub is : s ≡ state-of lent (m .now) j
+  pub is : s ≡ state-of lent rates (m .now) j
   pub room : size (m .now) ≤ lent .image
   pub journal-room : length j ≤ lent .journal
   pub holds : Routine-holds (m .now)
   pub link : Linked (lent .image) (m .now) (m .stack) j
 
-pub record Agree (lent : Lengths) (x : Answer × State) (y : Answer × Machine) : Type 0 where
+pub record Agree (lent : Lengths) (rates : Rates) (x : Answer × State) (y : Answer × Machine) : Type 0 where
   pub answer : x .0 ≡ y .0
-  pub sim : Sim lent (y .1) (x .1)
+  pub sim : Sim lent rates (y .1) (x .1)
 
-module _ (lent : Lengths) (small : lent .image ≤ most-lent) (journal-small : lent .journal ≤ most-lent) where
+module _ (lent : Lengths) (small : lent .image ≤ most-lent) (journal-small : lent .journal ≤ most-lent) (rates : Rates) (fit : Fit-rates rates) where
   abbrev N : ℕ
   N = lent .image
 
@@ -108,34 +110,31 @@ module _ (lent : Lengths) (small : lent .image ≤ most-lent) (journal-small : l
   length-journal j h = simp (length-append, length-replicate) (omega arith)
 
   -- such a book is not spoiled
-  pub holds-it : (r : Routine) (j : List ℕ) → Routine-holds r → size r ≤ N → length j ≤ J → held (state-of lent r j) ≡ accepted r
+  pub holds-it : (r : Routine) (j : List ℕ) → Routine-holds r → size r ≤ N → length j ≤ J → held (state-of lent rates r j) ≡ accepted r
   holds-it r j o h k =
-      let n = length-image N r h in
       let m = length-journal j k in
-      sound-held (record {
-        image-lent = rw n small;
-        journal-lent = rw m journal-small;
-        used = rw m k;
-        written = refl;
-        room = rw n h;
-        image = ap (λ i. in-image i r) (sym n);
-        holds = o;
-      })
+      holding-held N r (j ++ zeros (J - length j)) (length j) rates (sum rates r) o h (rw m k) small (rw m journal-small)
 
   module _ (m : Machine) (j : List ℕ) (o : Routine-holds (m .now)) (h : size (m .now) ≤ N) (k : length j ≤ J) (l : Linked N (m .now) (m .stack) j) where
     abbrev S : State
-    S = state-of lent (m .now) j
+    S = state-of lent rates (m .now) j
 
-    stays : Sim lent m S
+    stays : Sim lent rates m S
     stays = record { j = j; is = refl; room = h; journal-room = k; holds = o; link = l }
 
     -- a refusal leaves both as they were
-    both-refuse : (e : ℕ) → Agree lent (refused e, S) (refused e, m)
+    both-refuse : (e : ℕ) → Agree lent rates (refused e, S) (refused e, m)
     both-refuse e = record { answer = refl; sim = stays }
+
+    -- the sum worked afresh on a routine that fits is carried to
+    carried-on : (r : Routine) → size r ≤ N → carried rates (m .now) r (sum rates (m .now)) ≡ accepted (sum rates r)
+    carried-on r a =
+        let u = sum-under rates (fit-small rates fit) r (omega arith) in
+        carried-to rates (m .now) r (sum rates (m .now)) (sum rates r) (omega arith) (omega arith)
 
     -- an edit that was accepted
     stored-sim : (e : Edit) (r : Routine) → Sendable (edit e) → Did e (m .now) r → size r ≤ N → length j + length (entry e (m .now)) ≤ J
-        → Agree lent (left (holding N r (length j + length (entry e (m .now))) (put (length j) (entry e (m .now)) (j ++ zeros (J - length j)))))
+        → Agree lent rates (left (holding N r (put (length j) (entry e (m .now)) (j ++ zeros (J - length j))) (length j + length (entry e (m .now))) rates (sum rates r)))
         (accepted (machine-answers (pushed m r (length (entry e (m .now)))) .0), pushed m r (length (entry e (m .now))))
     stored-sim e r f d a b =
         let x = entry e (m .now) in
@@ -148,7 +147,7 @@ module _ (lent : Lengths) (small : lent .image ≤ most-lent) (journal-small : l
           answer = ap (λ i. accepted (record { written = size r; used = i })) (omega (arith, pushed-used m r (length x), w));
           sim = record {
             j = j ++ x;
-            is = ap₂ (λ n j. holding N r n j) (sym c) y;
+            is = ap₂ (λ n j. holding N r j n rates (sum rates r)) (sym c) y;
             room = a;
             journal-room = omega arith;
             holds = keeps e (m .now) r f o d (omega arith);
@@ -172,7 +171,7 @@ module _ (lent : Lengths) (small : lent .image ≤ most-lent) (journal-small : l
     module _ (e : Edit) (f : Sendable (edit e)) where
       -- an edit that makes r of the routine, by whether it is admitted
       admit-sim : (r : Routine) → edited e (m .now) ≡ accepted r → (a : Outcome Unit) → admit lent (size r) (spent e) ≡ a
-          → Agree lent (step (edit e) S) (machine-step lent (edit e) m)
+          → Agree lent rates (step (edit e) S) (machine-step lent (edit e) m)
       unfolding machine-step machine-call machine-edit attempt after
       admit-sim r q (refused n) x =
           let y : admit (lengths (S .image) (S .journal)) (size r) (spent e) ≡ refused n = ap (λ i. admit i (size r) (spent e)) lengths-are ∙ x in
@@ -180,15 +179,15 @@ module _ (lent : Lengths) (small : lent .image ≤ most-lent) (journal-small : l
       admit-sim r q (accepted t) x =
           let y : admit (lengths (S .image) (S .journal)) (size r) (spent e) ≡ accepted t = ap (λ i. admit i (size r) (spent e)) lengths-are ∙ x in
           let w = was-admitted lent (size r) (spent e) x in
-          rw (edit-done S (m .now) held-here e q y, q, spent-is e, x, length-image N (m .now) h, ← entry-cost e (m .now))
+          rw (edit-done S (m .now) held-here e q y (carried-on r (w .0)), q, spent-is e, x, length-image N (m .now) h, ← entry-cost e (m .now))
           (stored-sim e r f (did e (m .now) r f q) (w .0) (w .1))
 
-      edit-sim : (q : Outcome Routine) → edited e (m .now) ≡ q → Agree lent (step (edit e) S) (machine-step lent (edit e) m)
+      edit-sim : (q : Outcome Routine) → edited e (m .now) ≡ q → Agree lent rates (step (edit e) S) (machine-step lent (edit e) m)
       unfolding machine-step machine-call machine-edit attempt after
       edit-sim (refused n) q = rw (edit-refused S (m .now) held-here e q, q) (both-refuse n)
       edit-sim (accepted r) q = admit-sim r q (admit lent (size r) (spent e)) refl
 
-    undo-sim : (ps : Stack) → Linked N (m .now) ps j → Agree lent (step undo S) (attempt m (machine-undo ps))
+    undo-sim : (ps : Stack) → Linked N (m .now) ps j → Agree lent rates (step undo S) (attempt m (machine-undo ps))
     unfolding machine-undo attempt
     undo-sim [] z = rw (undo-empty S (m .now) held-here (ap length z)) (both-refuse 16)
     undo-sim (p ∷ ps) c =
@@ -205,22 +204,22 @@ module _ (lent : Lengths) (small : lent .image ≤ most-lent) (journal-small : l
         let w : length j - length x ≡ length es = omega arith in
         let y : put (length es) (zeros (length x)) (j ++ zeros (J - length j)) ≡ es ++ zeros (J - length es)
         = ap (λ s. put (length es) (zeros (length x)) (s ++ zeros (J - length j))) i ∙ put-back es x (J - length j) (J - length es) (omega arith) in
-        rw (undo-done S (m .now) held-here (omega arith) v, length-image N (m .now) h, w, linked-used N (p .0) ps es (c .1))
+        rw (undo-done S (m .now) held-here (omega arith) v (carried-on (p .0) (c .0 .room)), length-image N (m .now) h, w, linked-used N (p .0) ps es (c .1))
         (record {
           answer = refl;
-          sim = record { j = es; is = ap (λ j. holding N (p .0) (length es) j) y; room = c .0 .room; journal-room = omega arith; holds = c .0 .holds; link = c .1 };
+          sim = record { j = es; is = ap (λ j. holding N (p .0) j (length es) rates (sum rates (p .0))) y; room = c .0 .room; journal-room = omega arith; holds = c .0 .holds; link = c .1 };
         })
 
-    call-sim : (c : Call) → Sendable c → Agree lent (step c S) (machine-step lent c m)
+    call-sim : (c : Call) → Sendable c → Agree lent rates (step c S) (machine-step lent c m)
     unfolding machine-step machine-call
     call-sim (edit e) f = edit-sim e f (edited e (m .now)) refl
     call-sim undo f = undo-sim (m .stack) l
 
-  pub step-sim : (c : Call) (m : Machine) (s : State) → Sendable c → Sim lent m s → Agree lent (step c s) (machine-step lent c m)
+  pub step-sim : (c : Call) (m : Machine) (s : State) → Sendable c → Sim lent rates m s → Agree lent rates (step c s) (machine-step lent c m)
   step-sim c m s f i = rw (i .is) (call-sim m (i .j) (i .holds) (i .room) (i .journal-room) (i .link) c f)
 
-  pub run-sim : (cs : List Call) (m : Machine) (s : State) → Each Sendable cs → Sim lent m s
-      → (run cs s .0 ≡ machine-run lent cs m .0) × Sim lent (machine-run lent cs m .1) (run cs s .1)
+  pub run-sim : (cs : List Call) (m : Machine) (s : State) → Each Sendable cs → Sim lent rates m s
+      → (run cs s .0 ≡ machine-run lent cs m .0) × Sim lent rates (machine-run lent cs m .1) (run cs s .1)
   unfolding run machine-run
   run-sim [] m s f i = (refl, i)
   run-sim (c ∷ cs) m s f i =

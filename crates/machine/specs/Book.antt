@@ -3,7 +3,7 @@
 use Prim.Native.Nat.{ℕ, _+_, _-_}
 use mathlib.Core.Bool.{Bool, _&&_}
 use mathlib.Core.List.{List, [], _∷_, _++_}
-use lib.ListN.{length, take, drop}
+use lib.ListN.{length, take, drop, replicate}
 use lib.Dec.{leb, eqb}
 use Rattle.fields.specs.Refusals.{lending-too-large, image-full, spoiled-book, nothing-to-take-back}
 use Rattle.fields.specs.Bytes.{zeros, put, most-lent}
@@ -15,11 +15,15 @@ use Rattle.pod.specs.Written.{routine-bytes}
 use Rattle.machine.specs.Edits.{size, Edit, edited, Lengths, lengths, admit}
 use Rattle.machine.specs.Machine.{Call, edit, undo, Reply, Answer}
 use Rattle.machine.specs.Journal.{entry, whole, undone}
+use Rattle.machine.specs.Charge.{Rates, sum, carried}
 
--- document 01's book: the written length of the routine in the image, and the journal bytes used
+-- document 01's book: the written length of the routine in the image, and the journal bytes used; and document 02's, d: the six rates, fixed at opening,
+-- and the running sum in hundredths of a cent
 pub record Book : Type 0 where
   pub written : ℕ
   pub used : ℕ
+  pub rates : Rates
+  pub sum : ℕ
 
 -- the lent bytes and the book
 pub record State : Type 0 where
@@ -31,17 +35,17 @@ pub record State : Type 0 where
 unfoldable pub in-image : ℕ → Routine → List ℕ
 in-image n r = routine-bytes r ++ zeros (n - size r)
 
--- every book is built here: of the routine held and the journal bytes used
-abbrev pub book-with : Routine → ℕ → Book
-book-with r used = record { written = size r; used = used }
+-- every book is built here: of the routine held, the journal bytes used, the rates and the sum carried
+abbrev pub book-with : Routine → ℕ → Rates → ℕ → Book
+book-with r used rates n = record { written = size r; used = used; rates = rates; sum = n }
 
--- but for the book of zeros that a refused opening answers
+-- but for the book of zeros that a refused opening answers, rates and sum too
 abbrev pub no-book : Book
-no-book = record { written = 0; used = 0 }
+no-book = record { written = 0; used = 0; rates = replicate 6 0; sum = 0 }
 
--- an image of n bytes that holds r, a journal of which `used` bytes are used, and the book of these
-abbrev pub holding : ℕ → Routine → ℕ → List ℕ → State
-holding n r used journal = record { image = in-image n r; journal = journal; book = book-with r used }
+-- an image of so many bytes that holds r, a journal, and the book of r, of the journal bytes used, the rates and the sum carried
+abbrev pub holding : ℕ → Routine → List ℕ → ℕ → Rates → ℕ → State
+holding room r journal used rates n = record { image = in-image room r; journal = journal; book = book-with r used rates n }
 
 -- a state, and what a call that leaves it answers
 abbrev pub book-answers : State → Reply × State
@@ -51,26 +55,27 @@ book-answers s = (record { written = s .book .written; used = s .book .used }, s
 abbrev pub are-lent : Lengths → Bool
 are-lent lent = leb (lent .image) most-lent && leb (lent .journal) most-lent
 
--- Opening. 10, then 1 to 9 in reading order, then 11. A refusal leaves image and journal as they were, and answers a book of zeros
-unfoldable pub opened : List ℕ → List ℕ → Routine → Outcome (Reply × State)
-opened image journal r = do
+-- Opening. 10, then 1 to 9 in reading order, then 11. The book carries the rates from here on, and the sum worked afresh. A refusal leaves image and
+-- journal as they were, and answers a book of zeros
+unfoldable pub opened : List ℕ → List ℕ → Rates → Routine → Outcome (Reply × State)
+opened image journal rates r = do
   refuse-unless (leb (size r) (length image)) image-full
-  accepted (book-answers (holding (length image) r 0 (zeros (length journal))))
+  accepted (book-answers (holding (length image) r (zeros (length journal)) 0 rates (sum rates r)))
 
-unfoldable pub opening : List ℕ → List ℕ → List ℕ → Outcome (Reply × State)
-opening file image journal = do
+unfoldable pub opening : List ℕ → List ℕ → List ℕ → Rates → Outcome (Reply × State)
+opening file image journal rates = do
   refuse-unless (are-lent (lengths image journal)) lending-too-large
   x ← what-is-read (read-file file)
-  opened image journal (x .0)
+  opened image journal rates (x .0)
 
 abbrev pub unopened : List ℕ → List ℕ → State
 unopened image journal = record { image = image; journal = journal; book = no-book }
 
-unfoldable pub open-book : List ℕ → List ℕ → List ℕ → Answer × State
-open-book file image journal = attempt (unopened image journal) (opening file image journal)
+unfoldable pub open-book : List ℕ → List ℕ → List ℕ → Rates → Answer × State
+open-book file image journal rates = attempt (unopened image journal) (opening file image journal rates)
 
 -- The routine that a book holds: 10, then 13. A book is spoiled when a length passes its lending, when the image's written length isn't exactly one
--- accepted routine in written form, or when a byte after it isn't 0
+-- accepted routine in written form, or when a byte after it isn't 0. The sum is not looked at
 unfoldable pub held : State → Outcome Routine
 held s = do
   refuse-unless (are-lent (lengths (s .image) (s .journal))) lending-too-large
@@ -80,24 +85,28 @@ held s = do
   refuse-unless (same (drop (s .book .written) (s .image)) (zeros (length (s .image) - s .book .written))) spoiled-book
   accepted r
 
--- An edit: its own refusals, then 11 and 12. The entry goes after the used part, and every other journal byte stays
+-- An edit: its own refusals, then 11 and 12, and last the sum's 13. The entry goes after the used part, every other journal byte stays, and the rates do
 unfoldable pub edit-book : Edit → State → Routine → Outcome (Reply × State)
 edit-book e s r = do
   r′ ← edited e r
-  admit (lengths (s .image) (s .journal)) (size r′) (s .book .used + length (entry e r))
-  accepted (book-answers (holding (length (s .image)) r′ (s .book .used + length (entry e r)) (put (s .book .used) (entry e r) (s .journal))))
+  let spent = s .book .used + length (entry e r)
+  admit (lengths (s .image) (s .journal)) (size r′) spent
+  n ← carried (s .book .rates) r r′ (s .book .sum)
+  accepted (book-answers (holding (length (s .image)) r′ (put (s .book .used) (entry e r) (s .journal)) spent (s .book .rates) n))
 
--- What an entry leads back to goes into the image, and the entry becomes 0
-unfoldable pub restored : State → Outcome (Routine × ℕ) → Outcome (Reply × State)
-restored s entry = do
+-- What an entry leads back to goes into the image, and the entry becomes 0; after the entry's fit the sum's 13
+unfoldable pub restored : State → Routine → Outcome (Routine × ℕ) → Outcome (Reply × State)
+restored s r entry = do
   x ← entry
-  accepted (book-answers (holding (length (s .image)) (x .0) (s .book .used - x .1) (put (s .book .used - x .1) (zeros (x .1)) (s .journal))))
+  let before = s .book .used - x .1
+  n ← carried (s .book .rates) r (x .0) (s .book .sum)
+  accepted (book-answers (holding (length (s .image)) (x .0) (put before (zeros (x .1)) (s .journal)) before (s .book .rates) n))
 
--- Take back: 16 where nothing is used, then 13 where the last entry does not fit the image
+-- Take back: 16 where nothing is used, then 13 where the last entry does not fit the image, and last the sum's
 unfoldable pub undo-book : State → Routine → Outcome (Reply × State)
 undo-book s r = do
   refuse-if (eqb (s .book .used) 0) nothing-to-take-back
-  restored s (undone (length (s .image)) r (take (s .book .used) (s .journal)))
+  restored s r (undone (length (s .image)) r (take (s .book .used) (s .journal)))
 
 unfoldable pub call-book : Call → State → Routine → Outcome (Reply × State)
 call-book (edit e) s r = edit-book e s r

@@ -10,6 +10,7 @@ use Rattle.fields.specs.Outcome.{Outcome, accepted, _>>=_, _>>_, refuse-unless,
 use Rattle.fields.specs.Lists.{choose}
 use Rattle.machine.specs.Edits.{create, remove, append}
 use Rattle.machine.specs.Machine.{Call, edit, undo, Answer}
+use Rattle.machine.specs.Charge.{Rates}
 use Rattle.machine.specs.Book.{State, unopened, opening, run}
 
 -- the words come in fours, every kind is at most 3, and every begin ≤ end ≤ the bytes' length
@@ -65,8 +66,8 @@ run-on words bytes s = attempt s (do
   accepted (ran 0 (calls words bytes) s))
 
 -- The run over a list from the opening of a file: 15, then the opening's refusals; else every call in turn
-unfoldable pub open-and-run : List ℕ → List ℕ → List ℕ → List ℕ → List ℕ → Outcome ℕ × State
-open-and-run file image journal words bytes = attempt (unopened image journal) (do
+unfoldable pub open-and-run : List ℕ → List ℕ → List ℕ → List ℕ → List ℕ → Rates → Outcome ℕ × State
+open-and-run file image journal words bytes rates = attempt (unopened image journal) (do
   refuse-unless (is-call-list words bytes) no-such-block
-  x ← opening file image journal
+  x ← opening file image journal rates
   accepted (ran 0 (calls words bytes) (x .1)))

@@ -9,7 +9,7 @@ use lib.ListN.{length, getD, set}
 use mir.Syntax.{w64}
 use Rattle.fields.specs.Parse.{Res, ok, Reader, counted, u64}
 use Rattle.fields.specs.Bytes.{Bytes}
-use Rattle.pod.specs.Values.{BasicBlock, Routine}
+use Rattle.pod.specs.Values.{Instruction, BasicBlock, Routine}
 use Rattle.pod.specs.Layout.{header, instruction, convention, block, blocks, routine}
 use Rattle.pod.specs.Written.{bytes, counted-bytes, header-bytes, instruction-bytes, convention-bytes, block-head-bytes, block-bytes, routine-head-bytes, routine-bytes}
 use Rattle.laws.specs.Normal.{pad, flag, normal, instruction-roles, convention-roles, header-roles}
@@ -23,7 +23,9 @@ use Rattle.laws.proofs.Sizes.{instruction-size, convention-size, block-head-siz
 use Rattle.laws.proofs.Back.{length-bytes}
 use Rattle.ends.specs.Ends.{jump, instructionEnd, vipsEnd, conventionEnd}
 use Rattle.ends.proofs.Same.{instruction-ends, vips-ends, convention-ends}
-use Rattle.normal.specs.Over.{Over, Normalised}
+use Rattle.machine.specs.Charge.{total}
+use Rattle.charge.specs.Sums.{in-table, block-in, routine-in}
+use Rattle.normal.specs.Over.{Over, Normalised, nothing, Countable}
 use Rattle.normal.proofs.Puts.{stays, as-before, still, _beside_, changed, flagged}
 use Rattle.normal.proofs.Runs.{jumps}
 
@@ -57,12 +59,16 @@ block-parts b o =
 vips-stand : {s : List ℕ} → Bytes s → {o n : ℕ} {xs : List ℕ} → counted u64 s o ≡ ok xs n → Spans s o (counted-bytes (bytes 8) xs) n
 vips-stand b {o} {n} {xs} e = counted-spans u64 (bytes 8) (λ i. uint-took b i 8) b o .when xs n e .1
 
-pub block-normal : {s : List ℕ} → Bytes s → (o : ℕ) {i e p r : ℕ} {t : List ℕ} → i ≡ jump s o 24
-    → Normalised (counted instruction) (counted-bytes instruction-bytes) s i e t → p ≡ vipsEnd t e → r ≡ vipsEnd t p
-    → Normalised block block-bytes s o r t
+pub block-normal : (g : List ℕ) {s : List ℕ} → Bytes s → (o : ℕ) {i e p r sum : ℕ} {t : List ℕ} → i ≡ jump s o 24
+    → Normalised (counted instruction) (counted-bytes instruction-bytes) (total (in-table g)) s i e sum t → p ≡ vipsEnd t e → r ≡ vipsEnd t p
+    → Normalised block block-bytes (block-in g) s o r sum t
 unfolding block-bytes
-block-normal {s} b o {i} {e} {p} {r} {t} hi hn hp hr = record { when = λ x n q. go x n (block-parts b o .when x n q) }
+block-normal g {s} b o {i} {e} {p} {r} {sum} {t} hi hn hp hr =
+    record { when = λ x n q. go x n (block-parts b o .when x n q); sums = λ x n q. counts x n (block-parts b o .when x n q) }
   where
+    counts : (x : BasicBlock) (n : ℕ) → Block-parts s o x n → sum ≡ block-in g x
+    counts x n k = let zi : i ≡ k .i = jumps (k .head) (block-head-size x) hi in hn .sums (x .instructions) (k .e) (rw zi (k .instructions))
+
     go : (x : BasicBlock) (n : ℕ) → Block-parts s o x n → (r ≡ n) × Over s o (block-bytes x) n t
     go x n k =
         let zi : i ≡ k .i = jumps (k .head) (block-head-size x) hi in
@@ -77,10 +83,10 @@ block-normal {s} b o {i} {e} {p} {r} {t} hi hn hp hr = record { when = λ x n q.
         (zr, stays (k .head) beside v beside stays (still v (omega arith) prev) beside stays (still v le next))
 
 -- one part more, read as in s
-extend : {A : Type 0} {p : Reader A} {w : A → List ℕ} → Local p → {s t u : List ℕ} {l : List ℕ} {m i r n : ℕ} {x : A} → Over s 0 l m t → i ≡ m
-    → Normalised p w t i r u → p s m ≡ ok x n → (r ≡ n) × Over s 0 (l ++ w x) n u
-extend {p} {w} k {s} {t} {u} {l} {m} {i} {r} {n} {x} h z f e =
-    let g : Normalised p w t m r u = rw z at f in
+extend : {A : Type 0} {p : Reader A} {w : A → List ℕ} {c : A → ℕ} → Local p → {s t u : List ℕ} {l : List ℕ} {m i r sum n : ℕ} {x : A} → Over s 0 l m t → i ≡ m
+    → Normalised p w c t i r sum u → p s m ≡ ok x n → (r ≡ n) × Over s 0 (l ++ w x) n u
+extend {p} {w} {c} k {s} {t} {u} {l} {m} {i} {r} {sum} {n} {x} h z f e =
+    let g : Normalised p w c t m r sum u = rw z at f in
     let v = g .when x n (as-before h k m (omega arith) (h .within) ∙ e) in
     (v .0, h beside v .1)
 
@@ -115,37 +121,69 @@ routine-parts {s} b =
 regroup : (a b c d e f : List ℕ) → ((((a ++ b) ++ c) ++ d) ++ e) ++ f ≡ (a ++ (b ++ (c ++ (d ++ e)))) ++ f
 regroup a b c d e f = simp append-assoc
 
-pub routine-normal : {s t₀ t₁ t₂ t₃ t₄ : List ℕ} {a d e n : ℕ} → Bytes s → t₀ ≡ set s 5 0
-    → Normalised convention convention-bytes t₀ 16 a t₁ → Normalised convention convention-bytes t₁ a d t₂
-    → Normalised (counted convention) (counted-bytes convention-bytes) t₂ d e t₃
-    → Normalised (counted block) (counted-bytes block-bytes) t₃ e n t₄ → Normalised routine routine-bytes s 0 n t₄
-unfolding routine-bytes routine-head-bytes header-roles
-routine-normal {s} {t₀} {t₄} {n} b z f₁ f₂ f₃ f₄ = record { when = λ x m q. go x m (routine-parts b .when x m q) }
-  where
-    go : (x : Routine) (m : ℕ) → Routine-parts s x m → (n ≡ m) × Over s 0 (routine-bytes x) m t₄
-    go x m k =
-        let x₀ : Over s 0 (header-bytes (x .arch-id)) (k .h) t₀ = changed pad 5 2 (header-took b 0 .when (x .arch-id) (k .h) (k .head) .1) z in
-        let x₁ = x₀ beside stays (still x₀ (omega arith) (k .entry)) in
-        let c : 16 ≡ k .k = omega (arith, x₀ .to, k .entry .to, header-size (x .arch-id), length-bytes 8 (x .vip)) in
-        let x₂ = extend local-convention x₁ c f₁ (k .own) in
-        let x₃ = extend local-convention (x₂ .1) (x₂ .0) f₂ (k .sub) in
-        let x₄ = extend (local-counted convention local-convention) (x₃ .1) (x₃ .0) f₃ (k .special) in
-        let x₅ = extend (local-counted block local-block) (x₄ .1) (x₄ .0) f₄ (k .listed) in
-        (x₅ .0, rw (regroup _ _ _ _ _ _) at (x₅ .1))
+-- what the parts before the blocks did
+module _ {s t₀ t₁ t₂ t₃ : List ℕ} {a d e : ℕ} (b : Bytes s) (z : t₀ ≡ set s 5 0) (f₁ : Normalised convention convention-bytes nothing t₀ 16 a 0 t₁)
+    (f₂ : Normalised convention convention-bytes nothing t₁ a d 0 t₂) (f₃ : Normalised (counted convention) (counted-bytes convention-bytes) nothing t₂ d e 0 t₃) where
+  front : {x : Routine} {m : ℕ} (k : Routine-parts s x m)
+      → (e ≡ k .e)
+      × Over s 0 ((((header-bytes (x .arch-id) ++ bytes 8 (x .vip)) ++ convention-bytes (x .routine-convention)) ++ convention-bytes (x .subroutine-convention)) ++ counted-bytes convention-bytes (x .spec-subroutine-conventions)) (k .e) t₃
+  unfolding header-roles
+  front {x} {m} k =
+      let x₀ : Over s 0 (header-bytes (x .arch-id)) (k .h) t₀ = changed pad 5 2 (header-took b 0 .when (x .arch-id) (k .h) (k .head) .1) z in
+      let x₁ = x₀ beside stays (still x₀ (omega arith) (k .entry)) in
+      let c : 16 ≡ k .k = omega (arith, x₀ .to, k .entry .to, header-size (x .arch-id), length-bytes 8 (x .vip)) in
+      let x₂ = extend local-convention x₁ c f₁ (k .own) in
+      let x₃ = extend local-convention (x₂ .1) (x₂ .0) f₂ (k .sub) in
+      extend (local-counted convention local-convention) (x₃ .1) (x₃ .0) f₃ (k .special)
+
+  -- the blocks are read as in s
+  blocks-there : {x : Routine} {m : ℕ} (k : Routine-parts s x m) → counted block t₃ e ≡ ok (x .explored-blocks) m
+  blocks-there {x} {m} k =
+      let p = front k in
+      rw (p .0) (as-before (p .1) (local-counted block local-block) (k .e) (omega arith) (p .1 .within) ∙ k .listed)
+
+  pub routine-normal : (g : List ℕ) {n sum : ℕ} {t₄ : List ℕ} → Normalised (counted block) (counted-bytes block-bytes) (total (block-in g)) t₃ e n sum t₄
+      → Normalised routine routine-bytes (routine-in g) s 0 n sum t₄
+  unfolding routine-bytes routine-head-bytes
+  routine-normal g {n} {sum} {t₄} f₄ =
+      record { when = λ x m q. go x m (routine-parts b .when x m q); sums = λ x m q. f₄ .sums (x .explored-blocks) m (blocks-there (routine-parts b .when x m q)) }
+    where
+      go : (x : Routine) (m : ℕ) → Routine-parts s x m → (n ≡ m) × Over s 0 (routine-bytes x) m t₄
+      go x m k =
+          let p = front k in
+          let x₅ = extend (local-counted block local-block) (p .1) (p .0) f₄ (k .listed) in
+          (x₅ .0, rw (regroup _ _ _ _ _ _) at (x₅ .1))
+
+  -- and what they come to fits where the whole does
+  pub blocks-countable : (g : List ℕ) → Countable routine (routine-in g) s 0 → Countable (counted block) (total (block-in g)) t₃ e
+  blocks-countable g w =
+      let k = routine-parts b .when (w .x) (w .end) (w .reads) in
+      record { x = w .x .explored-blocks; end = w .end; reads = blocks-there k; fits = w .fits }
 
 -- no routine is so short that it has no pad
-pub too-short : {s : List ℕ} → Bytes s → length s ≤ 5 → {r : ℕ} {t : List ℕ} → Normalised routine routine-bytes s 0 r t
-too-short b h = record { when = λ x n q. absurd (omega (arith, read-to routine-layout b q, read-within routine-layout b q, routine-least x)) }
+pub too-short : (g : List ℕ) {s : List ℕ} → Bytes s → length s ≤ 5 → {r sum : ℕ} {t : List ℕ} → Normalised routine routine-bytes (routine-in g) s 0 r sum t
+too-short g b h =
+    record {
+      when = λ x n q. absurd (omega (arith, read-to routine-layout b q, read-within routine-layout b q, routine-least x));
+      sums = λ x n q. absurd (omega (arith, read-to routine-layout b q, read-within routine-layout b q, routine-least x));
+    }
 
 -- the layouts that end in a flag
-pub instruction-normal : {s : List ℕ} → Bytes s → (o : ℕ) {r : ℕ} {t : List ℕ} → r ≡ instructionEnd s o
-    → (0 < r → r ≤ length s → t ≡ set s (r - 1) (normal flag (getD s (r - 1) 0))) → Normalised instruction instruction-bytes s o r t
+pub instruction-normal : (g : List ℕ) {s : List ℕ} → Bytes s → (o : ℕ) {r sum : ℕ} {t : List ℕ} → ((i : Instruction) (n : ℕ) → instruction s o ≡ ok i n → sum ≡ in-table g i)
+    → r ≡ instructionEnd s o → (0 < r → r ≤ length s → t ≡ set s (r - 1) (normal flag (getD s (r - 1) 0)))
+    → Normalised instruction instruction-bytes (in-table g) s o r sum t
 unfolding instruction-roles
-instruction-normal {s} b o z f =
-    record { when = λ x n q. let e = z ∙ instruction-ends s o q in (e, flagged instruction-layout (λ i. refl) (λ i. omega (arith, instruction-size i)) b q e f) }
+instruction-normal g {s} b o c z f =
+    record {
+      when = λ x n q. let e = z ∙ instruction-ends s o q in (e, flagged instruction-layout (λ i. refl) (λ i. omega (arith, instruction-size i)) b q e f);
+      sums = c;
+    }
 
 pub convention-normal : {s : List ℕ} → Bytes s → (o : ℕ) {r : ℕ} {t : List ℕ} → r ≡ conventionEnd s o
-    → (0 < r → r ≤ length s → t ≡ set s (r - 1) (normal flag (getD s (r - 1) 0))) → Normalised convention convention-bytes s o r t
+    → (0 < r → r ≤ length s → t ≡ set s (r - 1) (normal flag (getD s (r - 1) 0))) → Normalised convention convention-bytes nothing s o r 0 t
 unfolding convention-roles
 convention-normal {s} b o z f =
-    record { when = λ x n q. let e = z ∙ convention-ends s o q in (e, flagged convention-layout (λ i. refl) (λ i. omega (arith, convention-size i)) b q e f) }
+    record {
+      when = λ x n q. let e = z ∙ convention-ends s o q in (e, flagged convention-layout (λ i. refl) (λ i. omega (arith, convention-size i)) b q e f);
+      sums = λ x n q. refl;
+    }

@@ -1,9 +1,9 @@
--- What the step of a removal is, by the tests that the code makes: the vip is absent, 11 or 12, or the block goes. Each test of the definition is
--- decided, and what is stored is what the definition says.
+-- What the step of a removal is, by the tests that the code makes: the vip is absent, 11 or 12, the sum's 13, or the block goes. Each test of the
+-- definition is decided, and what is stored is what the definition says.
 -- Assumes nothing.
 use mathlib.Core.Path.{_≡_, sym}
 use mathlib.Core.List.{List, _++_}
-use Prim.Native.Nat.{ℕ, _+_, _≤_, _<_}
+use Prim.Native.Nat.{ℕ, _+_, _-_, _≤_, _<_, _^_}
 use native.Mathlib.Omega.{arith}
 use lib.ListN.{length}
 use Rattle.fields.specs.Bytes.{put}
@@ -14,14 +14,16 @@ use Rattle.pod.specs.Written.{block-bytes}
 use Rattle.machine.specs.Edits.{place, remove, block-at, remove-at, with-blocks, edited, cost, size, lengths, admit}
 use Rattle.machine.specs.Machine.{edit, Answer}
 use Rattle.machine.specs.Journal.{entry}
+use Rattle.machine.specs.Charge.{block-sum, sum}
 use Rattle.machine.specs.Book.{State, in-image, step}
 use Rattle.machine.specs.Trailer.{trailer-with, trailer-bytes}
 use Rattle.machine.proofs.Keeps.{weight, removed-size}
 use Rattle.machine.proofs.Lists.{present-before, absent-after}
+use Rattle.machine.proofs.Sums.{removed-sum, carried-short, carried-to}
 use Rattle.machine.proofs.Undo.{entry-cost}
 use Rattle.book.specs.Says.{leaving, refusal-of}
 use Rattle.book.specs.Holding.{Sound}
-use Rattle.book.proofs.Steps.{refused-step, not-admitted-step, admitted-room, admitted-step}
+use Rattle.book.proofs.Steps.{refused-step, not-admitted-step, admitted-room, sum-spoiled-step, admitted-step}
 
 module _ (s : State) (r : Routine) (g : Sound s r) (v : ℕ) where
   abbrev blocks : List BasicBlock
@@ -68,9 +70,21 @@ module _ (s : State) (r : Routine) (g : Sound s r) (v : ℕ) where
         pub room : k ≡ 0 → (left ≤ length (s .image)) × (spent ≤ length (s .journal))
         room = admitted-room s r g (remove v) r′ goes is-left is-spent a
 
-        -- the stores
-        pub removed : k ≡ 0 → (image journal : List ℕ) → image ≡ in-image (length (s .image)) r′
-            → journal ≡ put (s .book .used) (block-bytes b ++ trailer-bytes (trailer-with v i (weight b) 2)) (s .journal)
-            → leaving (record { image = image; journal = journal; book = record { written = left; used = spent } }) ≡ gives
-        unfolding entry
-        removed z image journal ei ej = admitted-step s r g (remove v) r′ goes is-left is-spent a z ei ej
+        -- what the block comes to, against the sum
+        module _ (z : k ≡ 0) {less : ℕ} (e : less ≡ block-sum (s .book .rates) b) where
+          loses : sum (s .book .rates) r′ + less ≡ sum (s .book .rates) r
+          loses = omega (arith, removed-sum (s .book .rates) r i h)
+
+          pub sum-short : s .book .sum < less → gives ≡ (refused 13, s)
+          sum-short m =
+              sym (sum-spoiled-step s r g (remove v) r′ goes is-left is-spent a z (carried-short (s .book .rates) r r′ (s .book .sum) (omega (arith, loses))))
+
+          -- the stores
+          pub removed : less ≤ s .book .sum → s .book .sum < 2 ^ 64 → (image journal : List ℕ) → image ≡ in-image (length (s .image)) r′
+              → journal ≡ put (s .book .used) (block-bytes b ++ trailer-bytes (trailer-with v i (weight b) 2)) (s .journal)
+              → leaving (record { image = image; journal = journal; book = record { written = left; used = spent; rates = s .book .rates; sum = s .book .sum - less } })
+              ≡ gives
+          unfolding entry
+          removed m n image journal ei ej =
+              let c = carried-to (s .book .rates) r r′ (s .book .sum) (s .book .sum - less) (omega (arith, loses)) (omega arith) in
+              admitted-step s r g (remove v) r′ goes is-left is-spent a z c ei ej

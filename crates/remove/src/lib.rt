@@ -54,7 +54,7 @@ fn put_entry(journal: &mut [u8], used: usize, block: &[u8], vip: Vip, place: u32
     journal::put_trailer(journal, end, vip, place, size as u32, journal::REMOVE);
 }
 
-// The block with the vip goes, into the journal.
+// The block with the vip goes, into the journal: 15, then 12, and 13 where the sum is smaller than what the block comes to.
 pub fn remove_block(book: Book, image: &mut [u8], journal: &mut [u8], vip: Vip) -> Answer
     requires { ⌜ Is-sound (state (now image) (now journal) book) ⌝ }
     ensures { λ r. ⌜ outcome r (now (image .exit)) (now (journal .exit)) ≡ step (edit (remove (vip .0))) (state (now (image .entry)) (now (journal .entry)) book) ⌝ }
@@ -75,7 +75,12 @@ pub fn remove_block(book: Book, image: &mut [u8], journal: &mut [u8], vip: Vip) 
     if refusal != 0 {
         return book::refuse(book, refusal);
     }
+    let sum = book.sum;
+    let less = charge::sum_of_block(image, at, book.rates);
+    if sum < less {
+        return book::refuse(book, book::SPOILED_BOOK);
+    }
     put_entry(journal, used, &image[at..end], vip, place as u32);
     swap_remove(image, at, end, written);
-    book::accept(left, spent)
+    book::accept(left, spent, book.rates, sum - less)
 }

@@ -1,5 +1,6 @@
 // Document 01's instances that are not starred, run: each line says what the library answers.
 use book::Answer;
+use book::Rates;
 use libc::STDOUT_FILENO;
 
 // The smallest file, and after its block count of 1 the start of a block with one instruction: the instruction follows at byte 142.
@@ -69,7 +70,7 @@ fn smallest() -> [u8; 114] {
 // The smallest file opened, and block 1 created.
 fn create_one(image: &mut [u8], journal: &mut [u8]) -> Answer {
     let file = smallest();
-    let opened = vtil::vtil_open(&file, image, journal);
+    let opened = vtil::vtil_open(&file, image, journal, Rates { rate: [0; 6] });
     let book = opened.book;
     vtil::vtil_create_block(book, image, journal, 1)
 }

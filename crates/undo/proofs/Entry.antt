@@ -48,25 +48,25 @@ module _ {s : State} {r : Routine} {t : Trailer} (l : Last s r t) where
   abbrev before : List ℕ
   before = take (s .book .used - 20) (s .journal)
 
-  by-kind : step undo s ≡ taking-back s (undo-entry (length (s .image)) r before t)
+  by-kind : step undo s ≡ taking-back s r (undo-entry (length (s .image)) r before t)
   by-kind =
       let u = s .book .used in
       let g = l .sound in
       let n : u - 20 + 20 ≡ u = omega arith in
-      undo-is s r (sound-held g) (omega arith) ∙ ap (taking-back s) (undone-by (s .journal) u (g .used) (l .enough) (length (s .image)) r t (l .is ∙ ap (ok t) n))
+      undo-is s r (sound-held g) (omega arith) ∙ ap (taking-back s r) (undone-by (s .journal) u (g .used) (l .enough) (length (s .image)) r t (l .is ∙ ap (ok t) n))
 
-  pub was-created : t .kind ≡ 1 → taking-back s (undo-create r t) ≡ step undo s
+  pub was-created : t .kind ≡ 1 → taking-back s r (undo-create r t) ≡ step undo s
   unfolding undo-entry choose
   was-created k = rw (by-kind, eq-eqb (t .kind) 1 k)
 
-  pub was-removed : t .kind ≡ 2 → taking-back s (undo-remove (length (s .image)) r before t) ≡ step undo s
+  pub was-removed : t .kind ≡ 2 → taking-back s r (undo-remove (length (s .image)) r before t) ≡ step undo s
   unfolding undo-entry choose
   was-removed k = rw (by-kind, ne-eqb (t .kind) 1 (λ q. omega arith), eq-eqb (t .kind) 2 k)
 
-  pub was-appended : t .kind ≡ 3 → taking-back s (undo-append r t) ≡ step undo s
+  pub was-appended : t .kind ≡ 3 → taking-back s r (undo-append r t) ≡ step undo s
   unfolding undo-entry choose
   was-appended k = rw (by-kind, ne-eqb (t .kind) 1 (λ q. omega arith), ne-eqb (t .kind) 2 (λ q. omega arith), eq-eqb (t .kind) 3 k)
 
   pub other-kind : (t .kind ≡ 1 → ⊥) → (t .kind ≡ 2 → ⊥) → (t .kind ≡ 3 → ⊥) → (refused 13, s) ≡ step undo s
   unfolding undo-entry choose
-  other-kind a b c = spoiled s (rw (ne-eqb (t .kind) 1 a, ne-eqb (t .kind) 2 b, ne-eqb (t .kind) 3 c)) ∙ sym by-kind
+  other-kind a b c = spoiled s r (rw (ne-eqb (t .kind) 1 a, ne-eqb (t .kind) 2 b, ne-eqb (t .kind) 3 c)) ∙ sym by-kind

@@ -7,7 +7,7 @@ use Prim.Native.Nat.{ℕ, suc, _+_, _-_, _≤_, _<_}
 use native.Mathlib.Omega.{arith}
 use lib.Dec.{eqb, ltb}
 use lib.ListN.{length, take, drop, length-append, length-replicate, drop-of-length-le}
-use lib.Seq.{split-at, length-take-le}
+use lib.Seq.{split-at, length-take-le, take-length}
 use borrow.Author.Tests.{eqb-true}
 use Rattle.fields.specs.Bytes.{zeros, put}
 use Rattle.fields.specs.Refusals.{spoiled-book}
@@ -75,7 +75,7 @@ module _ {image : List ℕ} {r : Routine} {i at : ℕ} (o : Block-in image r i a
   counted = instruction-count b (stands-here r i (o .holding) (o .within) (o .at-is)) (block-holds (o .holding) i (o .within))
 
 -- The image without that instruction
-module _ {image : List ℕ} {r : Routine} {i at n w : ℕ} (o : Last-in image r i at n w) where
+module _ {image : List ℕ} {r : Routine} {i at end n w : ℕ} (o : Last-in image r i at end n w) where
   abbrev a : BasicBlock
   a = the-block r i
 
@@ -105,11 +105,13 @@ module _ {image : List ℕ} {r : Routine} {i at n w : ℕ} (o : Last-in image r 
   pub longer : n ≤ length (code-of (a .instructions))
   longer = omega (arith, code-sum a k, sized)
 
-  pub unappended-image : (end : ℕ) → end ≡ at + 28 + length (code-of (a .instructions))
-      → put (at + 24) (bytes 4 (length (a .instructions) - 1)) (put (w - n) (zeros (w - (w - n))) (put (end - n) (take (w - end) (drop end image)) image))
+  pub ended : end ≡ at + 28 + length (code-of (a .instructions))
+  ended = o .ends ∙ ap₂ (λ a is. a + 28 + length (code-of is)) (sym (o .block .at-is)) (take-length (a .instructions))
+
+  pub unappended-image : put (at + 24) (bytes 4 (length (a .instructions) - 1)) (put (w - n) (zeros (w - (w - n))) (put (end - n) (take (w - end) (drop end image)) image))
       ≡ in-image (length image) (shortened r i)
   unfolding in-image
-  unappended-image end ee =
+  unappended-image =
       let X = instruction-bytes (final a) in
       let B = before r i in
       let C = bytes 4 (length (a .instructions)) in
@@ -125,6 +127,7 @@ module _ {image : List ℕ} {r : Routine} {i at n w : ℕ} (o : Last-in image r 
       let ew = o .written-is in
       let es = sized in
       let ei = inside in
+      let ee = ended in
       let la : length A ≡ from = omega (arith, length-append B (C ++ I), length-append C I, before-size r i, length-bytes 4 (length (a .instructions))) in
       let lt : length T ≡ w - end = omega arith in
       let c : image ≡ A ++ (X ++ (T ++ Z)) = o .is ∙ rw (cut-here r i h, code-split a k) (simp append-assoc) in

@@ -53,11 +53,12 @@ fn drop_block(image: &mut [u8], start: usize, at: usize, written: usize, place: 
     buffer::put_u32(image, start - ends::COUNT_SIZE, place);
 }
 
-// Taking back a create: the last block, which must be the one that was created and as it was then, becomes zeros.
+// Taking back a create: the last block, which must be the one that was created and as it was then, becomes zeros. It has no instructions, so the sum stays,
+// whatever it is.
 pub fn undo_create(book: Book, image: &mut [u8], journal: &mut [u8], last: Trailer) -> Answer
     requires { ⌜ Is-sound (state (now image) (now journal) book) × (20 ≤ book .used) ⌝ }
     ensures { λ x. ⌜ ((r : Routine) → held (state (now (image .entry)) (now (journal .entry)) book) ≡ accepted r
-        → outcome x (now (image .exit)) (now (journal .exit)) ≡ taking-back (state (now (image .entry)) (now (journal .entry)) book) (undo-create r (trailer-of last))) ⌝ }
+        → outcome x (now (image .exit)) (now (journal .exit)) ≡ taking-back (state (now (image .entry)) (now (journal .entry)) book) r (undo-create r (trailer-of last))) ⌝ }
 {
     let place = last.place;
     if last.len != 0 {
@@ -76,5 +77,5 @@ pub fn undo_create(book: Book, image: &mut [u8], journal: &mut [u8], last: Trail
     }
     drop_block(image, blocks.start, at, book.written as usize, place);
     let before = journal::clear_trailer(journal, book.used as usize);
-    book::accept(at, before)
+    book::accept(at, before, book.rates, book.sum)
 }

@@ -1,35 +1,39 @@
 -- What taking back a removal is, by the tests that the code makes: the entry is longer than the used part, its bytes are no block with the vip, a block
--- has it, the place is past the next, the image is full, or the block goes back.
+-- has it, the place is past the next, the image is full, the sum too large for the block, or the block goes back.
 -- Assumes nothing.
 use mathlib.Core.Path.{_≡_, refl, sym, ap, _∙_}
 use mathlib.Core.Bool.{true, false}
 use mathlib.Core.List.{List, [], _∷_}
-use Prim.Native.Nat.{ℕ, zero, suc, _+_, _-_, _≤_, _<_}
+use Prim.Native.Nat.{ℕ, zero, suc, _+_, _-_, _≤_, _<_, _^_}
 use native.Mathlib.Omega.{arith}
 use lib.ListN.{length, take, drop, length-drop}
 use lib.Seq.{take-nil, take-length, length-take-le}
 use lib.Dec.{leb, eqb}
 use borrow.Author.Tests.{le-leb, lt-leb, leb-true}
 use Rattle.fields.specs.Bytes.{zeros, put}
+use Rattle.fields.specs.Parse.{ok}
 use Rattle.fields.specs.Outcome.{Outcome, refused, accepted, after, _>>=_, _>>_, refuse-if, refuse-unless}
 use Rattle.fields.specs.Lists.{choose}
 use Rattle.fields.proofs.Only.{Only}
 use Rattle.fields.proofs.Outcomes.{unless-on, unless-off, unless-passed, if-passed, came}
 use Rattle.pod.specs.Values.{BasicBlock, Routine}
+use Rattle.pod.specs.Layout.{block}
 use Rattle.pod.specs.Written.{block-bytes}
 use Rattle.machine.specs.Edits.{present, place, insert-at, with-blocks, size}
 use Rattle.machine.specs.Journal.{last-bytes, undo-remove}
+use Rattle.machine.specs.Machine.{Answer}
+use Rattle.machine.specs.Charge.{block-sum, sum}
 use Rattle.machine.specs.Book.{State, in-image}
 use Rattle.machine.specs.Trailer.{Trailer}
 use Rattle.machine.proofs.Held.{whole-is, whole-only}
 use Rattle.machine.proofs.Keeps.{weight, size-blocks}
-use Rattle.machine.proofs.Lists.{present-before, absent-after}
+use Rattle.machine.proofs.Lists.{present-before, absent-after, total-insert}
+use Rattle.machine.proofs.Sums.{inserted-sum, carried-over, carried-to}
 use Rattle.machine.proofs.Undo.{remove-only}
 use Rattle.book.specs.Says.{leaving, taking-back, refusal-of}
 use Rattle.book.specs.Holding.{Sound}
 use Rattle.book.proofs.Answers.{accepted-by}
-use Rattle.book.proofs.Restored.{restored-to}
-use Rattle.image.proofs.Swaps.{total-insert}
+use Rattle.book.proofs.Restored.{sum-spoiled, restored-to}
 use Rattle.undo_remove.specs.Blocks.{whole-block, has-vip, is-block}
 
 -- bytes that are no block with the vip, and bytes that are
@@ -55,6 +59,8 @@ cut-end d s = ap (λ n. take n (drop d s)) (sym (length-drop d s)) ∙ take-leng
 pub record Fitting (N : ℕ) (r : Routine) (before : List ℕ) (t : Trailer) : Type 0 where
   pub long : t .len ≤ length before
   pub b : BasicBlock
+  pub end : ℕ
+  pub reads : block (last-bytes (t .len) before) 0 ≡ ok b end
   pub form : last-bytes (t .len) before ≡ block-bytes b
   pub placed : t .place ≤ length (r .explored-blocks)
   pub room : size r + t .len ≤ N
@@ -104,10 +110,13 @@ module _ (N : ℕ) (r : Routine) (before : List ℕ) (t : Trailer) where
       let a = if-passed 13 _ (present (t .vip) blocks) (v .1) in
       let p = unless-passed 13 _ (leb (t .place) (length blocks)) (a .1) in
       let m = unless-passed 13 _ (leb (size r + t .len) N) (p .1) in
+      let w = whole-is block-bytes (last-bytes (t .len) before) _ (c .1) in
       record {
         long = leb-true _ _ (l .0);
         b = c .0;
-        form = whole-is block-bytes (last-bytes (t .len) before) _ (c .1) .2;
+        end = w .0;
+        reads = w .1;
+        form = w .2;
         placed = leb-true _ _ (p .0);
         room = leb-true _ _ (m .0);
         is = e ∙ sym (m .1);
@@ -146,23 +155,44 @@ module _ (s : State) (r : Routine) (g : Sound s r) (t : Trailer) (h : 20 ≤ s .
     abbrev pub entry : List ℕ
     entry = take (s .book .used - 20 - from) (drop from (s .journal))
 
+    is-last : entry ≡ last-bytes (t .len) before
+    is-last = sym (part-of from (s .book .used - 20) (s .journal) (omega arith)) ∙ sym (ap (λ (n : ℕ). drop (n - t .len) before) used-size)
+
     pub is-block-form : entry ≡ block-bytes (f .b)
-    is-block-form =
-        sym (part-of from (s .book .used - 20) (s .journal) (omega arith))
-        ∙ sym (ap (λ (n : ℕ). drop (n - t .len) before) used-size)
-        ∙ f .form
+    is-block-form = is-last ∙ f .form
+
+    pub reads-block : block entry 0 ≡ ok (f .b) (f .end)
+    reads-block = ap (λ l. block l 0) is-last ∙ f .reads
 
     pub entry-size : length entry ≡ t .len
     entry-size =
         length-take-le (s .book .used - 20 - from) (drop from (s .journal)) (omega (arith, length-drop from (s .journal), g .used, enough))
         ∙ omega (arith, enough)
 
-    pub restores : (image journal : List ℕ) → image ≡ in-image (length (s .image)) (with-blocks (insert-at (t .place) (f .b) (r .explored-blocks)) r)
-        → journal ≡ put from (zeros (s .book .used - from)) (s .journal)
-        → leaving (record { image = image; journal = journal; book = record { written = s .book .written + t .len; used = from } })
-        ≡ taking-back s (undo-remove (length (s .image)) r before t)
-    restores image journal ei ej =
-        let w : weight (f .b) ≡ t .len = sym (ap length is-block-form) ∙ entry-size in
-        let c : from ≡ s .book .used - (20 + t .len) = omega arith in
-        let d : s .book .used - from ≡ 20 + t .len = omega (arith, enough) in
-        restored-to s _ (f .is) _ _ image journal (omega (arith, length-inserted (t .place) (f .b) r, w, g .written)) c ei (ej ∙ rw (d, c))
+    -- what the block comes to, with the sum
+    abbrev r′ : Routine
+    r′ = with-blocks (insert-at (t .place) (f .b) (r .explored-blocks)) r
+
+    abbrev taken : Answer × State
+    taken = taking-back s r (undo-remove (length (s .image)) r before t)
+
+    module _ {more : ℕ} (e : more ≡ block-sum (s .book .rates) (f .b)) where
+      gains : sum (s .book .rates) r′ ≡ sum (s .book .rates) r + more
+      gains = omega (arith, inserted-sum (s .book .rates) r (t .place) (f .b))
+
+      pub sum-over : s .book .sum < 2 ^ 64 → 2 ^ 64 ≤ s .book .sum + more → (refused 13, s) ≡ taken
+      sum-over n m = sum-spoiled s r r′ (f .is) (carried-over (s .book .rates) r r′ (s .book .sum) n (omega (arith, gains)))
+
+      pub restores : s .book .sum + more < 2 ^ 64 → (image journal : List ℕ) → image ≡ in-image (length (s .image)) r′
+          → journal ≡ put from (zeros (s .book .used - from)) (s .journal)
+          → leaving (record {
+            image = image;
+            journal = journal;
+            book = record { written = s .book .written + t .len; used = from; rates = s .book .rates; sum = s .book .sum + more };
+          }) ≡ taken
+      restores m image journal ei ej =
+          let w : weight (f .b) ≡ t .len = sym (ap length is-block-form) ∙ entry-size in
+          let c : from ≡ s .book .used - (20 + t .len) = omega arith in
+          let d : s .book .used - from ≡ 20 + t .len = omega (arith, enough) in
+          let n = carried-to (s .book .rates) r r′ (s .book .sum) (s .book .sum + more) (omega (arith, gains)) m in
+          restored-to s r r′ (f .is) n _ _ image journal (omega (arith, length-inserted (t .place) (f .b) r, w, g .written)) c ei (ej ∙ rw (d, c))

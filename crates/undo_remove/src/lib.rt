@@ -92,12 +92,13 @@ fn entry_refusal(image: &[u8], written: usize, entries: &[u8], last: Trailer) ->
     0
 }
 
-// The removal whose entry ends in the trailer `last` is taken back, or refused with 13 where the entry does not fit.
+// The removal whose entry ends in the trailer `last` is taken back, or refused with 13 where the entry does not fit, and then where the sum is too large for
+// what the block comes to.
 pub fn undo_remove(book: Book, image: &mut [u8], journal: &mut [u8], last: Trailer) -> Answer
     requires { ⌜ (Is-sound (state (now image) (now journal) book)) × (20 ≤ book .used) ⌝ }
     ensures { λ x. ⌜ ((r : Routine) → held (state (now (image .entry)) (now (journal .entry)) book) ≡ accepted r
         → outcome x (now (image .exit)) (now (journal .exit))
-        ≡ taking-back (state (now (image .entry)) (now (journal .entry)) book) (undo-remove (length (now (image .entry))) r (take (book .used - 20) (now (journal .entry))) (trailer-of last))) ⌝ }
+        ≡ taking-back (state (now (image .entry)) (now (journal .entry)) book) r (undo-remove (length (now (image .entry))) r (take (book .used - 20) (now (journal .entry))) (trailer-of last))) ⌝ }
 {
     let written = book.written as usize;
     let used = book.used as usize;
@@ -108,8 +109,13 @@ pub fn undo_remove(book: Book, image: &mut [u8], journal: &mut [u8], last: Trail
     }
     let size = last.len as usize;
     let from = before - size;
+    let sum = book.sum;
+    let more = charge::sum_of_block(&journal[from..before], 0, book.rates);
+    if !book::can_add(sum, more) {
+        return book::refuse(book, book::SPOILED_BOOK);
+    }
     swap_insert(image, last.place as usize, written, &journal[from..before]);
     buffer::clear(journal, from, used);
     let grown = written + size;
-    book::accept(grown, from)
+    book::accept(grown, from, book.rates, sum + more)
 }

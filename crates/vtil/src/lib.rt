@@ -117,12 +117,18 @@ pub extern "C" fn vtil_read_vip(file: &[u8], at: usize) -> VipRead
     reader::vip_at(file, at)
 }
 
-// Opening: the file's written form into the image, zeros after it and into the journal, and a fresh book.
+// Opening: the file's written form into the image, zeros after it and into the journal, and a fresh book, which carries the rates and what the routine comes
+// to at them.
 #[no_mangle]
-pub extern "C" fn vtil_open(file: &[u8], image: &mut [u8], journal: &mut [u8]) -> Answer
-    ensures { λ r. ⌜ outcome r (now (image .exit)) (now (journal .exit)) ≡ open-book (now (file .entry)) (now (image .entry)) (now (journal .entry)) ⌝ }
+pub extern "C" fn vtil_open(
+    file: &[u8],
+    image: &mut [u8],
+    journal: &mut [u8],
+    rates: Rates,
+) -> Answer
+    ensures { λ r. ⌜ outcome r (now (image .exit)) (now (journal .exit)) ≡ open-book (now (file .entry)) (now (image .entry)) (now (journal .entry)) (rates .rate) ⌝ }
 {
-    opening::open(file, image, journal)
+    opening::open(file, image, journal, rates)
 }
 
 // The writer of an instruction value.
@@ -259,8 +265,8 @@ pub extern "C" fn vtil_undo(book: Book, image: &mut [u8], journal: &mut [u8]) ->
     calls::undo(book, image, journal)
 }
 
-// Opens a file and runs a list of calls on it. By its contract it leaves what the routine machine leaves; demand 3 adds which books hold equal bytes,
-// and what a take back returns to.
+// Opens a file at rates and runs a list of calls on it. By its contract it leaves what the routine machine leaves, and carries the sum of the machine's
+// routine; demand 3 adds which books hold equal bytes, and what a take back returns to.
 #[no_mangle]
 pub extern "C" fn vtil_run(
     file: &[u8],
@@ -268,10 +274,11 @@ pub extern "C" fn vtil_run(
     journal: &mut [u8],
     words: &[u64],
     bytes: &[u8],
+    rates: Rates,
 ) -> RunAnswer
-    ensures { λ r. ⌜ Runs (now (file .entry)) (now (image .entry)) (now (journal .entry)) (now (words .entry)) (now (bytes .entry)) (run-outcome r (now (image .exit)) (now (journal .exit))) ⌝ }
+    ensures { λ r. ⌜ Runs (now (file .entry)) (now (image .entry)) (now (journal .entry)) (now (words .entry)) (now (bytes .entry)) (rates .rate) (run-outcome r (now (image .exit)) (now (journal .exit))) ⌝ }
 {
-    call_list::run(file, image, journal, words, bytes)
+    call_list::run(file, image, journal, words, bytes, rates)
 }
 
 // The same on a book that is there: words that encode no list are refused 15, with the book as handed in.

@@ -1,20 +1,24 @@
 -- `append::append` meets its contract: each answer is one law of an edit's step, with what `refusal_of_bytes` tells of the bytes, `find` of the routine
--- held, and with what appending makes of it.
+-- held, and with what appending makes of it and of its sum.
 -- Assumes nothing.
 use mathlib.Core.Path.{_≡_, sym, ap, _∙_}
+use mathlib.Core.Bool.{true, false}
 use native.Mathlib.Omega.{arith}
-use Prim.Native.Nat.{ℕ, _+_, _≤_, _<_}
+use Prim.Native.Nat.{ℕ, _+_, _≤_, _<_, _^_}
 use lib.ListN.{length}
+use borrow.Author.Tests.{ltb-true, ltb-false, not-true, not-false}
 use Rattle.fields.specs.Bytes.{put, Bytes}
-use Rattle.fields.specs.Outcome.{accepted}
+use Rattle.fields.specs.Outcome.{Outcome, refused, accepted}
 use Rattle.pod.specs.Values.{Routine}
 use Rattle.machine.specs.Edits.{Edit, append, edited, place, block-at, is-closed, size}
 use Rattle.machine.specs.Trailer.{trailer-with, trailer-bytes}
 use Rattle.machine.specs.Journal.{entry}
+use Rattle.machine.specs.Charge.{Rates, sum, carried}
 use Rattle.machine.specs.Book.{State}
+use Rattle.machine.proofs.Sums.{appended-sum, carried-over, carried-to}
 use Rattle.book.specs.Says.{state}
 use Rattle.book.proofs.Answers.{refused-by, admits}
-use Rattle.book.proofs.Steps.{refused-step, not-admitted-step, admitted-step}
+use Rattle.book.proofs.Steps.{refused-step, not-admitted-step, sum-spoiled-step, admitted-step}
 use Rattle.image.specs.Places.{Finds, Finds-last}
 use Rattle.image.proofs.Inspects.{sound-holding}
 use Rattle.image.proofs.Fills.{sound-filled}
@@ -50,8 +54,14 @@ refusing c = c .before .before
 abbrev testing : tie.After-admit → tie.Else3
 testing c = c .before
 
-abbrev admitting : tie.After-insert-instruction-arg → tie.After-admit
-admitting c = c .before .before
+abbrev admitting : tie.Else4 → tie.After-admit
+admitting c = c .before
+
+abbrev counting : tie.After-can-add → tie.After-sum-of-instruction
+counting c = c .before
+
+abbrev adding : tie.After-insert-instruction-arg → tie.Else5
+adding c = c .before
 
 abbrev inserting : tie.After-put-trailer-arg → tie.After-insert-instruction
 inserting c = c .before .before .before
@@ -72,6 +82,13 @@ module _ (s : tie.Start) where
 
   abbrev E : Edit
   E = append (s .args .vip .0) (s .args .instruction .now)
+
+  -- the sum has 64 bits, and a slice is shorter than 2^63
+  sum-fits : s .args .book .sum < 2 ^ 64
+  sum-fits = omega arith
+
+  lent : length (s .args .instruction .now) < 2 ^ 63
+  lent = omega arith
 
 octets : (c : tie.After-refusal-of-bytes) → Bytes (start c .args .instruction .now)
 octets c = c .before .shared-slice-known .given
@@ -138,15 +155,45 @@ module _ (c : tie.After-admit) where
   spent = omega (arith, append-costs (R s) (s .args .vip .0) (s .args .instruction .now) Y)
 
 -- after 11 and 12: there is room
-module _ (c : tie.After-insert-instruction-arg) where
+module _ (c : tie.Else4) where
   abbrev t : tie.Start
   t = s (admitting c)
 
   admitted : admitting c .admit .result ≡ 0
-  admitted = c .before .if4 .left
+  admitted = c .if4 .left
 
   room : (t .args .book .written + length (t .args .instruction .now) ≤ length (t .args .image .now)) × (t .args .book .used + 20 ≤ length (t .args .journal .now))
   room = admits _ _ _ (sym (admitting c .admit .ensures) ∙ admitted)
+
+-- what the sum becomes
+module _ (c : tie.After-can-add) where
+  abbrev passed : tie.Else4
+  passed = counting c .before
+
+  abbrev more : ℕ
+  more = counting c .sum-of-instruction .result
+
+  abbrev rates : Rates
+  rates = t passed .args .book .rates .rate
+
+  abbrev new-sum : Outcome ℕ
+  new-sum = carried rates (R (t passed)) (R′ (admitting passed)) (t passed .args .book .sum)
+
+  gains : sum rates (R′ (admitting passed)) ≡ sum rates (R (t passed)) + more
+  gains =
+      let a = admitting passed in
+      let m = counting c .sum-of-instruction .ensures _ _ (Y a .read) in
+      omega (arith, appended-sum rates (R (s a)) (I (s a)) (there (block (p a))) (Y a .x), m)
+
+  sum-over : c .can-add .result ≡ false → new-sum ≡ refused 13
+  sum-over h =
+      let l = ltb-false (t passed .args .book .sum + more) (2 ^ 64) (sym (c .can-add .ensures) ∙ h) in
+      carried-over rates (R (t passed)) (R′ (admitting passed)) _ (sum-fits (t passed)) (omega (arith, gains))
+
+  can-add-sum : c .can-add .result ≡ true → new-sum ≡ accepted (t passed .args .book .sum + more)
+  can-add-sum h =
+      let l = ltb-true (t passed .args .book .sum + more) (2 ^ 64) (sym (c .can-add .ensures) ∙ h) in
+      carried-to rates (R (t passed)) (R′ (admitting passed)) _ _ (omega (arith, gains)) (omega arith)
 
 returns : tie.Need-returns
 returns c =
@@ -182,31 +229,61 @@ returns-4 c =
     c .refuse4 .ensures _ _ (omega arith)
     ∙ not-admitted-step (S s) (R s) (s .pre .sound) (E s) (R′ a) (made a) (grown a) (spent a) (a .admit .ensures) (c .before .if4 .taken)
 
-insert-instruction-requires : tie.Need-insert-instruction-requires
-insert-instruction-requires c κs =
-    let a = admitting c in
-    (record { x = R (t c); i = I (t c); target = target (p a) }, (Y a, room c .0))
-
-cast-put-trailer-2 : tie.Need-cast-put-trailer-2
-cast-put-trailer-2 c = let i = inserting c .before in omega (arith, room i .0, t i .pre .sound .image-lent)
-
-put-trailer-requires : tie.Need-put-trailer-requires
-put-trailer-requires c κs = room (inserting c .before) .1
-
 returns-5 : tie.Need-returns-5
 returns-5 c =
+    let k = c .before .before in
+    let l = passed k in
+    let a = admitting l in
+    let s = s a in
+    c .refuse5 .ensures _ _ (omega arith)
+    ∙ sum-spoiled-step (S s) (R s) (s .pre .sound) (E s) (R′ a) (made a) (grown a) (spent a) (a .admit .ensures) (admitted l) (sum-over k (not-true _ (c .before .if5 .taken)))
+
+insert-instruction-requires : tie.Need-insert-instruction-requires
+insert-instruction-requires c κs =
+    let l = passed (adding c .before) in
+    let a = admitting l in
+    (record { x = R (s a); i = I (s a); target = target (p a) }, (Y a, room l .0))
+
+-- the room that was found, where the trailer goes
+abbrev roomy : tie.After-insert-instruction → tie.Else4
+roomy c = passed (adding (c .before) .before)
+
+cast-put-trailer-2 : tie.Need-cast-put-trailer-2
+cast-put-trailer-2 c = let l = roomy (inserting c) in omega (arith, room l .0, t l .pre .sound .image-lent)
+
+put-trailer-requires : tie.Need-put-trailer-requires
+put-trailer-requires c κs = room (roomy (inserting c)) .1
+
+-- the sum with the instruction fits
+add-accept : tie.Need-add-accept
+add-accept c =
+    let f = adding (inserting (c .before .before .before) .before) in
+    let k = f .before in
+    record { fits = ltb-true (t (passed k) .args .book .sum + more k) (2 ^ 64) (sym (k .can-add .ensures) ∙ not-false _ (f .if5 .left)) }
+
+returns-6 : tie.Need-returns-6
+returns-6 c =
     let o = noting c in
     let n = inserting (o .before) in
-    let i = n .before in
-    let a = admitting i in
+    let f = adding (n .before) in
+    let k = f .before in
+    let l = passed k in
+    let a = admitting l in
     let s = s a in
     let v = s .args .vip .0 in
     c .accept .ensures _ _
-    ∙ admitted-step (S s) (R s) (s .pre .sound) (E s) (R′ a) (made a) (grown a) (spent a) (a .admit .ensures) (admitted i)
+    ∙ admitted-step (S s) (R s) (s .pre .sound) (E s) (R′ a) (made a) (grown a) (spent a) (a .admit .ensures) (admitted l) (can-add-sum k (not-false _ (f .if5 .left)))
     (n .insert-instruction .ensures (R s) (I s) (Y a) (target (p a)))
     (o .put-trailer .ensures
     ∙ ap (λ j. put (s .args .book .used) (trailer-bytes (trailer-with v j (length (s .args .instruction .now)) 3)) (s .args .journal .now)) (finds (finding (block (p a))) .place)
     ∙ ap (λ l. put (s .args .book .used) l (s .args .journal .now)) (sym (entry-is (R s) v (s .args .instruction .now) (Y a))))
+
+-- what is written is within an image
+add-grown : tie.Need-add-grown
+add-grown c =
+    let s = at-last (reaching (asking c)) in
+    let g = s .pre .sound in
+    omega (arith, g .written, g .room, g .image-lent, lent s)
 
 pub append-spec : {M : Type 1} → statement M
 append-spec =
@@ -225,17 +302,23 @@ append-spec =
     (λ c κs. search needs)
     (λ c. search needs)
     returns-3
-    (λ c. search needs)
+    add-grown
     (λ c. search needs)
     (λ c κs. search needs)
     (λ c κs. search needs)
     (λ c. search needs)
     returns-4
+    (λ c κs. search needs)
+    (λ c κs. search needs)
+    (λ c κs. search needs)
+    (λ c. search needs)
+    returns-5
     insert-instruction-requires
     (λ c. search needs)
     cast-put-trailer-2
     put-trailer-requires
+    add-accept
     (λ c κs. search needs)
     (λ c. search needs)
     (λ c. search needs)
-    returns-5)
+    returns-6)

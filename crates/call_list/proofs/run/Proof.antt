@@ -34,12 +34,12 @@ calling c = c .before .before .before .before .before
 
 -- what is promised, from what the definitions say
 Promised : tie.After-is-call-list → ℕ × ℕ × State → Type 0
-Promised c x = let a = start c .args in Runs (a .file .now) (a .image .now) (a .journal .now) (a .words .now) (a .bytes .now) x
+Promised c x = let a = start c .args in Runs (a .file .now) (a .image .now) (a .journal .now) (a .words .now) (a .bytes .now) (a .rates .rate) x
 
 promised : (c : tie.After-is-call-list) (x : ℕ × ℕ × State)
-    → (let a = start c .args in x ≡ told (open-and-run (a .file .now) (a .image .now) (a .journal .now) (a .words .now) (a .bytes .now))) → Promised c x
+    → (let a = start c .args in x ≡ told (open-and-run (a .file .now) (a .image .now) (a .journal .now) (a .words .now) (a .bytes .now) (a .rates .rate))) → Promised c x
 unfolding Promised
-promised c = R.replays _ _ _ _ _ (λ i. omega (arith, c .before .before .shared-slice-known2 .given i)) (λ i. c .before .shared-slice-known3 .given i)
+promised c = R.replays _ _ _ _ _ _ (λ i. omega (arith, c .before .before .shared-slice-known2 .given i)) (λ i. c .before .shared-slice-known3 .given i)
 
 -- the words encode a list of calls
 encoded : (c : tie.Else1) → is-call-list (start (c .before) .args .words .now) (start (c .before) .args .bytes .now) ≡ true
@@ -52,7 +52,7 @@ returns c =
     promised (t .before) _
     (R.not-run-is _ _ _ _ (c .not-run .ensures)
     ∙ R.told-by _ _ _ (c .before .refuse-opening .ensures _ _ (omega arith))
-    ∙ R.no-list _ _ _ _ _ (sym (t .before .is-call-list .ensures) ∙ not-true _ (t .if1 .taken)))
+    ∙ R.no-list _ _ _ _ _ _ (sym (t .before .is-call-list .ensures) ∙ not-true _ (t .if1 .taken)))
 
 returns-2 : tie.Need-returns-2
 unfolding Promised
@@ -62,7 +62,7 @@ returns-2 c =
     let e = listed o in
     promised (e .before) _
     (R.not-run-is _ _ _ _ (c .not-run2 .ensures)
-    ∙ R.not-opened _ _ _ _ _ (encoded e) _ (o .«open» .ensures) (R.refused-is (o .«open» .result) [] [] (λ z. omega (arith, z, t .if2 .taken))))
+    ∙ R.not-opened _ _ _ _ _ _ (encoded e) _ (o .«open» .ensures) (R.refused-is (o .«open» .result) [] [] (λ z. omega (arith, z, t .if2 .taken))))
 
 run-calls-requires : tie.Need-run-calls-requires
 run-calls-requires c κs = encoded (listed (opening (c .before .before .before .before)))
@@ -76,7 +76,7 @@ returns-3 c =
     let e = listed o in
     promised (e .before) _
     (R.done-is _ _ _ _ (c .done .ensures)
-    ∙ R.opened-ran _ _ _ _ _ (encoded e) _ (o .«open» .ensures) (R.accepted-is (o .«open» .result) [] [] (omega (arith, f .if2 .left))) _ (k .run-calls .ensures))
+    ∙ R.opened-ran _ _ _ _ _ _ (encoded e) _ (o .«open» .ensures) (R.accepted-is (o .«open» .result) [] [] (omega (arith, f .if2 .left))) _ (k .run-calls .ensures))
 
 pub run-spec : {M : Type 1} → statement M
 run-spec =

@@ -10,6 +10,9 @@ use Rattle.ends.proofs.Same.{instruction-ends}
 use Rattle.machine.specs.Charge.{Rates, total, rate-of}
 use Rattle.charge.specs.Sums.{Table}
 use Rattle.machine.proofs.Sums.{most-rate}
+use Rattle.fields.specs.Bytes.{Bytes}
+use Rattle.instruction.proofs.Operation.{op-listed}
+use Rattle.charge.proofs.Tables.{in-table-is}
 use Rattle.charge.proofs.Totals.{Left, begins, ends, goes-on}
 use borrow.Author.Needs.{needs}
 use Rattle.charge.proofs.instructions_sum.Statement.{statement}
@@ -30,6 +33,12 @@ loop-holds c = (omega arith, λ rates t xs n e. begins xs e refl)
 abbrev turn : tie.After-rate-at Inv-loop μ-loop → tie.At-loop Inv-loop μ-loop
 turn c = c .before .before
 
+abbrev known : tie.At-loop Inv-loop μ-loop → tie.After-shared-slice-known Inv-loop μ-loop
+known c = c .before .before
+
+bytes : (c : tie.At-loop Inv-loop μ-loop) → Bytes (known c .before .args .s .now)
+bytes c = known c .shared-slice-known .given
+
 -- one more rate
 small : (c : tie.After-rate-at Inv-loop μ-loop) → c .rate-at .result ≤ most-rate
 small c = omega (arith, c .rate-at .ok)
@@ -44,7 +53,7 @@ loop-again c =
       omega (arith, small r, l .loop .inv .0, r .before .loop-test .taken),
       λ rates t xs n e.
           goes-on _ _ (l .loop .inv .1 rates t xs n e) (omega (arith, r .before .loop-test .taken))
-          (λ i k q. (r .rate-at .ensures rates t i k q, c .instruction-end .ensures ∙ instruction-ends _ _ q)),
+          (λ i k q. (r .rate-at .ensures i k q ∙ in-table-is t i (op-listed _ _ q (bytes l)), c .instruction-end .ensures ∙ instruction-ends _ _ q)),
     )
 
 returns : tie.Need-returns Inv-loop μ-loop

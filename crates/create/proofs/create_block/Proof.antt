@@ -13,6 +13,8 @@ use Rattle.machine.specs.Trailer.{trailer-with, trailer-bytes}
 use Rattle.machine.specs.Journal.{entry}
 use Rattle.machine.specs.Book.{State}
 use Rattle.machine.proofs.Keeps.{created-size}
+use Rattle.machine.specs.Charge.{carried}
+use Rattle.machine.proofs.Sums.{created-sum, carried-to}
 use Rattle.book.specs.Says.{state}
 use Rattle.book.proofs.Answers.{admits}
 use Rattle.book.proofs.Steps.{refused-step, not-admitted-step, admitted-step}
@@ -67,6 +69,10 @@ module _ (s : tie.Start) where
   spent : s .args .book .used + 20 ≡ s .args .book .used + length (entry E R)
   spent = omega (arith, create-costs R (s .args .vip .0))
 
+  -- the new block comes to nothing, so a sum of 64 bits is carried on as it is
+  sum-stays : carried (s .args .book .rates .rate) R R′ (s .args .book .sum) ≡ accepted (s .args .book .sum)
+  sum-stays = let rates = s .args .book .rates .rate in carried-to rates R R′ _ _ (omega (arith, created-sum rates R (s .args .vip .0))) (omega arith)
+
 finds : (c : tie.After-find) → Finds (R (start c)) (start c .args .vip .0) (c .find .result)
 finds c = let s = start c in c .find .ensures (R s) (sound-holding (s .pre .sound))
 
@@ -116,7 +122,7 @@ returns-3 c =
     let e = testing a in
     let s = at-tests e in
     c .accept .ensures _ _
-    ∙ admitted-step (S s) (R s) (s .pre .sound) (E s) (R′ s) (made e) (grown s) (spent s) (a .admit .ensures) (l .if2 .left)
+    ∙ admitted-step (S s) (R s) (s .pre .sound) (E s) (R′ s) (made e) (grown s) (spent s) (a .admit .ensures) (l .if2 .left) (sum-stays s)
     (b .add-block .ensures (R s) (sound-filled (s .pre .sound)))
     (p .put-trailer .ensures ∙ ap (λ n. put (s .args .book .used) (trailer-bytes (trailer-with (s .args .vip .0) n 0 1)) (s .args .journal .now)) (finds (finding e) .count))
 

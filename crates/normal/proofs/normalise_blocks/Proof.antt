@@ -1,5 +1,7 @@
--- The loop's invariant: those passed are in place, and as many as are left are read from where the loop stands. The measure is how many are left.
+-- The loop's invariant: those passed are in place, as many as are left are read from where the loop stands, and the sum so far with theirs is the whole.
+-- The measure is how many are left.
 use Prim.Native.Nat.{ℕ}
+use native.Mathlib.Omega.{arith}
 use mathlib.Core.Path.{_≡_, refl, _∙_}
 use mathlib.Core.List.{List}
 use lib.ListN.{length}
@@ -7,30 +9,55 @@ use Rattle.fields.specs.Parse.{ok, counted}
 use Rattle.pod.specs.Values.{BasicBlock}
 use Rattle.pod.specs.Layout.{block}
 use Rattle.pod.specs.Written.{block-bytes}
+use Rattle.charge.specs.Sums.{block-in}
 use Rattle.laws.proofs.Local.{local-block}
-use Rattle.normal.proofs.Runs.{Run, run-start, run-next, run-end}
+use Rattle.normal.proofs.Runs.{Run, run-start, run-next, run-below, run-end, run-sum}
 use borrow.Author.Needs.{needs}
 use Rattle.normal.proofs.normalise_blocks.Statement.{statement}
 use Rattle.normal.proofs.normalise_blocks.Tie as tie
 
 abbrev Inv-loop : tie.InvT-loop
-Inv-loop a₀ at left₀ o₀ a left o = (length a ≡ length a₀) × ((xs : List BasicBlock) (n : ℕ) → counted block a₀ at ≡ ok xs n → Run block block-bytes a₀ at xs n a left o)
+Inv-loop a₀ at table left₀ o₀ sum₀ a left o sum =
+    (length a ≡ length a₀) × ((xs : List BasicBlock) (n : ℕ) → counted block a₀ at ≡ ok xs n → Run block block-bytes (block-in table) a₀ at xs n a left o sum)
 
 abbrev μ-loop : tie.MeasureT-loop
-μ-loop a₀ at left₀ o₀ a left o = left
+μ-loop a₀ at table left₀ o₀ sum₀ a left o sum = left
+
+-- The way through the code, each place from the next.
+abbrev known : tie.After-word32 Inv-loop μ-loop → tie.After-slice-known Inv-loop μ-loop
+known c = c .before .before .before
+
+abbrev counting : tie.After-jump Inv-loop μ-loop → tie.After-word32 Inv-loop μ-loop
+counting c = c .before .before
+
+abbrev turn : tie.After-normalise-block Inv-loop μ-loop → tie.In-loop Inv-loop μ-loop
+turn c = c .before .before
 
 loop-holds : tie.Need-loop-holds Inv-loop μ-loop
-loop-holds c = (refl, λ xs n e. run-start (c .before .before .before .before .slice-known .given) e (c .before .before .word32 .ensures) (c .jump .ensures))
+loop-holds c =
+    let w = counting c in
+    (refl, λ xs n e. run-start (known w .slice-known .given) e (w .word32 .ensures) (c .jump .ensures))
+
+-- with one block more the sum is no more than the whole, which fits
+add-sum : tie.Need-add-sum Inv-loop μ-loop
+add-sum c =
+    let call = c .before .before .before in
+    let l = turn call in
+    let w = known (counting (l .before .before)) .before .pre in
+    let below = run-below (l .before .loop .inv .1 (w .x) (w .end) (w .reads)) local-block (l .loop-test .taken) (call .normalise-block .ensures) in
+    omega (arith, below, w .fits)
 
 loop-again : tie.Need-loop-again Inv-loop μ-loop
 loop-again c =
-    let call = c .before .before in
-    let turn = call .before .before in
-    let inv = turn .before .loop .inv in
-    (call .normalise-block .kept .0 ∙ inv .0, λ xs n e. run-next (inv .1 xs n e) local-block (turn .loop-test .taken) (call .normalise-block .ensures))
+    let call = c .before .before .before in
+    let l = turn call in
+    let inv = l .before .loop .inv in
+    (call .normalise-block .kept .0 ∙ inv .0, λ xs n e. run-next (inv .1 xs n e) local-block (l .loop-test .taken) (call .normalise-block .ensures))
 
 returns : tie.Need-returns Inv-loop μ-loop
-returns c = record { when = λ xs n e. run-end (c .before .loop .inv .1 xs n e) (c .loop-test .left) }
+returns c =
+    let inv = c .before .loop .inv in
+    record { when = λ xs n e. run-end (inv .1 xs n e) (c .loop-test .left); sums = λ xs n e. run-sum (inv .1 xs n e) (c .loop-test .left) }
 
 pub normalise-blocks-spec : {M : Type 1} → statement M
 normalise-blocks-spec =
@@ -42,6 +69,7 @@ normalise-blocks-spec =
     (λ c κs. search needs)
     loop-holds
     (λ c κs. search needs)
+    add-sum
     (λ c. search needs)
     (λ c. search needs)
     loop-again

@@ -8,13 +8,14 @@ use Rattle.pod.specs.Values.{RoutineConvention}
 use Rattle.pod.specs.Layout.{convention}
 use Rattle.pod.specs.Written.{convention-bytes}
 use Rattle.laws.proofs.Local.{local-convention}
+use Rattle.normal.specs.Over.{nothing}
 use Rattle.normal.proofs.Runs.{Run, run-start, run-next, run-end}
 use borrow.Author.Needs.{needs}
 use Rattle.normal.proofs.normalise_conventions.Statement.{statement}
 use Rattle.normal.proofs.normalise_conventions.Tie as tie
 
 abbrev Inv-loop : tie.InvT-loop
-Inv-loop a₀ at left₀ o₀ a left o = (length a ≡ length a₀) × ((xs : List RoutineConvention) (n : ℕ) → counted convention a₀ at ≡ ok xs n → Run convention convention-bytes a₀ at xs n a left o)
+Inv-loop a₀ at left₀ o₀ a left o = (length a ≡ length a₀) × ((xs : List RoutineConvention) (n : ℕ) → counted convention a₀ at ≡ ok xs n → Run convention convention-bytes nothing a₀ at xs n a left o 0)
 
 abbrev μ-loop : tie.MeasureT-loop
 μ-loop a₀ at left₀ o₀ a left o = left
@@ -30,7 +31,7 @@ loop-again c =
     (call .normalise-convention .kept .0 ∙ inv .0, λ xs n e. run-next (inv .1 xs n e) local-convention (turn .loop-test .taken) (call .normalise-convention .ensures))
 
 returns : tie.Need-returns Inv-loop μ-loop
-returns c = record { when = λ xs n e. run-end (c .before .loop .inv .1 xs n e) (c .loop-test .left) }
+returns c = record { when = λ xs n e. run-end (c .before .loop .inv .1 xs n e) (c .loop-test .left); sums = λ xs n e. refl }
 
 pub normalise-conventions-spec : {M : Type 1} → statement M
 normalise-conventions-spec =

@@ -1,4 +1,4 @@
--- The test of 11 is on the size of the written form; then the calls leave that form, zeros after it and a journal of zeros.
+-- The test of 11 is on the size of the written form; then the calls leave that form, zeros after it and a journal of zeros, and answer its sum.
 -- Assumes nothing.
 use native.Mathlib.Omega.{arith}
 use mathlib.Core.Path.{_∙_}
@@ -24,8 +24,8 @@ returns : tie.Need-returns
 returns c =
     let k = c .before .before .before .before in
     let a = k .before .args in
-    λ x e q. c .refuse-opening .ensures _ _ (omega arith)
-    ∙ no-room (a .file .now) (k .shared-slice-known .given) (a .n) x e (a .image .now) (a .journal .now) (omega (arith, c .before .if1 .taken))
+    λ x e. c .refuse-opening .ensures _ _ (omega arith)
+    ∙ no-room (a .file .now) (k .shared-slice-known .given) (a .n) x e (a .image .now) (a .journal .now) (a .rates .rate) (omega (arith, c .before .if1 .taken))
 
 returns-2 : tie.Need-returns-2
 returns-2 c =
@@ -35,9 +35,11 @@ returns-2 c =
     let fits = fitting put in
     let k = known fits in
     let a = k .before .args in
-    λ x e q. c .accept .ensures _ _
-    ∙ in-place (a .file .now) (k .shared-slice-known .given) (a .n) x e (a .image .now) (a .journal .now) (omega (arith, fits .if1 .left)) _ _ _
-    (put .put-written .ensures x e q) (first .clear .ensures) (cleared .clear2 .ensures)
+    λ x e.
+    let p = put .put-written .ensures x e in
+    c .accept .ensures _ _
+    ∙ in-place (a .file .now) (k .shared-slice-known .given) (a .n) x e (a .image .now) (a .journal .now) (a .rates .rate) (omega (arith, fits .if1 .left)) _ _ _
+    (p .0) (first .clear .ensures) (cleared .clear2 .ensures) (p .1)
 
 pub fill-spec : {M : Type 1} → statement M
 fill-spec =

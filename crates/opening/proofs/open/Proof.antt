@@ -48,21 +48,25 @@ refusal : (c : tie.After-walked-refusal) → walked routine routine-bytes (start
 refusal c = sym (handed (ap of-walked (c .before .enum-told .given .1)) (refusing c .pass-file .ensures) (c .walked-refusal .ensures))
 
 fill-requires : tie.Need-fill-requires
-fill-requires c κs = let far = c .before .before .before in ends _ (known (first (lent (walking far))) .shared-slice-known .given) (past far)
+fill-requires c κs =
+    let far = c .before .before .before in
+    let both = lent (walking far) in
+    let p = passed _ (past far) in
+    (ends _ (known (first both) .shared-slice-known .given) (past far), record { x = p .0; reads = p .1; lent = image-lent (both .before .before) })
 
 returns : tie.Need-returns
 returns c =
     let test = c .before .before in
     let args = start (test .before) .args in
     c .refuse-opening .ensures _ _ (omega arith)
-    ∙ image-long (args .file .now) (args .image .now) (args .journal .now) (leb-false _ _ (sym (test .is-lent .ensures) ∙ not-true _ (c .before .if1 .taken)))
+    ∙ image-long (args .file .now) (args .image .now) (args .journal .now) (args .rates .rate) (leb-false _ _ (sym (test .is-lent .ensures) ∙ not-true _ (c .before .if1 .taken)))
 
 returns-2 : tie.Need-returns-2
 returns-2 c =
     let test = c .before .before in
     let args = start (test .before .before .before) .args in
     c .refuse-opening2 .ensures _ _ (omega arith)
-    ∙ journal-long (args .file .now) (args .image .now) (args .journal .now) (image-lent (test .before))
+    ∙ journal-long (args .file .now) (args .image .now) (args .journal .now) (args .rates .rate) (image-lent (test .before))
     (leb-false _ _ (sym (test .is-lent2 .ensures) ∙ not-true _ (c .before .if2 .taken)))
 
 returns-3 : tie.Need-returns-3
@@ -72,7 +76,7 @@ returns-3 c =
     let both = lent (walking far) in
     let args = start (first both) .args in
     let p = passed (args .file .now) (past far) in
-    call .fill .ensures (p .0) (p .1) (past far) ∙ was-read (args .file .now) (args .image .now) (args .journal .now) (image-lent (both .before .before)) (journal-lent both) (p .1)
+    call .fill .ensures (p .0) (p .1) ∙ was-read (args .file .now) (args .image .now) (args .journal .now) (args .rates .rate) (image-lent (both .before .before)) (journal-lent both) (p .1)
 
 returns-4 : tie.Need-returns-4
 returns-4 c =
@@ -80,7 +84,7 @@ returns-4 c =
     let both = lent (refusing e) in
     let args = start (first both) .args in
     c .refuse-opening3 .ensures _ _ (some-refusal (args .file .now) (refusal e))
-    ∙ unread (args .file .now) (args .image .now) (args .journal .now) (image-lent (both .before .before)) (journal-lent both) (refusal e)
+    ∙ unread (args .file .now) (args .image .now) (args .journal .now) (args .rates .rate) (image-lent (both .before .before)) (journal-lent both) (refusal e)
 
 pub open-spec : {M : Type 1} → statement M
 open-spec =

@@ -3,12 +3,13 @@
 -- Assumes nothing.
 use mathlib.Core.Path.{_≡_, sym, ap₂, _∙_}
 use mathlib.Core.List.{_++_}
-use Prim.Native.Nat.{ℕ, _+_, _-_, _≤_, _<_}
+use Prim.Native.Nat.{ℕ, _+_, _-_, _≤_, _<_, _^_}
 use native.Mathlib.Omega.{arith}
 use lib.ListN.{length}
 use Rattle.fields.specs.Bytes.{put}
 use Rattle.pod.specs.Values.{Routine}
 use Rattle.machine.specs.Edits.{place, block-at, size}
+use Rattle.machine.specs.Charge.{block-sum}
 use Rattle.machine.specs.Book.{State}
 use Rattle.machine.specs.Trailer.{trailer-with, trailer-bytes}
 use Rattle.machine.proofs.Keeps.{weight}
@@ -55,12 +56,25 @@ being-there c = c .before .before
 abbrev ending : tie.After-admit → tie.After-block-end
 ending c = c .before
 
--- here every test is passed
-abbrev Passed : Type 0
-Passed = tie.Else2
+-- here there is room,
+abbrev Roomy : Type 0
+Roomy = tie.Else2
 
-abbrev testing : Passed → tie.After-admit
+abbrev testing : Roomy → tie.After-admit
 testing c = c .before
+
+abbrev summing : tie.After-sum-of-block → Roomy
+summing c = c .before .before
+
+-- and here every test is passed
+abbrev Passed : Type 0
+Passed = tie.Else3
+
+abbrev comparing : Passed → tie.After-sum-of-block
+comparing c = c .before
+
+abbrev at-end : Passed → tie.After-block-end
+at-end c = ending (testing (summing (comparing c)))
 
 abbrev passing : tie.After-put-entry → Passed
 passing c = c .before .before .before .before
@@ -116,13 +130,21 @@ module _ (c : tie.After-block-end) where
   is-spent : s .args .book .used + size-of + 20 ≡ s .args .book .used + W s + 20
   is-spent = omega (arith, ends)
 
-no-refusal : (c : Passed) → testing c .admit .result ≡ 0
+no-refusal : (c : Roomy) → testing c .admit .result ≡ 0
 no-refusal c = omega (arith, c .if2 .left)
 
-room : (c : Passed) → (let e = ending (testing c) in s e .args .book .used + size-of e + 20 ≤ length (s e .args .journal .now))
+room : (c : Roomy) → (let e = ending (testing c) in s e .args .book .used + size-of e + 20 ≤ length (s e .args .journal .now))
 room c =
     let e = ending (testing c) in
     K.room (S (s e)) (R (s e)) (s e .pre .sound) _ (there (being-there e)) _ _ (is-left e) (is-spent e) (testing c .admit .ensures) (no-refusal c) .1
+
+-- what the block comes to
+comes-to : (c : tie.After-sum-of-block) → let s = s (ending (testing (summing c))) in
+    c .sum-of-block .result ≡ block-sum (s .args .book .rates .rate) (block-at (P s) (R s .explored-blocks))
+comes-to c =
+    let e = ending (testing (summing c)) in
+    let s = s e in
+    c .sum-of-block .ensures _ _ (B.read-here (R s) (P s) (there (being-there e)) (s .args .image .now) (holding s) _ (finds (f e) .at))
 
 refused-15 : tie.Need-returns
 refused-15 c =
@@ -138,24 +160,40 @@ not-admitted c =
     c .refuse2 .ensures _ _ (omega (arith, c .before .if2 .taken))
     ∙ sym (K.not-admitted (S (s e)) (R (s e)) (s e .pre .sound) _ (there (being-there e)) _ _ (is-left e) (is-spent e) (t .admit .ensures) (λ z. omega (arith, z, c .before .if2 .taken)))
 
+sum-short : tie.Need-returns-3
+sum-short c =
+    let k = c .before .before in
+    let a = summing k in
+    let t = testing a in
+    let e = ending t in
+    c .refuse3 .ensures _ _ (omega arith)
+    ∙ sym (K.sum-short (S (s e)) (R (s e)) (s e .pre .sound) _ (there (being-there e)) _ _ (is-left e) (is-spent e) (t .admit .ensures) (no-refusal a) (comes-to k) (omega (arith, c .before .if3 .taken)))
+
 put-entry-requires : tie.Need-put-entry-requires
-put-entry-requires c κs = let a = c .before .before .before in (omega (arith, room a), omega (arith, s (ending (testing a)) .pre .sound .journal-lent))
+put-entry-requires c κs = let a = summing (comparing (c .before .before .before)) in (omega (arith, room a), omega (arith, s (ending (testing a)) .pre .sound .journal-lent))
 
 swap-remove-requires : tie.Need-swap-remove-requires
 swap-remove-requires c κs =
-    let e = ending (testing (passing (c .before .before .before))) in
+    let e = at-end (passing (c .before .before .before)) in
     record { r = R (s e); i = P (s e); removable = removable e }
 
-removed : tie.Need-returns-3
+-- a sum has 64 bits
+sum-fits : (s : tie.Start) → s .args .book .sum < 2 ^ 64
+sum-fits s = omega arith
+
+removed : tie.Need-returns-4
 removed c =
     let w = removing c in
     let n = entering w in
-    let a = passing n in
+    let l = passing n in
+    let k = comparing l in
+    let a = summing k in
     let e = ending (testing a) in
     let s = s e in
     let x = B.part-here (R s) (P s) (there (being-there e)) (s .args .image .now) (holding s) _ _ (finds (f e) .at) (ends e) in
     c .accept .ensures _ _
-    ∙ K.removed (S s) (R s) (s .pre .sound) _ (there (being-there e)) _ _ (is-left e) (is-spent e) (testing a .admit .ensures) (no-refusal a) _ _
+    ∙ K.removed (S s) (R s) (s .pre .sound) _ (there (being-there e)) _ _ (is-left e) (is-spent e) (testing a .admit .ensures) (no-refusal a) (comes-to k)
+    (omega (arith, l .if3 .left)) (sum-fits s) _ _
     (w .swap-remove .ensures (R s) (P s) (removable e))
     (n .put-entry .ensures ∙ ap₂ (λ i x. put (s .args .book .used) (x ++ trailer-bytes (trailer-with (s .args .vip .0) i (length x) 2)) (s .args .journal .now)) (finds (f e) .place) x)
 
@@ -177,9 +215,13 @@ remove-block-spec =
     (λ c κs. search needs)
     (λ c. search needs)
     not-admitted
-    (λ c. omega (arith, ends (ending (testing (c .before)))))
-    (λ c. let e = ending (testing (c .before .before)) in omega (arith, ends e, whole e, s e .pre .sound .room))
-    (λ c. let e = ending (testing (c .before .before)) in omega (arith, ends e, whole e, s e .pre .sound .room))
+    (λ c κs. search needs)
+    (λ c κs. search needs)
+    (λ c. search needs)
+    sum-short
+    (λ c. omega (arith, ends (at-end (c .before))))
+    (λ c. let e = at-end (c .before .before) in omega (arith, ends e, whole e, s e .pre .sound .room))
+    (λ c. let e = at-end (c .before .before) in omega (arith, ends e, whole e, s e .pre .sound .room))
     (λ c. search needs)
     put-entry-requires
     swap-remove-requires

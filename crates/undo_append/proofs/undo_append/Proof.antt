@@ -3,7 +3,7 @@
 -- Assumes nothing.
 use mathlib.Core.Path.{_≡_, sym, _∙_}
 use native.Mathlib.Omega.{arith}
-use Prim.Native.Nat.{_<_}
+use Prim.Native.Nat.{ℕ, _+_, _-_, _≤_, _<_, _^_}
 use lib.ListN.{length}
 use borrow.Author.Tests.{eq-eqb, ne-eqb, lt-ltb, le-ltb, not-true, not-false}
 use Rattle.fields.specs.Outcome.{refused, accepted}
@@ -11,17 +11,21 @@ use Rattle.fields.proofs.Outcomes.{unless-on, unless-off}
 use Rattle.pod.specs.Values.{BasicBlock, Routine}
 use Rattle.machine.specs.Machine.{Answer}
 use Rattle.machine.specs.Journal.{last-size-is, undo-append}
+use Rattle.machine.specs.Charge.{Rates, rate-of, sum, carried}
 use Rattle.machine.specs.Book.{State, held}
 use Rattle.machine.specs.Trailer.{Trailer}
 use Rattle.book.specs.Says.{state, taking-back}
 use Rattle.book.specs.Holding.{Holding, Sound}
-use Rattle.book.proofs.Restored.{spoiled, restored-to}
+use Rattle.machine.proofs.Sums.{shortened-sum, carried-short, carried-to}
+use Rattle.book.proofs.Restored.{spoiled, sum-spoiled, restored-to}
 use Rattle.journal.specs.Says.{trailer-of}
 use Rattle.image.proofs.Inspects.{of-held, sound-holding}
 use Rattle.image.proofs.Stands.{block-holds, block-word}
-use Rattle.image.proofs.Parts.{stands-here}
+use Rattle.image.specs.Places.{Finds-last}
+use Rattle.image.proofs.Parts.{any-instruction, stands-here}
+use Rattle.image.proofs.Lasts.{final, ordered, final-read}
 use Rattle.undo_append.specs.Last.{Block-in, Last-in, shortened}
-use Rattle.undo_append.proofs.Unappends.{inside, longer, shortened-size}
+use Rattle.undo_append.proofs.Unappends.{some, inside, longer, shortened-size}
 use Rattle.undo_append.proofs.Unappends as U
 use borrow.Author.Needs.{needs}
 use Rattle.undo_append.proofs.undo_append.Statement.{statement}
@@ -48,11 +52,15 @@ module _ (s : tie.Start) where
   holding = sound-holding sound
 
   -- an answer that is right of that routine is right of every routine that is held
-  over : (x : Answer × State) → x ≡ taking-back S (undo-append R T) → (r : Routine) → held S ≡ accepted r → x ≡ taking-back S (undo-append r T)
-  over x = of-held (λ q. taking-back S (undo-append q T)) sound
+  over : (x : Answer × State) → x ≡ taking-back S R (undo-append R T) → (r : Routine) → held S ≡ accepted r → x ≡ taking-back S r (undo-append r T)
+  over x = of-held (λ q. taking-back S q (undo-append q T)) sound
 
-  refuses : {x : Answer × State} → x ≡ (refused 13, S) → undo-append R T ≡ refused 13 → (r : Routine) → held S ≡ accepted r → x ≡ taking-back S (undo-append r T)
-  refuses e q = over _ (e ∙ spoiled S q)
+  refuses : {x : Answer × State} → x ≡ (refused 13, S) → undo-append R T ≡ refused 13 → (r : Routine) → held S ≡ accepted r → x ≡ taking-back S r (undo-append r T)
+  refuses e q = over _ (e ∙ spoiled S R q)
+
+  -- a sum has 64 bits
+  sum-fits : s .args .book .sum < 2 ^ 64
+  sum-fits = omega arith
 
 -- The way through the code, each place from the next.
 abbrev start : tie.After-blocks-of → tie.Start
@@ -70,13 +78,22 @@ at-vip c = c .before .before
 abbrev comparing : tie.Else2 → tie.After-word64
 comparing c = c .before .before
 
-abbrev at-last : tie.After-last-size-is → tie.Else2
-at-last c = c .before .before .before
+abbrev at-last : tie.After-last-instruction → tie.Else2
+at-last c = c .before .before
 
-abbrev looking : tie.Else3 → tie.After-last-size-is
+abbrev sizing : tie.After-has-size → tie.After-last-instruction
+sizing c = c .before .before
+
+abbrev looking : tie.Else3 → tie.After-has-size
 looking c = c .before
 
-abbrev dropping : tie.After-drop-instruction → tie.Else3
+abbrev summing : tie.After-sum-of-instruction → tie.Else3
+summing c = c .before .before
+
+abbrev taking : tie.Else4 → tie.After-sum-of-instruction
+taking c = c .before
+
+abbrev dropping : tie.After-drop-instruction → tie.Else4
 dropping c = c .before .before
 
 abbrev clearing : tie.After-clear-trailer → tie.After-drop-instruction
@@ -126,32 +143,74 @@ same-vip c =
     let s = start₄ c in
     placed (placing (offset c)) ∙ unless-on 13 _ (eq-eqb (B s .vip) (T s .vip) (omega (arith, c .if2 .left, vip-read (comparing c))))
 
--- and its last instruction has the entry's size
-abbrev start₅ : tie.After-last-size-is → tie.Start
+-- its last instruction was reached
+abbrev start₅ : tie.After-last-instruction → tie.Start
 start₅ c = start₄ (at-last c)
 
-last-read : (c : tie.After-last-size-is) → let s = start₅ c in c .last-size-is .result ≡ last-size-is (T s .len) (B s .instructions)
-last-read c = let s = start₅ c in c .last-size-is .ensures (R s) (T s .place) (here (offset (at-last c)))
+found : (c : tie.After-last-instruction) → let s = start₅ c in Finds-last (R s) (T s .place) (c .last-instruction .result)
+found c =
+    let s = start₅ c in
+    let o = here (offset (at-last c)) in
+    c .last-instruction .ensures (R s) (T s .place) (o .holding) (o .within) (o .at-is)
+
+-- and has the entry's size
+last-read : (c : tie.After-has-size) → let s = start₅ (sizing c) in c .has-size .result ≡ last-size-is (T s .len) (B s .instructions)
+last-read c = let s = start₅ (sizing c) in c .has-size .ensures (R s) (T s .place) (found (sizing c))
+
+abbrev last : tie.Else3 → tie.After-last-instruction
+last c = sizing (looking c)
 
 abbrev start₆ : tie.Else3 → tie.Start
-start₆ c = start₅ (looking c)
+start₆ c = start₅ (last c)
 
 abbrev block : tie.Else3 → tie.After-block-offset
-block c = offset (at-last (looking c))
+block c = offset (at-last (last c))
 
 last-in : (c : tie.Else3) → let s = start₆ c in
-    Last-in (s .args .image .now) (R s) (T s .place) (block c .block-offset .result) (T s .len) (s .args .book .written)
+    Last-in (s .args .image .now) (R s) (T s .place) (block c .block-offset .result) (last c .last-instruction .result .end) (T s .len) (s .args .book .written)
 last-in c =
     let s = start₆ c in
     record {
       block = here (block c);
       is = sound s .image;
       written-is = sound s .written;
+      ends = found (last c) .end;
       last = sym (last-read (looking c)) ∙ not-false _ (c .if3 .left);
     }
 
 passed : (c : tie.Else3) → let s = start₆ c in undo-append (R s) (T s) ≡ U.done (R s) (T s)
-passed c = same-vip (at-last (looking c)) ∙ unless-on 13 _ (last-in c .last)
+passed c = same-vip (at-last (last c)) ∙ unless-on 13 _ (last-in c .last)
+
+-- what the sum becomes without what that instruction comes to
+module _ (c : tie.After-sum-of-instruction) where
+  abbrev e : tie.Else3
+  e = summing c
+
+  abbrev s : tie.Start
+  s = start₆ e
+
+  abbrev rates : Rates
+  rates = s .args .book .rates .rate
+
+  abbrev less : ℕ
+  less = c .sum-of-instruction .result
+
+  abbrev R′ : Routine
+  R′ = shortened (R s) (T s .place)
+
+  comes-to : less ≡ rate-of rates (final (B s))
+  comes-to =
+      let r = final-read (R s) (T s .place) (found (last e)) (holding s) (here (block e) .within) (some (last-in e)) in
+      c .sum-of-instruction .ensures _ _ (r .1)
+
+  loses : sum rates R′ + less ≡ sum rates (R s)
+  loses = omega (arith, shortened-sum rates (R s) (T s .place) (here (block e) .within) any-instruction (some (last-in e)), comes-to)
+
+  sum-short : s .args .book .sum < less → carried rates (R s) R′ (s .args .book .sum) ≡ refused 13
+  sum-short h = carried-short rates (R s) R′ (s .args .book .sum) (omega (arith, loses))
+
+  sum-left : less ≤ s .args .book .sum → carried rates (R s) R′ (s .args .book .sum) ≡ accepted (s .args .book .sum - less)
+  sum-left h = carried-to rates (R s) R′ (s .args .book .sum) (s .args .book .sum - less) (omega (arith, loses)) (omega (arith, sum-fits s))
 
 returns : tie.Need-returns
 returns c =
@@ -169,30 +228,42 @@ returns-2 c =
     refuses s (c .refuse2 .ensures _ _ (omega arith))
     (placed (placing (at-vip w)) ∙ unless-off 13 _ (ne-eqb (B s .vip) (T s .vip) (λ e. omega (arith, t .if2 .taken, vip-read w))))
 
-last-size-is-requires : tie.Need-last-size-is-requires
-last-size-is-requires c κs = let e = c .before .before in let s = start₄ e in record { r = R s; i = T s .place; block = here (offset e) }
+has-size-requires : tie.Need-has-size-requires
+has-size-requires c κs = let l = c .before in let s = start₅ l in ordered (R s) (T s .place) (found l)
 
 returns-3 : tie.Need-returns-3
 returns-3 c =
     let t = c .before in
     let l = t .before in
-    refuses (start₅ l) (c .refuse3 .ensures _ _ (omega arith)) (same-vip (at-last l) ∙ unless-off 13 _ (sym (last-read l) ∙ not-true _ (t .if3 .taken)))
-
-sub-left : tie.Need-sub-left
-sub-left c = omega (arith, inside (last-in c), longer (last-in c))
-
-drop-instruction-requires : tie.Need-drop-instruction-requires
-drop-instruction-requires c κs = let e = c .before in let s = start₆ e in record { r = R s; i = T s .place; last-in = last-in e }
+    refuses (start₅ (sizing l)) (c .refuse3 .ensures _ _ (omega arith)) (same-vip (at-last (sizing l)) ∙ unless-off 13 _ (sym (last-read l) ∙ not-true _ (t .if3 .taken)))
 
 returns-4 : tie.Need-returns-4
 returns-4 c =
+    let k = c .before .before in
+    let s = s k in
+    over s _ (c .refuse4 .ensures _ _ (omega arith) ∙ sum-spoiled (S s) (R s) (R′ k) (passed (summing k)) (sum-short k (omega (arith, c .before .if4 .taken))))
+
+sub-left : tie.Need-sub-left
+sub-left c = let e = summing (taking c) in omega (arith, inside (last-in e), longer (last-in e))
+
+drop-instruction-requires : tie.Need-drop-instruction-requires
+drop-instruction-requires c κs = let e = summing (taking (c .before)) in let s = start₆ e in record { r = R s; i = T s .place; last-in = last-in e }
+
+-- an entry is used, and all that is used is in the journal
+clear-trailer-requires : tie.Need-clear-trailer-requires
+clear-trailer-requires c κs = let s = s (taking (dropping (c .before .before .before))) in (s .pre .1, sound s .used)
+
+returns-5 : tie.Need-returns-5
+returns-5 c =
     let t = c .before .before .before in
     let d = clearing t in
-    let e = dropping d in
-    let s = start₆ e in
+    let l = dropping d in
+    let k = taking l in
+    let e = summing k in
+    let s = s k in
     over s _
     (c .accept .ensures _ _
-    ∙ restored-to (S s) (shortened (R s) (T s .place)) (passed e) _ _ _ _ (sym (shortened-size (last-in e)))
+    ∙ restored-to (S s) (R s) (R′ k) (passed e) (sum-left k (omega (arith, l .if4 .left))) _ _ _ _ (sym (shortened-size (last-in e)))
     (t .clear-trailer .ensures .0) (d .drop-instruction .ensures (R s) (T s .place) (last-in e)) (t .clear-trailer .ensures .1))
 
 pub undo-append-spec : {M : Type 1} → statement M
@@ -209,15 +280,20 @@ undo-append-spec =
     (λ c κs. search needs)
     (λ c. search needs)
     returns-2
+    (λ c κs. search needs)
     (λ c. search needs)
-    last-size-is-requires
+    has-size-requires
     (λ c κs. search needs)
     (λ c. search needs)
     returns-3
+    (λ c κs. search needs)
+    (λ c κs. search needs)
+    (λ c. search needs)
+    returns-4
     sub-left
     drop-instruction-requires
-    (λ c κs. search needs)
+    clear-trailer-requires
     (λ c κs. search needs)
     (λ c. search needs)
     (λ c. search needs)
-    returns-4)
+    returns-5)

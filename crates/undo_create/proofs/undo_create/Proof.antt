@@ -3,7 +3,8 @@
 -- Assumes nothing.
 use mathlib.Core.Path.{_≡_, sym, _∙_}
 use native.Mathlib.Omega.{arith}
-use Prim.Native.Nat.{_+_, _≤_, _<_}
+use mathlib.Core.Bool.{true}
+use Prim.Native.Nat.{_+_, _≤_, _<_, _^_}
 use lib.ListN.{length}
 use borrow.Author.Tests.{eq-eqb, ne-eqb, not-true, not-false}
 use Rattle.fields.specs.Outcome.{refused, accepted}
@@ -11,10 +12,12 @@ use Rattle.fields.proofs.Outcomes.{unless-on, unless-off}
 use Rattle.pod.specs.Values.{BasicBlock, Routine}
 use Rattle.machine.specs.Machine.{Answer}
 use Rattle.machine.specs.Journal.{is-fresh, undo-create}
+use Rattle.machine.specs.Charge.{carried}
 use Rattle.machine.specs.Book.{State, held}
 use Rattle.machine.specs.Trailer.{Trailer}
 use Rattle.book.specs.Says.{state, taking-back}
 use Rattle.book.specs.Holding.{Holding, Sound, blocks-start, block-start}
+use Rattle.machine.proofs.Sums.{dropped-sum, carried-to}
 use Rattle.book.proofs.Restored.{spoiled, restored-to}
 use Rattle.journal.specs.Says.{trailer-of}
 use Rattle.image.proofs.Inspects.{of-held, sound-holding}
@@ -49,11 +52,15 @@ module _ (s : tie.Start) where
   holding = sound-holding sound
 
   -- an answer that is right of that routine is right of every routine that is held
-  over : (x : Answer × State) → x ≡ taking-back S (undo-create R T) → (r : Routine) → held S ≡ accepted r → x ≡ taking-back S (undo-create r T)
-  over x = of-held (λ q. taking-back S (undo-create q T)) sound
+  over : (x : Answer × State) → x ≡ taking-back S R (undo-create R T) → (r : Routine) → held S ≡ accepted r → x ≡ taking-back S r (undo-create r T)
+  over x = of-held (λ q. taking-back S q (undo-create q T)) sound
 
-  refuses : {x : Answer × State} → x ≡ (refused 13, S) → undo-create R T ≡ refused 13 → (r : Routine) → held S ≡ accepted r → x ≡ taking-back S (undo-create r T)
-  refuses e q = over _ (e ∙ spoiled S q)
+  refuses : {x : Answer × State} → x ≡ (refused 13, S) → undo-create R T ≡ refused 13 → (r : Routine) → held S ≡ accepted r → x ≡ taking-back S r (undo-create r T)
+  refuses e q = over _ (e ∙ spoiled S R q)
+
+  -- a sum has 64 bits
+  sum-fits : s .args .book .sum < 2 ^ 64
+  sum-fits = omega arith
 
 -- The way through the code, each place from the next.
 abbrev entering : tie.After-struct-known → tie.Start
@@ -159,8 +166,20 @@ start₇ c = start₆ (looking c)
 abbrev offset : tie.Else4 → tie.After-block-offset
 offset c = at-vip (comparing (at-fresh (looking c)))
 
+is-new : (c : tie.Else4) → is-fresh (B (start₇ c)) ≡ true
+is-new c = sym (fresh (looking c)) ∙ not-false _ (c .if4 .left)
+
 passed : (c : tie.Else4) → let s = start₇ c in undo-create (R s) (T s) ≡ U.done (R s) (T s)
-passed c = same-vip (at-fresh (looking c)) ∙ unless-on 13 _ (sym (fresh (looking c)) ∙ not-false _ (c .if4 .left))
+passed c = same-vip (at-fresh (looking c)) ∙ unless-on 13 _ (is-new c)
+
+-- it comes to nothing, so a sum of 64 bits is carried on as it is
+sum-stays : (c : tie.Else4) → let s = start₇ c in
+    carried (s .args .book .rates .rate) (R s) (up-to (R s) (T s .place)) (s .args .book .sum) ≡ accepted (s .args .book .sum)
+sum-stays c =
+    let s = start₇ c in
+    let p = placing (offset c) in
+    let rates = s .args .book .rates .rate in
+    carried-to rates (R s) (up-to (R s) (T s .place)) _ _ (omega (arith, dropped-sum rates (R s) (T s .place) (within p) (last-place p) (is-new c))) (sum-fits s)
 
 -- The block, as what drops it asks for it
 ends-with : (c : tie.Else4) → let s = start₇ c in
@@ -220,7 +239,7 @@ returns-5 c =
     let a = offset e in
     over s _
     (c .accept .ensures _ _
-    ∙ restored-to (S s) (up-to (R s) (T s .place)) (passed e) _ _ _ _ (placed a ∙ sym (up-to-size (R s) (T s .place) (omega (arith, within (placing a)))))
+    ∙ restored-to (S s) (R s) (up-to (R s) (T s .place)) (passed e) (sum-stays e) _ _ _ _ (placed a ∙ sym (up-to-size (R s) (T s .place) (omega (arith, within (placing a)))))
     (t .clear-trailer .ensures .0) (d .drop-block .ensures (R s) (ends-with e)) (t .clear-trailer .ensures .1))
 
 pub undo-create-spec : {M : Type 1} → statement M
