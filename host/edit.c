@@ -1,4 +1,4 @@
-/* routine edit FILE -s SCRIPT [-o OUT]: runs the script's lines as calls on the routine. */
+/* routine edit FILE -s SCRIPT [--rates R0,R1,R2,R3,R4,R5] [-o OUT]: runs the script's lines as calls on the routine. */
 #include "commands.h"
 
 #include <inttypes.h>
@@ -8,6 +8,7 @@
 #include "operations.h"
 #include "output.h"
 #include "printed.h"
+#include "rates.h"
 #include "script.h"
 #include "words.h"
 
@@ -52,7 +53,7 @@ static void print_line(FILE *to, const struct line *line)
 static void print_closed(FILE *to, const struct line *line, const struct book *book)
 {
     uint32_t last = book_last_operation(book, line->vip);
-    fprintf(to, ": refused %d: closed block: its last instruction is %s\n", VTIL_CLOSED_BLOCK, operation_name(last));
+    fprintf(to, ": refused %d: closed block: its last instruction is %s", VTIL_CLOSED_BLOCK, operation_name(last));
 }
 
 /* What the line was answered; a refused one left the book as it is. */
@@ -61,24 +62,45 @@ static void print_answer(FILE *to, const struct line *line, const struct book *b
     if (answer.refusal == VTIL_CLOSED_BLOCK)
         print_closed(to, line, book);
     else if (answer.refusal != 0)
-        fprintf(to, ": refused %" PRIu64 ": %s\n", answer.refusal, refusal_words((int64_t)answer.refusal));
+        fprintf(to, ": refused %" PRIu64 ": %s", answer.refusal, refusal_words((int64_t)answer.refusal));
     else
-        fprintf(to, ": accepted, %" PRIu64 " bytes written, %" PRIu64 " of the journal used\n", answer.book.written,
+        fprintf(to, ": accepted, %" PRIu64 " bytes written, %" PRIu64 " of the journal used", answer.book.written,
                 answer.book.used);
 }
 
+/* The cents of the sum that the book carries, as vtil.h makes them of it. */
+static void print_charge(FILE *to, vtil_book book)
+{
+    uint64_t cents = book.sum / 100 + (book.sum % 100 != 0);
+    fprintf(to, "charge %" PRIu64 " cent%s", cents, plural(cents));
+}
+
+/* Makes the line's call and says what it gave, with the charge after it where that is asked for. Whether it was accepted. */
+static bool try_line(FILE *to, const struct line *line, bool charged, struct book *book)
+{
+    vtil_answer answer = run_line(line, book);
+    print_line(to, line);
+    print_answer(to, line, book, answer);
+    if (charged) {
+        fputs(answer.refusal == 0 ? ", " : "; ", to); /* the words of some refusals have commas */
+        print_charge(to, answer.book);
+    }
+    fprintf(to, "\n");
+    book->numbers = answer.book; /* after a refusal the one handed in */
+    return answer.refusal == 0;
+}
+
 /* Answers how many lines were refused. */
-static size_t run_lines(FILE *to, const struct script *script, struct book *book)
+static size_t run_lines(FILE *to, const struct script *script, bool charged, struct book *book)
 {
     size_t refused = 0;
-    for (size_t i = 0; i < script->count; i++) {
-        const struct line *line = &script->lines[i];
-        vtil_answer answer = run_line(line, book);
-        print_line(to, line);
-        print_answer(to, line, book, answer);
-        refused += answer.refusal != 0;
-        book->numbers = answer.book; /* after a refusal the one handed in */
+    if (charged) {
+        fprintf(to, "opened: %" PRIu64 " bytes written, ", book->numbers.written);
+        print_charge(to, book->numbers);
+        fprintf(to, "\n");
     }
+    for (size_t i = 0; i < script->count; i++)
+        refused += !try_line(to, &script->lines[i], charged, book);
     fprintf(to, "%zu line%s, %zu refused\n", script->count, plural(script->count), refused);
     return refused;
 }
@@ -92,7 +114,8 @@ static enum status edit_book(const struct request *request, const struct script 
 {
     /* The answers don't stand among the routine's bytes. */
     FILE *to = request->out != NULL && output_is_standard(request->out) ? stderr : stdout;
-    enum status status = run_lines(to, script, book) == 0 ? ALL_ACCEPTED : SOME_REFUSED;
+    bool charged = request->rates != NULL;
+    enum status status = run_lines(to, script, charged, book) == 0 ? ALL_ACCEPTED : SOME_REFUSED;
     bool shown = was_shown(to);
     if (request->out == NULL)
         return status; /* that standard output failed is said at the end */
@@ -104,14 +127,18 @@ static enum status edit_book(const struct request *request, const struct script 
     return worse(status, output_write(request->out, book->image, (size_t)book->numbers.written));
 }
 
+/* The rates are read first: where they are none, neither the script nor the file is. */
 enum status edit_command(const struct request *request)
 {
+    vtil_rates rates = NO_RATES;
     struct script script;
     struct book book;
+    if (request->rates != NULL && !rates_read(request->rates, &rates))
+        return TROUBLE;
     enum status status = script_read(request->script, &script);
     if (status != ALL_ACCEPTED)
         return status;
-    status = book_open(request->files[0], growth(&script), VTIL_MOST_LENT, NO_RATES, &book);
+    status = book_open(request->files[0], growth(&script), VTIL_MOST_LENT, rates, &book);
     if (status == ALL_ACCEPTED) {
         status = edit_book(request, &script, &book);
         book_free(&book);

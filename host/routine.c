@@ -42,7 +42,8 @@ static const struct command commands[] = {
     {"same", "A B", "say whether two files hold one routine, and where their written forms first differ",
      "Bytes are counted from 0.\n"
      "Exit status: 0 one routine; 1 two routines; 2 a file was refused or could not be read.\n", "", "", 2, 2, same_command},
-    {"edit", "FILE -s SCRIPT [-o OUT]", "run the lines of a script on the routine, and say what each gives",
+    {"edit", "FILE -s SCRIPT [--rates R0,R1,R2,R3,R4,R5] [-o OUT]",
+     "run the lines of a script on the routine, and say what each gives",
      "A line of SCRIPT is one of:\n"
      "  create VIP      an empty block after the last one\n"
      "  remove VIP      the last block takes its place\n"
@@ -52,10 +53,12 @@ static const struct command commands[] = {
      "comment; lines without words are passed over.\n"
      "A refused line leaves the routine as it was, and the next line follows.\n"
      "  -s SCRIPT  the script. A line that is none of these stops it before the first call.\n"
+     "  --rates    also say what the routine is charged, in whole cents, when it is opened and\n"
+     "             after each line. The rates are those of routine charge, whose help says more.\n"
      "  -o OUT     after the last line, write the routine there; it may be FILE. It is\n"
      "             replaced whole, or left as it was. Without -o nothing is written.\n"
      "Exit status: 0 every line was accepted; 1 the file or some line was refused.\n",
-     "os", "s", 1, 1, edit_command},
+     "ors", "s", 1, 1, edit_command},
     {"charge", "FILE --rates R0,R1,R2,R3,R4,R5 [--verbose | --json]", "print what the routine is charged, in whole cents",
      "Each instruction costs the rate of its operation's group. The sum over all instructions is\n"
      "rounded up once to whole cents.\n"

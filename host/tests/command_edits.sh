@@ -268,13 +268,163 @@ line 11: create 0x9: accepted, 366 bytes written, 16777200 of the journal used
     rm "$scratch/large"
 }
 
+# The charge after each line ---------------------------------------------------------------------
+
+# Half a cent for a nop, one and a half for a jmp. Some refusals have words with a comma, so what follows them is parted by another mark.
+charged_lines() {
+    write_script <<END
+create 5
+append 5 $nop
+append 5 $(instruction jmp 1)
+append 5 $nop
+undo
+append 5 $nop
+append 5 $nop
+remove 5
+remove 5
+create 6
+undo
+undo
+append 5 $nop 00
+undo
+undo
+undo
+undo
+undo
+END
+    expect "edit --rates" 1 "opened: 114 bytes written, charge 0 cents
+line 1: create 0x5: accepted, 150 bytes written, 20 of the journal used, charge 0 cents
+line 2: append 0x5, 32 bytes: accepted, 182 bytes written, 40 of the journal used, charge 1 cent
+line 3: append 0x5, 48 bytes: accepted, 230 bytes written, 60 of the journal used, charge 2 cents
+line 4: append 0x5, 32 bytes: refused 18: closed block: its last instruction is jmp; charge 2 cents
+line 5: undo: accepted, 182 bytes written, 40 of the journal used, charge 1 cent
+line 6: append 0x5, 32 bytes: accepted, 214 bytes written, 60 of the journal used, charge 1 cent
+line 7: append 0x5, 32 bytes: accepted, 246 bytes written, 80 of the journal used, charge 2 cents
+line 8: remove 0x5: accepted, 114 bytes written, 232 of the journal used, charge 0 cents
+line 9: remove 0x5: refused 15: no such block, or no such place; charge 0 cents
+line 10: create 0x6: accepted, 150 bytes written, 252 of the journal used, charge 0 cents
+line 11: undo: accepted, 114 bytes written, 232 of the journal used, charge 0 cents
+line 12: undo: accepted, 246 bytes written, 80 of the journal used, charge 2 cents
+line 13: append 0x5, 33 bytes: refused 17: leftover: bytes after the appended instruction; charge 2 cents
+line 14: undo: accepted, 214 bytes written, 60 of the journal used, charge 1 cent
+line 15: undo: accepted, 182 bytes written, 40 of the journal used, charge 1 cent
+line 16: undo: accepted, 150 bytes written, 20 of the journal used, charge 0 cents
+line 17: undo: accepted, 114 bytes written, 0 of the journal used, charge 0 cents
+line 18: undo: refused 16: nothing to take back; charge 0 cents
+18 lines, 4 refused" "" "$routine" edit samples/minimal.vtil --rates 0,0,0,0,150,50 -s "$scratch/script"
+    # Without rates the same lines, but for the first and for what is said of the charge.
+    "$routine" edit samples/minimal.vtil -s "$scratch/script" >"$scratch/plain"
+    passes "edit without --rates says nothing of it" cmp "$scratch/plain" \
+        <(sed '1d; s/[,;] charge [0-9]* cents\{0,1\}$//' "$scratch/out")
+}
+
+# 49 instructions at the largest rate, one more, and a block of them that goes.
+charged_at_the_largest() {
+    local rates=4294967295,4294967295,4294967295,4294967295,4294967295,4294967295
+    printf 'append 1 %s\nremove 1\nundo\n' "$nop" >"$scratch/script"
+    expect "edit at the largest rates" 0 "opened: 4159 bytes written, charge 2104533975 cents
+line 1: append 0x1, 32 bytes: accepted, 4191 bytes written, 20 of the journal used, charge 2147483648 cents
+line 2: remove 0x1: accepted, 114 bytes written, 4117 of the journal used, charge 0 cents
+line 3: undo: accepted, 4191 bytes written, 20 of the journal used, charge 2147483648 cents
+3 lines, 0 refused" "" "$routine" edit samples/all-operations.vtil -s "$scratch/script" --rates $rates
+    expect "edit at rates of 0" 0 "opened: 4159 bytes written, charge 0 cents
+0 lines, 0 refused" "" "$routine" edit samples/all-operations.vtil -s /dev/null --rates 0,0,0,0,0,0
+}
+
+# What `routine charge` says of the routine that was written, after every beginning of a script.
+charged_as_charge_does() {
+    local rates=7,11,13,17,19,2300000 lines=0 said charge differ=""
+    write_script <<END
+create 1
+append 1 $(instruction add 2)
+append 1 $(instruction mov 2)
+remove 0x1000
+append 1 $(instruction te 3)
+undo
+append 1 $nop
+undo
+undo
+remove 0x1020
+append 1 $(instruction xor 2)
+remove 1
+undo
+append 1 $(instruction vexit 1)
+append 1 $nop
+remove 0x1010
+undo
+END
+    while [ "$lines" -le "$(wc -l <"$scratch/script")" ]; do
+        head -n "$lines" "$scratch/script" >"$scratch/beginning"
+        said=$("$routine" edit samples/blocks.vtil -s "$scratch/beginning" --rates $rates -o "$scratch/edited" |
+            sed -nE 's/^(opened|line).* charge ([0-9]+) cents?$/\2/p' | tail -n 1)
+        charge=$("$routine" charge "$scratch/edited" --rates $rates)
+        [ -n "$said" ] && [ "$said" = "$charge" ] || differ="$differ $lines"
+        lines=$((lines + 1))
+    done
+    passes "the charge is that of the file that is written, after each of $lines beginnings of a script" [ "$lines$differ" = 18 ]
+}
+
+charged_outputs() {
+    printf 'create 1\nappend 1 %s\n' "$nop" >"$scratch/script"
+    "$routine" edit samples/minimal.vtil -s "$scratch/script" -o "$scratch/edited" >/dev/null
+    "$routine" edit - -s "$scratch/script" --rates 0,0,0,0,0,250 -o - <samples/minimal.vtil 2>"$scratch/lines" | cmp - "$scratch/edited"
+    passes "edit --rates from standard input to standard output" [ "${PIPESTATUS[1]}" = 0 ]
+    passes "its charges are on standard error" [ "$(grep -o 'charge.*' "$scratch/lines" | tr '\n' ' ')" = "charge 0 cents charge 0 cents charge 3 cents " ]
+    expect "edit --rates of a damaged file" 1 "" "routine: samples/wrong-mark.vtil: $refused_3" \
+        "$routine" edit samples/wrong-mark.vtil -s "$scratch/script" --rates 1,1,1,1,1,1 -o "$scratch/edited"
+    expect "edit --rates, the charges on a full disk" 2 "" "routine: $scratch/in: not written: the lines' answers could not be shown
+routine: standard output could not be written: No space left on device" \
+        bash -c '"$0" edit samples/minimal.vtil -s "$1/script" --rates 1,1,1,1,1,1 -o "$1/in" >/dev/full' "$routine" "$scratch"
+}
+
+# bad_rates RATES WORDS: neither the script nor the file is read: there are none, and the file there is as it was.
+bad_rates() {
+    expect "edit: --rates '$1'" 2 "" "routine: --rates $1: $2" "$routine" edit missing -s missing --rates "$1" -o "$scratch/in"
+}
+wrong_rates() {
+    local six="six rates are due, R0 to R5" unknown="routine: unknown option (for a file of that name write ./ before it)"
+    local before command
+    before=$(cksum <"$scratch/in")
+    bad_rates "" "R0 is empty"
+    bad_rates "1,,3,4,5,6" "R1 is empty"
+    bad_rates "1,2,3,4,5" "R5 is missing: $six"
+    bad_rates "1,2,3,4,5,6,7" "R6 is one too many: $six"
+    bad_rates "1,-2,3,4,5,6" "R1 is not a decimal number"
+    bad_rates "1,2,3,4,5,0.5" "R5 is not a decimal number"
+    bad_rates "1,2,4294967296,4,5,6" "R2 is over 4294967295"
+    bad_rates "1,2,18446744073709551617,4,5,6" "R2 is over 4294967295"
+    passes "nothing was written by any of them" [ "$(cksum <"$scratch/in")" = "$before" ]
+    rest() { "$routine" edit samples/minimal.vtil -s - --rates 1 2>/dev/null; cat; }
+    passes "wrong rates leave standard input as it is" cmp samples/blocks.vtil <(rest <samples/blocks.vtil)
+    expect "edit: --rates without rates" 2 "" "routine: no rates given after --rates
+$try edit --help" "$routine" edit samples/minimal.vtil -s "$scratch/script" --rates
+    expect "edit: --rates twice" 2 "" "routine: given twice: --rates
+$try edit --help" "$routine" edit --rates 1,1,1,1,1,1 samples/minimal.vtil -s "$scratch/script" --rates 1,1,1,1,1,1
+    expect "edit: an option of charge" 2 "" "$unknown: --verbose
+$try edit --help" "$routine" edit samples/minimal.vtil -s "$scratch/script" --rates 1,1,1,1,1,1 --verbose
+    for command in check show normalize same; do
+        expect "$command: --rates" 2 "" "$unknown: --rates
+$try $command --help" "$routine" "$command" samples/minimal.vtil --rates 1,1,1,1,1,1
+    done
+}
+
+# The manual's example, whose file is the smallest sample.
+page_example() {
+    sed -n '/^\$ routine edit tariff.vtil .*rates/,/^\.fi$/p' docs/routine.1 | sed '1d; $d'
+}
+examples() {
+    printf 'create 0x40\nappend 0x40 %s\n' "$nop" >"$scratch/script"
+    expect "the manual's example of a charge" 0 "$(page_example)" "" \
+        "$routine" edit samples/minimal.vtil -s "$scratch/script" --rates 50,50,50,50,50,50
+}
+
 # The page's source without its marks, in one line.
 page_words() {
     sed 's/^\.[A-Z]* //' docs/routine.1 | tr '\n' ' '
 }
 helps() {
     local comment="What follows a # at the beginning of a word is a comment; lines without words are passed over."
-    passes "help for edit" grep -q "^usage: routine edit " <("$routine" edit --help)
+    passes "help for edit" grep -qF "usage: routine edit FILE -s SCRIPT [--rates R0,R1,R2,R3,R4,R5] [-o OUT]" <("$routine" edit --help)
     passes "the help says what a comment is" grep -qF "$comment" <("$routine" edit --help | tr '\n' ' ')
     passes "the page says the same" grep -qF "$comment" <(page_words)
 }
@@ -291,5 +441,11 @@ outputs
 bad_lines
 edit_fails
 at_the_limit
+charged_lines
+charged_at_the_largest
+charged_as_charge_does
+charged_outputs
+wrong_rates
+examples
 helps
 finish
