@@ -7,6 +7,7 @@
 #include <string.h>
 
 #include "book_pair.h"
+#include "by_hand.h"
 #include "calls.h"
 #include "cases.h"
 #include "group.h"
@@ -15,14 +16,8 @@
 #include "vtil.h"
 
 #define MADE 2000
-#define OPERATIONS 49
-#define JMP 38
-#define NOP 41
-#define NOP_SIZE 32
-#define BLOCK_FRONT 28 /* bytes of a block before its first instruction */
-#define ENTRY 20       /* bytes of the journal for a create or an append */
-#define VIP 5          /* of the block that is appended to */
-#define ABSENT 77      /* a vip that no block of these tests has */
+#define VIP 5     /* of the block that is appended to */
+#define ABSENT 77 /* a vip that no block of these tests has */
 
 static struct bytes *samples;
 static size_t sample_count;
@@ -45,79 +40,12 @@ static uint64_t due_after(uint32_t last)
     return closes(last) ? VTIL_CLOSED_BLOCK : 0;
 }
 
-/* Routines made by hand ----------------------------------------------------------------------- */
-
-static struct bytes file;
-
-static void begin_routine(uint32_t blocks)
-{
-    file.len = 0;
-    put_front(&file);
-    put(&file, 4, blocks);
-}
-
-static void put_vips(uint32_t count)
-{
-    put(&file, 4, count);
-    for (uint32_t i = 0; i < count; i++)
-        put(&file, 8, i);
-}
-
-/* A block of these operations, with so many vips in each of its lists. */
-static void put_block(uint64_t vip, const uint32_t *ops, uint32_t count, uint32_t vips)
-{
-    put_block_front(&file, vip, count);
-    for (uint32_t i = 0; i < count; i++)
-        put_instruction(&file, ops[i], 0);
-    put_vips(vips);
-    put_vips(vips);
-}
-
-/* Opens the routine that was made, in an image with so many bytes to spare. */
-static void open_routine(size_t spare, size_t journal_len)
-{
-    lend_book(file.len + spare, journal_len);
-    hold("opened", file.len, open_both(&file), 1);
-}
-
 /* Opens a routine of one block of these operations, with room for an instruction and an edit or two. */
 static void open_block(const uint32_t *ops, uint32_t count)
 {
     begin_routine(1);
-    put_block(VIP, ops, count, 0);
+    put_block(&file, VIP, ops, count, 0);
     open_routine(2 * VTIL_LONGEST_INSTRUCTION, 4 * ENTRY);
-}
-
-/* Calls that are due a refusal, or 0 ------------------------------------------------------------ */
-
-static void due(const char *what, const struct ref_call *call, uint64_t refusal)
-{
-    hold(what, image.len, (int64_t)call_both(call).refusal, (int64_t)refusal);
-}
-
-static void edit_due(const char *what, enum vtil_call kind, uint64_t vip, uint64_t refusal)
-{
-    struct ref_call call = call_of(kind, vip);
-    due(what, &call, refusal);
-}
-
-static void append_bytes_due(const char *what, uint64_t vip, const struct bytes *bytes, uint64_t refusal)
-{
-    struct ref_call call = {VTIL_APPEND, vip, bytes->at, bytes->len};
-    due(what, &call, refusal);
-}
-
-static void append_due(const char *what, uint64_t vip, uint32_t op, uint64_t refusal)
-{
-    static struct bytes b;
-    b.len = 0;
-    put_instruction(&b, op, 0);
-    append_bytes_due(what, vip, &b, refusal);
-}
-
-static void undo_due(const char *what, uint64_t refusal)
-{
-    edit_due(what, VTIL_UNDO, 0, refusal);
 }
 
 /* An append; what was accepted is taken back, so that the book is as it was. */
@@ -203,9 +131,9 @@ static void open_three(unsigned closed, uint32_t closer, uint32_t open_count)
     begin_routine(3);
     for (unsigned place = 0; place < 3; place++) {
         if (closed >> place & 1)
-            put_block(VIP + place, (const uint32_t[]){NOP, closer}, 2, place);
+            put_block(&file, VIP + place, (const uint32_t[]){NOP, closer}, 2, place);
         else
-            put_block(VIP + place, (const uint32_t[]){closer, NOP}, open_count, place);
+            put_block(&file, VIP + place, (const uint32_t[]){closer, NOP}, open_count, place);
     }
     open_routine(NOP_SIZE, ENTRY);
 }
@@ -230,9 +158,9 @@ static void links(void)
         for (uint32_t vips = 0; vips < 20; vips++)
             for (uint32_t blocks = 1; blocks < 3; blocks++) {
                 begin_routine(blocks);
-                put_block(VIP, (const uint32_t[]){JMP, last}, 2, vips);
+                put_block(&file, VIP, (const uint32_t[]){JMP, last}, 2, vips);
                 if (blocks == 2)
-                    put_block(VIP + 1, NULL, 0, vips);
+                    put_block(&file, VIP + 1, NULL, 0, vips);
                 open_routine(NOP_SIZE, ENTRY);
                 try_append("before its vips", VIP, NOP, due_after(last));
             }
@@ -353,42 +281,6 @@ static void disguises(void)
 
 /* The order of the refusals ---------------------------------------------------------------------------- */
 
-/* What is wrong with the call itself comes before what the block is. */
-static void faulty_appends(uint64_t vip)
-{
-    static struct bytes b;
-    b.len = 0;
-    put_operation(&b, "\xff", 1, 0);
-    put_zeros(&b, 21);
-    append_bytes_due("name not text", vip, &b, VTIL_NAME_NOT_TEXT);
-    b.len = 0;
-    put_operation(&b, "zzz", 3, 0);
-    put_zeros(&b, 21);
-    append_bytes_due("unknown operation", vip, &b, VTIL_UNKNOWN_OPERATION);
-    b.len = 0;
-    put_operation(&b, "nop", 3, 1);
-    put_zeros(&b, 16 + 21);
-    append_bytes_due("wrong operand count", vip, &b, VTIL_WRONG_OPERAND_COUNT);
-    b.len = 0;
-    put_operation(&b, "jmp", 3, 1);
-    put(&b, 4, 2);
-    put_zeros(&b, 12 + 21);
-    append_bytes_due("unknown operand kind", vip, &b, VTIL_UNKNOWN_OPERAND_KIND);
-    b.len = 0;
-    put_operation(&b, "jmp", 3, 1);
-    put(&b, 4, 1);
-    put_zeros(&b, 15);
-    put(&b, 1, 3);
-    put_zeros(&b, 8 + 21);
-    append_bytes_due("foreign register", vip, &b, VTIL_FOREIGN_REGISTER);
-    b.len = 0;
-    put_instruction(&b, NOP, 0);
-    put(&b, 1, 0);
-    append_bytes_due("leftover", vip, &b, VTIL_LEFTOVER);
-    for (b.len = 0; b.len < NOP_SIZE; b.len++)
-        append_bytes_due("short", vip, &b, VTIL_SHORT_FILE);
-}
-
 static void spoiled_due(void)
 {
     uint8_t before = twin.image[4];
@@ -408,7 +300,7 @@ static void orders(void)
     for (size_t i = 0; i < sizeof lengths / sizeof lengths[0]; i++)
         for (int j = 0; j < CLOSING; j++) {
             begin_routine(1);
-            put_block(VIP, &closing[j], 1, 0);
+            put_block(&file, VIP, &closing[j], 1, 0);
             open_routine(lengths[i][0], lengths[i][1]);
             spoiled_due();
             faulty_appends(VIP);
@@ -448,7 +340,7 @@ static void removed_and_restored(void)
         for (unsigned place = 0; place < 3; place++) {
             begin_routine(3);
             for (unsigned other = 0; other < 3; other++)
-                put_block(VIP + other, (const uint32_t[]){NOP, closing[i]}, 2, other);
+                put_block(&file, VIP + other, (const uint32_t[]){NOP, closing[i]}, 2, other);
             open_routine(100, 400);
             edit_due("remove", VTIL_REMOVE, VIP + place, 0);
             for (unsigned other = 0; other < 3; other++)
@@ -463,32 +355,6 @@ static void removed_and_restored(void)
     end();
 }
 
-/* Makes these bytes and a trailer the used part of the journal. */
-static void use_entry(const struct bytes *block, uint32_t place, uint32_t length, uint32_t kind)
-{
-    static struct bytes entry;
-    entry.len = 0;
-    if (block != NULL)
-        put_bytes(&entry, block->at, block->len);
-    put(&entry, 8, VIP);
-    put(&entry, 4, place);
-    put(&entry, 4, length);
-    put(&entry, 4, kind);
-    memcpy(twin.journal, entry.at, entry.len);
-    twin.numbers.used = entry.len;
-    copy_twin();
-}
-
-/* A block by itself, as an entry of a remove holds it. */
-static void make_removed(struct bytes *out, const uint32_t *ops)
-{
-    out->len = 0;
-    put_block_front(out, VIP, 2);
-    put_instruction(out, ops[0], 0);
-    put_instruction(out, ops[1], 0);
-    put_zeros(out, 8);
-}
-
 /* No list of calls leads to these journals: no nop is appended after one of the four. */
 static void journals_by_hand(void)
 {
@@ -497,22 +363,23 @@ static void journals_by_hand(void)
     for (int i = 0; i < CLOSING; i++) {
         const uint32_t open[2] = {closing[i], NOP}, closed[2] = {NOP, closing[i]};
         open_block(open, 2);
-        use_entry(NULL, 0, NOP_SIZE, 3);
+        use_entry(NULL, VIP, 0, NOP_SIZE, 3);
         undo_due("the nop", 0);
         append_due("closed without the nop", VIP, NOP, VTIL_CLOSED_BLOCK);
 
         open_block(closed, 2);
         b.len = 0;
         put_instruction(&b, closing[i], 0);
-        use_entry(NULL, 0, (uint32_t)b.len, 3);
+        use_entry(NULL, VIP, 0, (uint32_t)b.len, 3);
         undo_due("what closes it", 0);
         append_due("open without it", VIP, NOP, 0);
 
         for (int which = 0; which < 2; which++) {
-            make_removed(&b, which == 0 ? open : closed);
+            b.len = 0;
+            put_block(&b, VIP, which == 0 ? open : closed, 2, 0);
             begin_routine(0);
             open_routine(400, 400);
-            use_entry(&b, 0, (uint32_t)b.len, 2);
+            use_entry(&b, VIP, 0, (uint32_t)b.len, 2);
             undo_due("the block is restored", 0);
             append_due("as it was", VIP, NOP, which == 0 ? 0 : VTIL_CLOSED_BLOCK);
         }
