@@ -227,6 +227,16 @@ vtil_vip_read vtil_read_vip(const uint8_t *file, size_t file_len, uint64_t at);
 /* ==== Books: opening a file, writing an instruction, looking, the charge ========== */
 
 /*
+ * What a routine is billed at. The operations are six groups: numbers 0 to 3, 4 to 14,
+ * 15 to 25, 26 to 36, 37 to 40 and 41 to 48. Each group has a rate, which is any
+ * number. Every instruction of every block counts the rate of its operation's group;
+ * the sum, rounded up once to whole cents, is the charge.
+ */
+typedef struct {
+    uint32_t rate[6]; /* hundredths of a cent per instruction, by group */
+} vtil_rates;
+
+/*
  * A routine that is open for looking and editing has three parts, all kept by the
  * caller:
  *
@@ -235,9 +245,9 @@ vtil_vip_read vtil_read_vip(const uint8_t *file, size_t file_len, uint64_t at);
  *            and every flag 0 or 1. It is what to save.
  *   journal  lent memory that holds what vtil_undo needs. It may have length 0:
  *            then the routine can be looked at, but every edit is refused.
- *   book     how many bytes of the image are the written form and how many bytes of
- *            the journal are used; and for the charge the six rates that the book was
- *            opened at, and the running sum.
+ *   book     two lengths, how many bytes of the image are the written form and how
+ *            many bytes of the journal are used; and for the charge the rates that it
+ *            was opened at, and the running sum.
  *
  * Keep the three together: hand to each call the book that the call before it
  * answered, with the same image and journal at the same lengths, unchanged in
@@ -252,31 +262,26 @@ vtil_vip_read vtil_read_vip(const uint8_t *file, size_t file_len, uint64_t at);
  * A book is spoiled, and every call on it is refused 13, when `written` is over
  * the image's length, `used` is over the journal's length, the first `written`
  * bytes of the image are not exactly one routine in written form, or a byte after
- * them is not 0. What the journal holds is tested by vtil_undo alone, and the sum
- * only where it changes; the rates are not tested.
+ * them is not 0. What the journal holds is tested by vtil_undo alone.
  *
- * The charge. The operations are six groups: numbers 0 to 3, 4 to 14, 15 to 25, 26 to
- * 36, 37 to 40 and 41 to 48. Each group has a rate, any number, and every instruction
- * of every block counts the rate of its operation's group, in hundredths of a cent.
  * The rates of a book are those that it was opened at: no call changes them. Its sum
- * is that of all instructions at these rates, which opening works out. From then on
+ * is that of all instructions at these rates. vtil_open works it out; from then on
  * vtil_append adds the rate of the instruction, vtil_remove_block subtracts the sum of
- * the block, vtil_undo takes either back, and vtil_create_block leaves the sum as it
- * is. None of them walks over the routine for it, and the charge is there after each
- * call without another one. In whole cents, rounded up once, it is
+ * the block, and vtil_undo takes either back, without a walk over the routine for it.
+ * So the charge is there after every call. In whole cents, rounded up once, it is
  *
  *     sum / 100 + (sum % 100 != 0)
  *
- * and not (sum + 99) / 100, which wraps where a sum made by hand is near 2^64.
+ * and not (sum + 99) / 100, which wraps where a sum made by hand is near 2^64. As long
+ * as image, journal and book were kept together since the opening, these are the cents
+ * that vtil_charge works out afresh at the same rates.
  *
- * So after any calls that began with an opening, each given the book that the one
- * before it answered, the sum is that of the routine in the image, worked afresh, and
- * its cents are what vtil_charge answers at the same rates. Hand a book back as it was
- * answered: a call counts on from the sum that it is handed, at the rates that it is
- * handed, and does not see that they are others. Only a sum that is smaller than what
- * is to be subtracted, or that would pass 2^64 - 1 with what is to be added, is refused
- * 13, by vtil_remove_block, vtil_append and vtil_undo, and there this test is the last.
- * No sum that came from an opening meets it.
+ * So hand a book back as it was answered. A call counts on from the sum, and at the
+ * rates, that it is handed, and does not see that they are others. Only where the sum
+ * is smaller than what is to be subtracted, or would pass 2^64 - 1 with what is to be
+ * added, is the call refused 13, and that is its last test. vtil_remove_block,
+ * vtil_append and vtil_undo make it, where they change the sum; all other calls take
+ * any sum.
  *
  * Of every call here:
  *   Each pointer has as many bytes behind it as the length after it says, and may
@@ -291,10 +296,6 @@ vtil_vip_read vtil_read_vip(const uint8_t *file, size_t file_len, uint64_t at);
  *   Every call on a book reads the whole image first, to see that it is not
  *   spoiled: a call's time grows with the image's length.
  */
-typedef struct {
-    uint32_t rate[6]; /* hundredths of a cent per instruction, by group */
-} vtil_rates;
-
 typedef struct {
     uint64_t written; /* bytes of the image that are the written form */
     uint64_t used;    /* bytes of the journal that are used */
@@ -415,12 +416,10 @@ vtil_register_look vtil_convention_register(vtil_book book, const uint8_t *image
                                             uint64_t list, uint64_t place);
 
 /*
- * vtil_charge answers what a routine is billed at, worked afresh: every instruction
- * of every block counts the rate of its operation's group (above), in hundredths of a
- * cent; the sum is rounded up once to whole cents. The rates are those that are handed
- * in here, any numbers; the book's rates and its sum are not looked at. Image and
- * journal are only read; as every call on a book this one reads the whole image first,
- * and then once more.
+ * vtil_charge answers the charge of a routine in whole cents, worked afresh at the rates
+ * that are handed in here. The rates and the sum of the book are not looked at. Image
+ * and journal are only read; as every call on a book this one reads the whole image
+ * first, and then once more.
  *
  * No sum wraps: what an image can hold comes to less than 2^52 hundredths of a cent.
  * How many instructions of group g there are is the charge at rate 100 for group g
@@ -499,8 +498,8 @@ vtil_answer vtil_append(vtil_book book, uint8_t *image, size_t image_len, uint8_
  * Refusals, in this order: 10, 13; 16 when nothing of the journal is used; 13 when
  * its used part does not end in an entry that fits the image; 13 when the book's sum
  * is smaller than what is to be subtracted, or would pass 2^64 - 1 with what is to be
- * added. Neither of these two 13 happens to a book from vtil_open that was handed on
- * as it was answered, and whose image and journal nobody else wrote or cut.
+ * added. Neither happens to a book from vtil_open that was handed on as it was
+ * answered, and whose image and journal nobody else wrote or cut.
  */
 vtil_answer vtil_undo(vtil_book book, uint8_t *image, size_t image_len, uint8_t *journal, size_t journal_len);
 

@@ -69,6 +69,7 @@ write_sources() {
         >"$scratch/linked.cpp"
     awk '/^```c$/ { inside = 1; next } /^```$/ { inside = 0 } inside' README.md >"$scratch/example.c"
     loop_source >"$scratch/loop.c"
+    cents_source >"$scratch/cents.c"
 }
 
 # The header's loop over all instructions as it stands, in a program that prints the vip of each and ends with the refusal.
@@ -116,6 +117,36 @@ header_loop() {
     [ "$status" = 3 ]
 }
 
+# The header's way to make cents of a sum, as it stands, at sums whose cents are plain.
+cents_source() {
+    cat <<'END'
+#include "vtil.h"
+
+static uint64_t cents(uint64_t sum)
+{
+END
+    sed -n '/^ \*     sum \/ 100/s/^ \* *\(.*\)$/    return \1;/p' include/vtil.h
+    cat <<'END'
+}
+
+int main(void)
+{
+    static const uint64_t due[][2] = {
+        {0, 0}, {1, 1}, {99, 1}, {100, 1}, {101, 2}, {200, 2}, {201, 3}, {UINT64_MAX - 15, 184467440737095516},
+        {UINT64_MAX - 14, 184467440737095517}, {UINT64_MAX, 184467440737095517},
+    };
+    for (size_t i = 0; i < sizeof due / sizeof due[0]; i++)
+        if (cents(due[i][0]) != due[i][1])
+            return 1;
+    return 0;
+}
+END
+}
+
+header_cents() {
+    "$CC" -std=c11 "${strict[@]}" "$scratch/cents.c" -o "$scratch/cents" && "$scratch/cents"
+}
+
 readme_example() {
     "$CC" -std=c11 "${strict[@]}" "$scratch/example.c" "$archive" -o "$scratch/example" || return 1
     [ "$("$scratch/example" <samples/trailing.vtil)" = "a routine of 150 bytes" ] || return 1
@@ -145,6 +176,7 @@ else
 fi
 try "declares the functions that the archive defines" same_functions
 try "the header's loop over all instructions" header_loop
+try "the header's cents of a sum" header_cents
 try "the README's example" readme_example
 try "the README's example cuts no file" readme_example_long
 finish
