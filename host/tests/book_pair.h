@@ -26,7 +26,7 @@ void lend_book(size_t image_len, size_t journal_len);
  */
 void change_lengths(size_t image_len, size_t journal_len);
 
-/* Lends `file` and opens it in both at these rates; holds the answers and what is left behind. Answers whether it was accepted. */
+/* Lends `file` and opens it in both at these rates; holds the answers and what is left behind. Whether it was accepted. */
 bool open_at_rates(const struct bytes *file, vtil_rates rates);
 
 /* The same at any rates. */

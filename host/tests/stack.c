@@ -225,10 +225,17 @@ static void append(void)
     take(vtil_append(LENT, NEW, nop.at, nop.len));
 }
 
-static void remove_one(void)
+static void remove_empty(void)
 {
     MARK_TOP();
     take(vtil_remove_block(LENT, vip_of(1)));
+}
+
+/* Its instruction is read for the sum, here and where the block comes back. */
+static void remove_last(void)
+{
+    MARK_TOP();
+    take(vtil_remove_block(LENT, vip_of(LAST)));
 }
 
 static void undo(void)
@@ -335,7 +342,9 @@ int main(void)
     measure("vtil_undo, an append", undo);
     measure("vtil_undo, an append to an empty block", undo);
     measure("vtil_undo, a create", undo);
-    measure("vtil_remove_block", remove_one);
+    measure("vtil_remove_block, an empty one", remove_empty);
+    measure("vtil_undo, a remove of an empty block", undo);
+    measure("vtil_remove_block", remove_last);
     measure("vtil_undo, a remove", undo);
     measure("vtil_run_on", run_list_on);
     measure("vtil_run", run_list);
