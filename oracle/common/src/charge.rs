@@ -1,9 +1,14 @@
 //! The charge of a routine, worked out from the Rust's own values; the Rust has no such call.
 
+use crate::rng::Rng;
+use std::array::from_fn;
 use vtil_parser::{Op, Routine};
 
 /// In hundredths of a cent per instruction, by group.
 pub type Rates = [u32; 6];
+
+/// How many instructions of each group there are.
+pub type Counts = [u64; 6];
 
 /// The group of an operation: the groups are the sections in which `Op` lists its operations.
 fn group(op: &Op) -> usize {
@@ -60,11 +65,33 @@ fn group(op: &Op) -> usize {
     }
 }
 
+pub fn counts(routine: &Routine) -> Counts {
+    let mut counts = Counts::default();
+    for instruction in routine.explored_blocks.values().flat_map(|block| &block.instructions) {
+        counts[group(&instruction.op)] += 1;
+    }
+    counts
+}
+
+/// What so many instructions cost, in hundredths of a cent.
+pub fn sum(counts: &Counts, rates: Rates) -> u64 {
+    counts.iter().zip(rates).map(|(count, rate)| count * u64::from(rate)).sum()
+}
+
 /// In whole cents, rounded up once.
 pub fn charge(routine: &Routine, rates: Rates) -> u64 {
-    let instructions = routine.explored_blocks.values().flat_map(|block| &block.instructions);
-    let sum: u64 = instructions.map(|instruction| u64::from(rates[group(&instruction.op)])).sum();
-    sum.div_ceil(100)
+    sum(&counts(routine), rates).div_ceil(100)
+}
+
+/// Rates of 0, of 2^32 - 1, of both and their neighbours, small ones, and any.
+pub fn any_rates(rng: &mut Rng) -> Rates {
+    match rng.below(5) {
+        0 => [0; 6],
+        1 => [u32::MAX; 6],
+        2 => from_fn(|_| rng.pick(&[0, 1, u32::MAX - 1, u32::MAX])),
+        3 => from_fn(|_| rng.below(102) as u32),
+        _ => from_fn(|_| rng.edgy() as u32),
+    }
 }
 
 #[cfg(test)]

@@ -1,5 +1,7 @@
-//! Lists of calls from a seed: a file, the lent lengths, and calls of which some are accepted and some refused.
+//! Lists of calls from a seed: a file, the lent lengths, the rates, and calls of which some are accepted and some
+//! refused.
 
+use crate::charge::{any_rates, Rates};
 use crate::draft::{Draft, Field, Shape, MIDDLING, SMALL};
 use crate::faults::{apply, places, FAULTS};
 use crate::reference::Call;
@@ -9,6 +11,8 @@ pub struct List {
     pub file: Vec<u8>,
     pub image_length: usize,
     pub journal_length: usize,
+    /// Those of the opening.
+    pub rates: Rates,
     pub calls: Vec<Call>,
 }
 
@@ -75,6 +79,7 @@ pub fn list(rng: &mut Rng) -> List {
     List {
         image_length: draft.bytes.len() + room(rng, &[0, 35, 36, 37, 71, 72], 4_000),
         journal_length: room(rng, &[0, 19, 20, 39, 40, 55, 56, 76], 16_000),
+        rates: any_rates(rng),
         file: draft.bytes,
         calls,
     }

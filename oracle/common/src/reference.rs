@@ -1,6 +1,7 @@
 //! The reference: what docs/SPEC.md says of files and of lists of calls. It is written in C (reference/ of the
 //! repository), where the guard tests of the C side use it too; here it is called.
 
+use crate::charge::Rates;
 use std::ffi::CStr;
 use std::os::raw::c_char;
 use std::sync::OnceLock;
@@ -17,6 +18,7 @@ pub const UNKNOWN_OPERAND_KIND: Refusal = 6;
 pub const UNKNOWN_OPERATION: Refusal = 7;
 pub const WRONG_OPERAND_COUNT: Refusal = 8;
 pub const REPEATED_BLOCK: Refusal = 9;
+pub const SPOILED_BOOK: Refusal = 13;
 pub const BLOCK_PRESENT: Refusal = 14;
 pub const NO_SUCH_BLOCK: Refusal = 15;
 pub const CLOSED_BLOCK: Refusal = 18;
@@ -70,9 +72,16 @@ mod c {
         pub fn ref_check(file: *const u8, len: usize) -> i64;
         pub fn ref_is_text(bytes: *const u8, len: usize) -> bool;
         pub fn ref_list_counts(file: *const u8, len: usize) -> Counted;
-        pub fn ref_open(book: *mut LentBook, file: *const u8, len: usize) -> Answer;
+        pub fn ref_open(book: *mut LentBook, file: *const u8, len: usize, rates: Rates) -> Answer;
+        pub fn ref_step(book: *mut LentBook, call: *const Call) -> Answer;
         pub fn ref_charge(book: *const LentBook, rates: Rates) -> ChargeLook;
-        pub fn ref_machine_start(file: *const u8, len: usize, image_len: usize, journal_len: usize) -> *mut Machine;
+        pub fn ref_machine_start(
+            file: *const u8,
+            len: usize,
+            image_len: usize,
+            journal_len: usize,
+            rates: Rates,
+        ) -> *mut Machine;
         pub fn ref_machine_step(machine: *mut Machine, call: *const Call) -> Answer;
         pub fn ref_machine_image(machine: *const Machine, image: *mut u8);
         pub fn ref_machine_journal(machine: *const Machine, journal: *mut u8);
@@ -85,6 +94,8 @@ mod c {
 pub struct Book {
     pub written: u64,
     pub used: u64,
+    pub rates: Rates,
+    pub sum: u64,
 }
 
 /// What a call answers: the refusal (0: accepted), and the book after it.
@@ -135,20 +146,30 @@ pub fn list_counts(file: &[u8]) -> Counted {
     unsafe { c::ref_list_counts(file.as_ptr(), file.len()) }
 }
 
-/// Opens a file into an image and a journal.
-pub fn open(file: &[u8], image: &mut [u8], journal: &mut [u8]) -> Answer {
-    let mut book = c::LentBook {
+fn lent(numbers: Book, image: &mut [u8], journal: &mut [u8]) -> c::LentBook {
+    c::LentBook {
         image: image.as_mut_ptr(),
         journal: journal.as_mut_ptr(),
         image_len: image.len(),
         journal_len: journal.len(),
-        numbers: Book::default(),
-    };
-    unsafe { c::ref_open(&mut book, file.as_ptr(), file.len()) }
+        numbers,
+    }
+}
+
+/// Opens a file into an image and a journal, at these rates.
+pub fn open(file: &[u8], image: &mut [u8], journal: &mut [u8], rate: Rates) -> Answer {
+    let mut book = lent(Book::default(), image, journal);
+    unsafe { c::ref_open(&mut book, file.as_ptr(), file.len(), c::Rates { rate }) }
+}
+
+/// A call on a book, whatever its numbers are.
+pub fn step(numbers: Book, image: &mut [u8], journal: &mut [u8], call: &Call) -> Answer {
+    let mut book = lent(numbers, image, journal);
+    unsafe { c::ref_step(&mut book, &as_c(call)) }
 }
 
 /// The charge of a book in whole cents, or the refusal.
-pub fn charge(numbers: Book, image: &[u8], journal: &[u8], rate: [u32; 6]) -> Result<u64, Refusal> {
+pub fn charge(numbers: Book, image: &[u8], journal: &[u8], rate: Rates) -> Result<u64, Refusal> {
     // Looking writes nothing; the struct is that of calls that do.
     let book = c::LentBook {
         image: image.as_ptr().cast_mut(),
@@ -166,7 +187,7 @@ pub fn charge(numbers: Book, image: &[u8], journal: &[u8], rate: [u32; 6]) -> Re
 /// The written form of an accepted file, which consumes this many bytes.
 pub fn written(file: &[u8], consumed: usize) -> Vec<u8> {
     let mut image = vec![0; consumed];
-    let answer = open(file, &mut image, &mut []);
+    let answer = open(file, &mut image, &mut [], Rates::default());
     assert_eq!(
         (answer.refusal, answer.book.written),
         (0, consumed as u64),
@@ -183,6 +204,17 @@ pub enum Call {
     Undo,
 }
 
+/// The struct points to the call's bytes.
+fn as_c(call: &Call) -> c::Call {
+    let (kind, vip, bytes): (u32, u64, &[u8]) = match call {
+        Call::Create(vip) => (0, *vip, &[]),
+        Call::Remove(vip) => (1, *vip, &[]),
+        Call::Append(vip, bytes) => (2, *vip, bytes),
+        Call::Undo => (3, 0, &[]),
+    };
+    c::Call { kind, vip, bytes: bytes.as_ptr(), len: bytes.len() }
+}
+
 /// The routine machine.
 pub struct Machine {
     machine: *mut c::Machine,
@@ -192,21 +224,15 @@ pub struct Machine {
 
 impl Machine {
     /// The file has to be accepted, and to fit the image.
-    pub fn start(file: &[u8], image_length: usize, journal_length: usize) -> Machine {
+    pub fn start(file: &[u8], image_length: usize, journal_length: usize, rate: Rates) -> Machine {
         assert!(check(file).is_ok_and(|size| size <= image_length), "the file is accepted and fits the image");
-        let machine = unsafe { c::ref_machine_start(file.as_ptr(), file.len(), image_length, journal_length) };
+        let rates = c::Rates { rate };
+        let machine = unsafe { c::ref_machine_start(file.as_ptr(), file.len(), image_length, journal_length, rates) };
         Machine { machine, image_length, journal_length }
     }
 
     pub fn step(&mut self, call: &Call) -> Answer {
-        let (kind, vip, bytes): (u32, u64, &[u8]) = match call {
-            Call::Create(vip) => (0, *vip, &[]),
-            Call::Remove(vip) => (1, *vip, &[]),
-            Call::Append(vip, bytes) => (2, *vip, bytes),
-            Call::Undo => (3, 0, &[]),
-        };
-        let call = c::Call { kind, vip, bytes: bytes.as_ptr(), len: bytes.len() };
-        unsafe { c::ref_machine_step(self.machine, &call) }
+        unsafe { c::ref_machine_step(self.machine, &as_c(call)) }
     }
 
     /// What the image has to hold.

@@ -1,15 +1,20 @@
-//! Lists of calls: after every call the answer, the image and the journal beside the reference's routine machine,
-//! and the written bytes and the charge beside the Rust, which has create_block and remove_block of its own. Then the
-//! whole list again, in one call, and in two: from the opening to its middle, and on from there.
+//! Lists of calls: after every call the answer, the book, the image and the journal beside the reference's routine
+//! machine, and the written bytes, the sum and the charge beside the Rust, which has create_block and remove_block of
+//! its own. Then the whole list again, in one call, and in two: from the opening to its middle, and on from there.
+//! Every call and every list is also made on books with sums made by hand.
 
+use crate::calls::{self, Answer};
 use crate::charges;
-use crate::report::{hex, lengths, number, shrink, Report};
+use crate::report::{hex, number, numbers, shrink, Report};
+use crate::sums::{self, Change};
+use oracle::charge::{counts, Counts};
 use oracle::lists::{self, List};
 use oracle::reference::{Call, Machine, Refusal, BLOCK_PRESENT, CLOSED_BLOCK, NO_SUCH_BLOCK};
 use oracle::rng::Rng;
 use scroll::Pread;
+use std::cmp::Ordering;
 use std::collections::BTreeMap;
-use vtil::{Book, Lengths};
+use vtil::{Book, Numbers, Rates};
 use vtil_parser::{Instruction, Op, Routine, Vip};
 
 /// Does an edit to the Rust's routine. 14 and 15 are where the Rust's own calls answer `None`.
@@ -35,19 +40,6 @@ fn push(routine: &mut Routine, vip: u64, bytes: &[u8]) -> Result<(), Refusal> {
     Ok(())
 }
 
-/// What a call answers: the refusal (0: accepted), and what the book says after it.
-type Answer = (u64, Lengths);
-
-fn library_call(book: &mut Book<Vec<u8>>, call: &Call) -> Answer {
-    let answer = match call {
-        Call::Create(vip) => book.create_block(vtil::Vip(*vip)),
-        Call::Remove(vip) => book.remove_block(vtil::Vip(*vip)),
-        Call::Append(vip, bytes) => book.append(vtil::Vip(*vip), bytes),
-        Call::Undo => book.undo(),
-    };
-    (number(answer), book.lengths())
-}
-
 /// Keeps the edits that none has taken back.
 fn note(history: &mut Vec<Call>, call: &Call) {
     match call {
@@ -64,36 +56,78 @@ struct Run<'a> {
     machine: Machine,
     history: Vec<Call>,
     book: Book<Vec<u8>>,
+    /// How many instructions of each group the Rust's routine has.
+    counts: Counts,
     /// What the last call answered, or the opening.
     last: Answer,
 }
 
 /// An image and a journal of exactly the list's lengths, in which nothing is open.
 fn memory_for(list: &List) -> Book<Vec<u8>> {
-    Book::resume(Lengths::default(), vec![0xa5; list.image_length], vec![0x5a; list.journal_length])
+    Book::resume(Numbers::default(), vec![0xa5; list.image_length], vec![0x5a; list.journal_length])
+}
+
+fn opened(list: &List) -> Book<Vec<u8>> {
+    let mut book = memory_for(list);
+    book.reopen(&list.file, Rates(list.rates)).expect("lists have room for their files");
+    book
+}
+
+/// By the Rust.
+fn read(list: &List) -> Routine {
+    Routine::from_vec(&list.file).expect("document 01 accepts this file")
 }
 
 fn machine_for(list: &List) -> Machine {
-    Machine::start(&list.file, list.image_length, list.journal_length)
+    Machine::start(&list.file, list.image_length, list.journal_length, list.rates)
+}
+
+/// What the lists came to, beside the machine's answers.
+#[derive(Default)]
+struct Tally {
+    /// How often a call left a larger sum, a smaller one, and the same.
+    larger: usize,
+    smaller: usize,
+    same: usize,
+    by_hand: sums::Tally,
+}
+
+impl Tally {
+    fn count(&mut self, before: u64, after: u64) {
+        match after.cmp(&before) {
+            Ordering::Greater => self.larger += 1,
+            Ordering::Less => self.smaller += 1,
+            Ordering::Equal => self.same += 1,
+        }
+    }
+
+    fn print(&self) {
+        println!("sums after a call: larger {}, smaller {}, as before {}", self.larger, self.smaller, self.same);
+        self.by_hand.print();
+    }
 }
 
 impl Run<'_> {
     fn start(list: &List) -> Run<'_> {
-        let mut book = memory_for(list);
-        book.reopen(&list.file).expect("lists have room for their files");
-        let machine = machine_for(list);
-        let last = (0, book.lengths());
-        Run { list, machine, history: vec![], book, last }
+        let book = opened(list);
+        let last = (0, book.numbers());
+        let counts = counts(&read(list));
+        Run { list, machine: machine_for(list), history: vec![], book, counts, last }
     }
 
     /// The Rust's routine is no value to keep: it is read again, and every edit that still stands is done again.
     fn replayed(&self) -> Result<Routine, Refusal> {
-        let mut routine = Routine::from_vec(&self.list.file).expect("document 01 accepts this file");
+        let mut routine = read(self.list);
         self.history.iter().try_for_each(|call| edit(&mut routine, call))?;
         Ok(routine)
     }
 
-    fn difference_after(&mut self, call: &Call) -> Option<String> {
+    /// Of rates and sum after the opening, or after a call.
+    fn sum_difference(&self) -> Option<String> {
+        charges::sum_difference(&self.book, &self.counts, self.list.rates)
+    }
+
+    fn difference_after(&mut self, call: &Call, tally: &mut Tally) -> Option<String> {
         let step = self.machine.step(call);
         match step.refusal {
             BLOCK_PRESENT | NO_SUCH_BLOCK | CLOSED_BLOCK => {
@@ -105,70 +139,69 @@ impl Run<'_> {
             0 => note(&mut self.history, call),
             _ => {}
         }
-        let due = (step.refusal, lengths(step.book));
-        let got = library_call(&mut self.book, call);
+        let Ok(rust) = self.replayed() else {
+            return Some("document 01 does what the Rust refuses".to_string());
+        };
+        let change = Change { before: self.counts, after: counts(&rust) };
+        let by_hand = sums::call_difference(&self.book, call, &step, &change, &mut tally.by_hand);
+        if by_hand.is_some() {
+            return by_hand;
+        }
+        self.counts = change.after;
+        let due = (step.refusal, numbers(step.book));
+        let got = calls::made(&mut self.book, call);
         if got != due {
             return Some(format!("library {got:?}, document 01 {due:?}"));
         }
+        tally.count(self.last.1.sum, got.1.sum);
         self.last = got;
-        self.memory_difference()
+        self.memory_difference(rust)
     }
 
-    fn memory_difference(&self) -> Option<String> {
+    fn memory_difference(&self, rust: Routine) -> Option<String> {
         if self.book.image() != self.machine.image() {
             return Some("another image than document 01's".to_string());
         }
         if self.book.journal() != self.machine.journal() {
             return Some("another journal than document 01's".to_string());
         }
-        let Ok(rust) = self.replayed() else {
-            return Some("document 01 does what the Rust refuses".to_string());
-        };
-        let charged = charges::difference(&self.book, &rust);
         if self.book.written() != rust.into_bytes().expect("the sink has the routine's size") {
             return Some("other written bytes than the Rust's".to_string());
         }
-        charged
-    }
-}
-
-fn as_library_call(call: &Call) -> vtil::Call<'_> {
-    match call {
-        Call::Create(vip) => vtil::Call::Create(vtil::Vip(*vip)),
-        Call::Remove(vip) => vtil::Call::Remove(vtil::Vip(*vip)),
-        Call::Append(vip, bytes) => vtil::Call::Append(vtil::Vip(*vip), bytes),
-        Call::Undo => vtil::Call::Undo,
+        self.sum_difference().or_else(|| charges::difference(&self.book, &self.counts))
     }
 }
 
 /// The list in one call, or in one for each half, has to leave what its calls left one by one.
 fn difference_at_once(run: &Run) -> Option<String> {
-    let calls: Vec<vtil::Call> = run.list.calls.iter().map(as_library_call).collect();
+    let calls = calls::listed(&run.list.calls);
     let (first, second) = calls.split_at(calls.len() / 2);
-    let file = &run.list.file;
+    let (file, rates) = (&run.list.file, Rates(run.list.rates));
     let mut whole = memory_for(run.list);
-    let last = whole.run(file, &calls).expect("lists have room for their files");
+    let last = whole.run(file, &calls, rates).expect("lists have room for their files");
     let mut halves = memory_for(run.list);
-    let first = halves.run(file, first).expect("lists have room for their files");
+    let first = halves.run(file, first, rates).expect("lists have room for their files");
     let second = if second.is_empty() { first } else { halves.run_on(second) };
     difference_of(run, "at once", &whole, last).or_else(|| difference_of(run, "in halves", &halves, second))
 }
 
 fn difference_of(run: &Run, way: &str, book: &Book<Vec<u8>>, last: vtil::Last) -> Option<String> {
-    let got = (number(last), book.lengths());
+    let got = (number(last), book.numbers());
     if got != run.last {
         return Some(format!("{way} {got:?}, one by one {:?}", run.last));
     }
-    if (book.image(), book.journal()) != (run.book.image(), run.book.journal()) {
+    if !calls::same(book, &run.book) {
         return Some(format!("{way} another image or journal than one by one"));
     }
     None
 }
 
-fn difference(list: &List) -> Option<String> {
+fn difference(list: &List, tally: &mut Tally) -> Option<String> {
     let mut run = Run::start(list);
-    let one_by_one = list.calls.iter().find_map(|call| run.difference_after(call));
-    one_by_one.or_else(|| difference_at_once(&run))
+    run.sum_difference()
+        .or_else(|| list.calls.iter().find_map(|call| run.difference_after(call, tally)))
+        .or_else(|| difference_at_once(&run))
+        .or_else(|| sums::list_difference(&opened(list), &list.calls, &mut tally.by_hand))
 }
 
 fn with_calls(list: &List, calls: &[Call]) -> List {
@@ -176,11 +209,12 @@ fn with_calls(list: &List, calls: &[Call]) -> List {
 }
 
 fn describe(list: &List) -> String {
-    let calls = shrink(&list.calls, |calls| difference(&with_calls(list, calls)).is_some());
-    let text = difference(&with_calls(list, &calls)).expect("shrinking keeps the difference");
+    let difference = |calls: &[Call]| difference(&with_calls(list, calls), &mut Tally::default());
+    let calls = shrink(&list.calls, |calls| difference(calls).is_some());
+    let text = difference(&calls).expect("shrinking keeps the difference");
+    let List { image_length: image, journal_length: journal, rates, .. } = list;
     let file = hex(&list.file);
-    let (image, journal) = (list.image_length, list.journal_length);
-    format!("list: {text}: image {image}, journal {journal}, calls {calls:?}, file {file}")
+    format!("list: {text}: image {image}, journal {journal}, rates {rates:?}, calls {calls:?}, file {file}")
 }
 
 /// How often the machine gave each answer: 0 where it accepted, else the refusal.
@@ -206,14 +240,18 @@ impl Answers {
 
 pub fn run(count: usize, seed: u64, report: &mut Report) {
     let mut rng = Rng::new(seed);
-    let mut answers = Answers::default();
+    let (mut answers, mut tally) = (Answers::default(), Tally::default());
+    let (mut at_0, mut at_largest) = (0, 0);
     for _ in 0..count {
         let list = lists::list(&mut rng);
         answers.count(&list);
-        if difference(&list).is_some() {
+        at_0 += usize::from(list.rates == [0; 6]);
+        at_largest += usize::from(list.rates == [u32::MAX; 6]);
+        if difference(&list, &mut tally).is_some() {
             report.difference(|| describe(&list));
         }
     }
-    println!("lists {count}");
+    println!("lists {count}, of which opened at rates of 0 {at_0}, of 2^32 - 1 {at_largest}");
     answers.print();
+    tally.print();
 }

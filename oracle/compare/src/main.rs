@@ -2,6 +2,7 @@
 //! The exit status is 0 where nothing differs, 1 where something does, 2 on a bad command line.
 
 mod aborts;
+mod calls;
 mod charges;
 mod edits;
 mod files;
@@ -11,6 +12,7 @@ mod opens;
 mod options;
 mod reads;
 mod report;
+mod sums;
 
 use options::{Options, USAGE};
 use report::Report;

@@ -1,72 +1,93 @@
-//! Opening: the book, the image and the journal beside the reference, whose written form is held to the Rust's elsewhere.
+//! Opening, by itself and by a list without calls: the book, the image and the journal beside the reference, whose
+//! written form is held to the Rust's elsewhere.
 
-use crate::report::{lengths, number, Report};
+use crate::charges::rng_for;
+use crate::report::{number, numbers, Report};
+use oracle::charge::{any_rates, Rates};
 use oracle::draft::minimal_routine;
 use oracle::reference::{self, Refusal};
-use vtil::{Book, Lengths, MOST_LENT};
+use vtil::{Book, Numbers, MOST_LENT};
 
 /// What the lent memory holds before the opening, to see what it touches.
 const IMAGE_BEFORE: u8 = 0xa5;
 const JOURNAL_BEFORE: u8 = 0x5a;
 
 /// What the book says before the opening, to see that a refused one answers zeros.
-const LENGTHS_BEFORE: Lengths = Lengths { written: 1, used: 1 };
+const NUMBERS_BEFORE: Numbers = Numbers { written: 1, used: 1, rates: vtil::Rates([1; 6]), sum: 1 };
+
+/// What an opening is given beside the file.
+#[derive(Clone, Copy, Debug)]
+struct Given {
+    image_length: usize,
+    journal_length: usize,
+    rates: Rates,
+}
 
 /// The answer (0: accepted), the book, the image and the journal after the opening.
 #[derive(PartialEq)]
 struct Opened {
     refusal: Refusal,
-    lengths: Lengths,
+    numbers: Numbers,
     image: Vec<u8>,
     journal: Vec<u8>,
 }
 
-/// What the reference says.
-fn due(file: &[u8], image_length: usize, journal_length: usize) -> Opened {
-    let mut image = vec![IMAGE_BEFORE; image_length];
-    let mut journal = vec![JOURNAL_BEFORE; journal_length];
-    let answer = reference::open(file, &mut image, &mut journal);
-    Opened { refusal: answer.refusal, lengths: lengths(answer.book), image, journal }
+impl Given {
+    fn memory(&self) -> (Vec<u8>, Vec<u8>) {
+        (vec![IMAGE_BEFORE; self.image_length], vec![JOURNAL_BEFORE; self.journal_length])
+    }
+
+    /// What the reference says.
+    fn due(&self, file: &[u8]) -> Opened {
+        let (mut image, mut journal) = self.memory();
+        let answer = reference::open(file, &mut image, &mut journal, self.rates);
+        Opened { refusal: answer.refusal, numbers: numbers(answer.book), image, journal }
+    }
+
+    /// What the library does, by one of its ways to open.
+    fn opened(&self, open: impl FnOnce(&mut Book<&mut [u8]>, vtil::Rates) -> Result<(), vtil::Refusal>) -> Opened {
+        let (mut image, mut journal) = self.memory();
+        let mut book = Book::resume(NUMBERS_BEFORE, &mut image[..], &mut journal[..]);
+        let refusal = number(open(&mut book, vtil::Rates(self.rates)));
+        Opened { refusal, numbers: book.numbers(), image, journal }
+    }
 }
 
-/// What the library does.
-fn opened(file: &[u8], image_length: usize, journal_length: usize) -> Opened {
-    let mut image = vec![IMAGE_BEFORE; image_length];
-    let mut journal = vec![JOURNAL_BEFORE; journal_length];
-    let mut book = Book::resume(LENGTHS_BEFORE, &mut image[..], &mut journal[..]);
-    let refusal = number(book.reopen(file));
-    Opened { refusal, lengths: book.lengths(), image, journal }
-}
-
-fn difference_at(file: &[u8], image_length: usize, journal_length: usize) -> Option<String> {
-    let due = due(file, image_length, journal_length);
-    let got = opened(file, image_length, journal_length);
+fn difference_between(got: &Opened, due: &Opened) -> Option<String> {
     if got == due {
         return None;
     }
-    let what = if (got.refusal, got.lengths) != (due.refusal, due.lengths) {
-        format!("{} {:?}, due {} {:?}", got.refusal, got.lengths, due.refusal, due.lengths)
-    } else if got.image != due.image {
-        "another image".to_string()
-    } else {
-        "another journal".to_string()
-    };
-    Some(format!("open with image {image_length} and journal {journal_length}: {what}"))
+    if (got.refusal, got.numbers) != (due.refusal, due.numbers) {
+        return Some(format!("{} {:?}, due {} {:?}", got.refusal, got.numbers, due.refusal, due.numbers));
+    }
+    Some(format!("another {}", if got.image != due.image { "image" } else { "journal" }))
+}
+
+fn difference_at(file: &[u8], given: Given) -> Option<String> {
+    let due = given.due(file);
+    let single = given.opened(|book, rates| book.reopen(file, rates));
+    let list = given.opened(|book, rates| book.run(file, &[], rates).map(|last| last.expect("no call was refused")));
+    let named = |way, got| difference_between(got, &due).map(|what| format!("{way} with {given:?}: {what}"));
+    named("open", &single).or_else(|| named("list without calls", &list))
 }
 
 /// Opens the file with just enough room, with more, and with one byte too few.
 pub fn difference(file: &[u8], consumed: Result<usize, Refusal>) -> Option<String> {
     let size = consumed.unwrap_or(file.len());
+    let rates = any_rates(&mut rng_for(file));
     let lendings = [(size, 0), (size + 50, 30), (size.saturating_sub(1), 20)];
-    lendings.iter().find_map(|&(image, journal)| difference_at(file, image, journal))
+    let given = |(image_length, journal_length)| Given { image_length, journal_length, rates };
+    lendings.into_iter().find_map(|lending| difference_at(file, given(lending)))
 }
 
 /// The limit on what is lent, beside an accepted file and a refused one.
 pub fn limits(report: &mut Report) {
     const OVER: usize = MOST_LENT + 1;
+    let rates = [1, 20, 300, 4_000, 50_000, 600_000];
     for file in [minimal_routine(), vec![]] {
-        for (image, journal) in [(MOST_LENT, 20), (OVER, 20), (200, MOST_LENT), (200, OVER), (OVER, OVER)] {
-            if let Some(text) = difference_at(&file, image, journal) {
+        for (image_length, journal_length) in [(MOST_LENT, 20), (OVER, 20), (200, MOST_LENT), (200, OVER), (OVER, OVER)]
+        {
+            if let Some(text) = difference_at(&file, Given { image_length, journal_length, rates }) {
                 report.difference(|| text);
             }
         }

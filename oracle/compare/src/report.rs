@@ -1,5 +1,8 @@
 //! Differences: each is printed in hex, cut down to a small input, and counted.
 
+use oracle::reference;
+use vtil::{Numbers, Rates};
+
 const PRINTED: usize = 20;
 
 #[derive(Default)]
@@ -13,8 +16,15 @@ pub fn number(answer: Result<(), vtil::Refusal>) -> u64 {
 }
 
 /// The reference's book as the library's crate has it.
-pub fn lengths(book: oracle::reference::Book) -> vtil::Lengths {
-    vtil::Lengths { written: book.written, used: book.used }
+pub fn numbers(book: reference::Book) -> Numbers {
+    let reference::Book { written, used, rates, sum } = book;
+    Numbers { written, used, rates: Rates(rates), sum }
+}
+
+/// And the library's as the reference has it.
+pub fn for_reference(numbers: Numbers) -> reference::Book {
+    let Numbers { written, used, rates: Rates(rates), sum } = numbers;
+    reference::Book { written, used, rates, sum }
 }
 
 pub fn hex(bytes: &[u8]) -> String {
