@@ -1,15 +1,17 @@
-//! Edits of an opened book. The Rust's way from bytes to bytes is from_vec, the edit and into_bytes; it has no undo.
+//! Edits of an opened book. The Rust's way from bytes to bytes is from_vec, the edit and into_bytes; it has no undo. And
+//! the charge after an edit: read off the book, beside worked out afresh.
 
 use crate::clock::{best_of_both, heading, print, print_one_side, time};
-use crate::inputs::{one_block, vip_of, with_size};
+use crate::inputs::{one_block, vip_of, with_size, RATES};
 use oracle::draft::Draft;
 use oracle::rng::Rng;
 use std::time::Duration;
-use vtil::{BlockRef, Book, Refusal};
+use vtil::{BlockRef, Book, Rates, Refusal};
 use vtil_parser::{Routine, Vip};
 
 /// A vip that no block has.
 const NEW: u64 = 1;
+const SIZES: [(&str, usize); 3] = [("10 kB", 10_000), ("1 MB", 1_000_000), ("16 MB", 16_000_000)];
 const IMAGE_ROOM: usize = 1_000;
 const JOURNAL: usize = 65_536;
 
@@ -24,12 +26,12 @@ type Edited = Result<(), Refusal>;
 
 /// Does an edit and takes it back; answers how long each took.
 fn there_and_back(bench: &mut Bench, edit: impl Fn(&mut Book<&mut [u8]>) -> Edited) -> (Duration, Duration) {
-    let before = bench.book.lengths();
+    let before = bench.book.numbers();
     let (mut edited, mut undone) = (Ok(()), Ok(()));
     let there = time(|| edited = edit(&mut bench.book));
     assert_eq!(edited, Ok(()), "the measured edits are accepted");
     let back = time(|| undone = bench.book.undo());
-    assert_eq!((undone, bench.book.lengths()), (Ok(()), before), "every edit can be taken back");
+    assert_eq!((undone, bench.book.numbers()), (Ok(()), before), "every edit can be taken back");
     (there, back)
 }
 
@@ -109,15 +111,15 @@ fn create_and_remove(bench: &mut Bench, name: &str) {
     measure(bench, &format!("{name}, remove"), remove_rust, |book| book.remove_block(vtil::Vip(middle)));
 }
 
-fn with_book(file: &[u8], measures: impl Fn(&mut Bench)) {
+fn with_book(file: &[u8], measures: impl FnOnce(&mut Bench)) {
     let (mut image, mut journal) = (vec![1; file.len() + IMAGE_ROOM], vec![1; JOURNAL]);
-    let book = Book::open(file, &mut image[..], &mut journal[..]).expect("the measured files can be opened");
-    measures(&mut Bench { file, book });
+    let book = Book::open(file, &mut image[..], &mut journal[..], Rates(RATES));
+    measures(&mut Bench { file, book: book.expect("the measured files can be opened") });
 }
 
 pub fn edits() {
     heading("edits", "from_vec, edit, into_bytes", "library call");
-    for (name, size) in [("10 kB", 10_000), ("1 MB", 1_000_000), ("16 MB", 16_000_000)] {
+    for (name, size) in SIZES {
         with_book(&with_size(size), |bench| {
             create_and_remove(bench, name);
             append(bench, name);
@@ -125,4 +127,44 @@ pub fn edits() {
     }
     // The way to the end of a block's instructions passes all of them.
     with_book(&one_block(), |bench| append(bench, "8 MB in one block"));
+}
+
+/// A way to the cents of a book's charge.
+type Charge = fn(&Book<&mut [u8]>) -> u64;
+
+fn afresh(book: &Book<&mut [u8]>) -> u64 {
+    book.charge(Rates(RATES)).expect("an opened book has a charge")
+}
+
+fn read_off(book: &Book<&mut [u8]>) -> u64 {
+    book.cents()
+}
+
+/// How long an append with the charge after it took, and the cents. The append is taken back.
+fn append_and_charge(bench: &mut Bench, vip: u64, bytes: &[u8], charge: Charge) -> (Duration, u64) {
+    let mut cents = Ok(0);
+    let took = time(|| cents = bench.book.append(vtil::Vip(vip), bytes).map(|()| charge(&bench.book)));
+    assert_eq!(bench.book.undo(), Ok(()), "every edit can be taken back");
+    (took, cents.expect("the measured edits are accepted"))
+}
+
+/// The sides are measured in turn, so each has a book.
+fn measure_charge(name: &str, left: &mut Bench, right: &mut Bench) {
+    let (vip, bytes) = (open_block(left.file), instruction());
+    let (_, due) = append_and_charge(left, vip, &bytes, afresh);
+    let timed = |bench: &mut Bench, charge| {
+        let (took, cents) = append_and_charge(bench, vip, &bytes, charge);
+        assert_eq!(cents, due, "both sides come to the same charge");
+        took
+    };
+    print(name, left.file.len(), best_of_both(|| timed(left, afresh), || timed(right, read_off)));
+}
+
+/// What a screen shows after every keystroke: the charge by the sum that the book keeps, beside a walk over the routine.
+pub fn charges_after_edits() {
+    heading("the charge after an edit", "append, charge afresh", "append, sum read off");
+    for (name, size) in SIZES {
+        let file = with_size(size);
+        with_book(&file, |left| with_book(&file, |right| measure_charge(&format!("{name}, append"), left, right)));
+    }
 }

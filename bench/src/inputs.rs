@@ -4,6 +4,9 @@ use oracle::blocks::{empty_blocks, rearrange, set_block_count, Order};
 use oracle::draft::{minimal_routine, Draft};
 use oracle::rng::Rng;
 
+/// At which routines are opened and charged. All six differ, so that the sum depends on every group.
+pub const RATES: [u32; 6] = [1, 20, 300, 4_000, 50_000, 600_000];
+
 const SEED: u64 = 1;
 const INSTRUCTIONS_A_BLOCK: usize = 25;
 

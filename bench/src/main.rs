@@ -42,5 +42,6 @@ fn main() -> ExitCode {
     names::lookups();
     reading::repeated_vips(most_blocks);
     editing::edits();
+    editing::charges_after_edits();
     ExitCode::SUCCESS
 }

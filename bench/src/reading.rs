@@ -1,12 +1,12 @@
 //! Reading a file: the check beside from_vec, opening beside from_vec with into_bytes, and the charge beside a sum over
-//! what from_vec made.
+//! what from_vec made. Every opening is at rates, and so works out the routine's sum.
 
 use crate::clock::{best_of_both, heading, print, time};
-use crate::inputs::{in_order, instructions};
+use crate::inputs::{in_order, instructions, RATES};
 use oracle::blocks::{Order, ORDERS};
 use oracle::charge::charge;
 use std::time::Duration;
-use vtil::{Book, Lengths, Rates};
+use vtil::{Book, Numbers, Rates};
 use vtil_parser::Routine;
 
 fn rust_reads(file: &[u8]) -> Duration {
@@ -67,12 +67,13 @@ fn rust_reads_and_writes(file: &[u8]) -> Duration {
 /// The image and the journal are lent, so nothing is allocated inside the clock.
 fn library_opens(file: &[u8], book: &mut Book<&mut [u8]>) -> Duration {
     let mut answer = Ok(());
-    let took = time(|| answer = book.reopen(file));
+    let took = time(|| answer = book.reopen(file, Rates(RATES)));
     assert_eq!(answer, Ok(()), "the measured files can be opened");
     took
 }
 
-/// The first input as the Rust writes it: the pad 0, and every flag 0 or 1. Such a file is opened by one walk and a copy.
+/// The first input as the Rust writes it: the pad 0, and every flag 0 or 1. Such a file is opened without the walk that
+/// brings them to that form.
 fn in_written_form() -> Input {
     let routine = Routine::from_vec(&instructions()).expect("the measured files are accepted");
     let file = routine.into_bytes().expect("what was read is written");
@@ -80,11 +81,11 @@ fn in_written_form() -> Input {
 }
 
 pub fn opens(most_blocks: usize) {
-    heading("open", "from_vec, into_bytes", "library open");
+    heading("open, the sum worked out", "from_vec, into_bytes", "library open");
     let written = Some(in_written_form()).filter(|input| input.blocks <= most_blocks);
     for Input { name, file, .. } in inputs(most_blocks).into_iter().chain(written) {
         let (mut image, mut journal) = (vec![1; file.len()], vec![1; 4096]);
-        let mut book = Book::resume(Lengths::default(), &mut image[..], &mut journal[..]);
+        let mut book = Book::resume(Numbers::default(), &mut image[..], &mut journal[..]);
         let times = best_of_both(|| rust_reads_and_writes(&file), || library_opens(&file, &mut book));
         print(name, file.len(), times);
     }
@@ -102,15 +103,13 @@ pub fn looks(most_blocks: usize) {
     heading("validating an image", "library look", "memcpy of it");
     for Input { name, file, .. } in inputs(most_blocks) {
         let (mut image, mut journal) = (vec![1; file.len()], vec![1; 4096]);
-        let book = Book::open(&file, &mut image[..], &mut journal[..]).expect("the measured files can be opened");
+        let book = Book::open(&file, &mut image[..], &mut journal[..], Rates(RATES))
+            .expect("the measured files can be opened");
         let mut copy = vec![1; file.len()];
         let memcpy = || time(|| std::hint::black_box(&mut copy).copy_from_slice(&file));
         print(name, file.len(), best_of_both(|| library_looks(&book), memcpy));
     }
 }
-
-/// Six different ones, so that the charge depends on every group.
-const RATES: [u32; 6] = [1, 20, 300, 4_000, 50_000, 600_000];
 
 /// How long a side took, and the cents that it came to.
 type Charged = (Duration, u64);
@@ -131,10 +130,10 @@ fn library_charges(book: &Book<&mut [u8]>) -> Charged {
     (took, answer.expect("an opened book has a charge"))
 }
 
+/// The sum stands in the book that the opening answers.
 fn library_opens_and_charges(file: &[u8], book: &mut Book<&mut [u8]>) -> Charged {
-    let mut answer = Ok(0);
-    let took = time(|| answer = book.reopen(file).and_then(|()| book.charge(Rates(RATES))));
-    (took, answer.expect("the measured files can be opened"))
+    let took = library_opens(file, book);
+    (took, book.cents())
 }
 
 /// The time of a side that has to come to the cents that are due.
@@ -148,7 +147,8 @@ pub fn charges(most_blocks: usize) {
     heading("charging a book", "library look", "library charge");
     for Input { name, file, .. } in inputs(most_blocks) {
         let (mut image, mut journal) = (vec![1; file.len()], vec![1; 4096]);
-        let book = Book::open(&file, &mut image[..], &mut journal[..]).expect("the measured files can be opened");
+        let book = Book::open(&file, &mut image[..], &mut journal[..], Rates(RATES))
+            .expect("the measured files can be opened");
         let (_, due) = rust_reads_and_charges(&file);
         let charged = || coming_to(due, library_charges(&book));
         print(name, file.len(), best_of_both(|| library_looks(&book), charged));
@@ -157,10 +157,10 @@ pub fn charges(most_blocks: usize) {
 
 /// The charge from a file's bytes.
 pub fn charges_of_files(most_blocks: usize) {
-    heading("charging a file", "from_vec, summed up", "library open, charge");
+    heading("charging a file", "from_vec, summed up", "library open");
     for Input { name, file, .. } in inputs(most_blocks) {
         let (mut image, mut journal) = (vec![1; file.len()], vec![1; 4096]);
-        let mut book = Book::resume(Lengths::default(), &mut image[..], &mut journal[..]);
+        let mut book = Book::resume(Numbers::default(), &mut image[..], &mut journal[..]);
         let (_, due) = rust_reads_and_charges(&file);
         let rust = || coming_to(due, rust_reads_and_charges(&file));
         let library = || coming_to(due, library_opens_and_charges(&file, &mut book));
