@@ -103,7 +103,7 @@ pub fn admit(image_len: usize, journal_len: usize, written: usize, used: usize) 
     0
 }
 
-// Whether a sum of 64 bits has 64 bits after adding. By a subtraction, which does not wrap.
+// Whether a sum fits 64 bits with so much more. By a subtraction, which does not wrap.
 pub fn can_add(sum: u64, more: u64) -> bool
     ensures { λ r. ⌜ r ≡ ltb (sum + more) (2 ^ 64) ⌝ }
 {

@@ -20,7 +20,7 @@ pub fn create_block(book: Book, image: &mut [u8], journal: &mut [u8], vip: Vip) 
     create::create_block(book, image, journal, vip)
 }
 
-// The block with the vip goes, and the last block takes its place: 15 where it is absent, then 12.
+// The block with the vip goes, and the last block takes its place: 15 where it is absent, then 12, and 13 for the sum.
 pub fn remove_block(book: Book, image: &mut [u8], journal: &mut [u8], vip: Vip) -> Answer
     ensures { λ r. ⌜ outcome r (now (image .exit)) (now (journal .exit)) ≡ step (edit (remove (vip .0))) (state (now (image .entry)) (now (journal .entry)) book) ⌝ }
 {
@@ -31,7 +31,8 @@ pub fn remove_block(book: Book, image: &mut [u8], journal: &mut [u8], vip: Vip) 
     remove::remove_block(book, image, journal, vip)
 }
 
-// The instruction that the bytes say goes last in the block with the vip: what reading them refuses, 17, 15, 18, then 11, 12.
+// The instruction that the bytes say goes last in the block with the vip: what reading them refuses, 17, 15, 18, then 11, 12, and 13 for the
+// sum.
 pub fn append(
     book: Book,
     image: &mut [u8],
@@ -48,7 +49,8 @@ pub fn append(
     append::append(book, image, journal, vip, instruction)
 }
 
-// The last accepted edit that stands is taken back: 16 where none does, and 13 where the journal's last entry does not fit the image.
+// The last accepted edit that stands is taken back: 16 where none does, 13 where the journal's last entry does not fit the image, and 13
+// for the sum.
 pub fn undo(book: Book, image: &mut [u8], journal: &mut [u8]) -> Answer
     ensures { λ r. ⌜ outcome r (now (image .exit)) (now (journal .exit)) ≡ step undo (state (now (image .entry)) (now (journal .entry)) book) ⌝ }
 {

@@ -121,14 +121,17 @@ pub record Keeps-sum (c : Call) (s : State) (r : Routine) : Type 0 where
   pub rates : step c s .1 .book .rates ≡ s .book .rates
   pub sum-changes : step c s .1 .book .sum + sum (s .book .rates) r ≡ s .book .sum + sum (s .book .rates) routine
 
--- the same book with the sum worked afresh on r
-abbrev pub afresh : Routine → State → State
-afresh r s =
+-- the same book with the sum n, and with the sum worked afresh on r
+abbrev pub with-sum : ℕ → State → State
+with-sum n s =
     record {
       image = s .image;
       journal = s .journal;
-      book = record { written = s .book .written; used = s .book .used; rates = s .book .rates; sum = sum (s .book .rates) r };
+      book = record { written = s .book .written; used = s .book .used; rates = s .book .rates; sum = n };
     }
+
+abbrev pub afresh : Routine → State → State
+afresh r s = with-sum (sum (s .book .rates) r) s
 
 -- a sum n that changes as `before` does to `after` is neither below 0 nor too large for 64 bits
 abbrev pub can-change : ℕ → ℕ → ℕ → Bool

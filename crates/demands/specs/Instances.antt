@@ -21,6 +21,7 @@ use Rattle.machine.specs.Machine.{Call, edit, undo, Answer, start, machine-run}
 use Rattle.machine.specs.Book.{Book, State, held, open-book, step, run}
 use Rattle.machine.specs.Charge.{Rates, Fit-rates, group, rate-of, sum, cents}
 use Rattle.machine.specs.Look.{look-charge}
+use Rattle.demands.specs.Demand3.{with-sum}
 
 -- a header: its marks, machine and pad
 abbrev pub header-of : ℕ → ℕ → ℕ → ℕ → List ℕ
@@ -176,22 +177,13 @@ appends-nop = edit (create 5) ∷ append-to-5 a-nop ∷ []
 abbrev pub and-back : List Call
 and-back = append-to-5 a-jmp ∷ edit (remove 5) ∷ undo ∷ undo ∷ undo ∷ []
 
--- a state whose book is handed in with the sum n
-abbrev pub handed : ℕ → State → State
-handed n s =
-    record {
-      image = s .image;
-      journal = s .journal;
-      book = record { written = s .book .written; used = s .book .used; rates = s .book .rates; sum = n };
-    }
-
 -- a call's refusal, and the sum after it
 abbrev pub told-sum : Answer × State → ℕ × ℕ
 told-sum x = (refusal-of (x .0), x .1 .book .sum)
 
 -- of one call on the book after the calls cs, handed in with the sum n. After create 5 and the nop 40 bytes of the journal are used
 abbrev pub on-sum : ℕ → List Call → Call → ℕ → ℕ × ℕ
-on-sum journal cs c n = told-sum (step c (handed n (charged-run journal cs)))
+on-sum journal cs c n = told-sum (step c (with-sum n (charged-run journal cs)))
 
 -- the largest sum
 abbrev pub most-sum : ℕ
@@ -283,6 +275,6 @@ pub record Instances : Type 0 where
   -- An opening works the sum out: two nops
   pub opened-sum : two-opened 250 .book .sum ≡ 260
   -- In an image without room an append is 11, whatever the sum
-  pub image-full-first : map (λ n. told-sum (step (edit (append 1 (instruction-bytes a-nop))) (handed n (two-opened 250)))) (0 ∷ most-sum ∷ []) ≡ (11, 0) ∷ (11, most-sum) ∷ []
+  pub image-full-first : map (λ n. told-sum (step (edit (append 1 (instruction-bytes a-nop))) (with-sum n (two-opened 250)))) (0 ∷ most-sum ∷ []) ≡ (11, 0) ∷ (11, most-sum) ∷ []
   -- The charge is worked afresh at the rates handed in, whatever rates and sum the book has
-  pub charged-afresh : look-charge (7 ∷ 7 ∷ 7 ∷ 7 ∷ 7 ∷ 100 ∷ []) (handed 1 (two-opened 250)) ≡ accepted 2
+  pub charged-afresh : look-charge (7 ∷ 7 ∷ 7 ∷ 7 ∷ 7 ∷ 100 ∷ []) (with-sum 1 (two-opened 250)) ≡ accepted 2
