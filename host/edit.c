@@ -56,11 +56,35 @@ static void print_closed(FILE *to, const struct line *line, const struct book *b
     fprintf(to, ": refused %d: closed block: its last instruction is %s", VTIL_CLOSED_BLOCK, operation_name(last));
 }
 
+static bool is_crooked(const vtil_register_desc *reg)
+{
+    return reg->bit_count < 1 || reg->bit_offset < 0 || reg->bit_count > 64 - reg->bit_offset;
+}
+
+/* Here it is said which register is crooked, and how. Up to its end nothing else is wrong with the line's bytes. */
+static void print_crooked(FILE *to, const struct line *line)
+{
+    static const char *const places[] = {"first", "second", "third"};
+    size_t at = 4 + line->bytes[0] + 4; /* after the size of the name, which is at most 6, the name, and the count */
+    for (int i = 0; i < 3; i++) {
+        bool is_register = line->bytes[at] == 1;
+        vtil_register_desc reg = vtil_read_register(line->bytes, line->len, at + 4).register_desc;
+        if (is_register && is_crooked(&reg)) {
+            fprintf(to, ": refused %d: crooked register: its %s operand has width %" PRId32 " and offset %" PRId32,
+                    VTIL_CROOKED_REGISTER, places[i], reg.bit_count, reg.bit_offset);
+            return;
+        }
+        at += is_register ? 28 : 16;
+    }
+}
+
 /* What the line was answered; a refused one left the book as it is. */
 static void print_answer(FILE *to, const struct line *line, const struct book *book, vtil_answer answer)
 {
     if (answer.refusal == VTIL_CLOSED_BLOCK)
         print_closed(to, line, book);
+    else if (answer.refusal == VTIL_CROOKED_REGISTER)
+        print_crooked(to, line);
     else if (answer.refusal != 0)
         fprintf(to, ": refused %" PRIu64 ": %s", answer.refusal, refusal_words((int64_t)answer.refusal));
     else

@@ -21,6 +21,7 @@ static const char *const words[] = {
     [VTIL_NOTHING_TO_TAKE_BACK] = "nothing to take back",
     [VTIL_LEFTOVER] = "leftover: bytes after the appended instruction",
     [VTIL_CLOSED_BLOCK] = "closed block: its last instruction is js, jmp, vexit or vxcall",
+    [VTIL_CROOKED_REGISTER] = "crooked register: width under 1, offset under 0, or their sum over 64",
 };
 
 const char *refusal_words(int64_t number)

@@ -59,7 +59,8 @@ enum vtil_refusal {
     VTIL_NO_SUCH_BLOCK = 15,        /* no such block, or no such place */
     VTIL_NOTHING_TO_TAKE_BACK = 16, /* nothing to take back */
     VTIL_LEFTOVER = 17,             /* leftover: bytes after the appended instruction */
-    VTIL_CLOSED_BLOCK = 18          /* closed block: its last instruction is js, jmp, vexit or vxcall */
+    VTIL_CLOSED_BLOCK = 18,         /* closed block: its last instruction is js, jmp, vexit or vxcall */
+    VTIL_CROOKED_REGISTER = 19      /* crooked register: width under 1, offset under 0, or their sum over 64 */
 };
 
 /* ==== Checking a file ============================================================ */
@@ -92,8 +93,8 @@ typedef struct {
 
 typedef struct {
     uint64_t flags;
-    uint64_t combined_id; /* divided by 2^56 at most 2 */
-    int32_t bit_count, bit_offset;
+    uint64_t combined_id;          /* divided by 2^56 at most 2 */
+    int32_t bit_count, bit_offset; /* any numbers; vtil_append alone asks more of them */
 } vtil_register_desc;
 
 /* The fields of the one that does not count are 0 when read and ignored when written. */
@@ -331,9 +332,13 @@ typedef struct {
 } vtil_written;
 
 /*
- * vtil_write_instruction writes an instruction at the start of the lent bytes, as
- * vtil_append takes it; the bytes after it are not touched. No book is involved:
- * `image` is any memory; 119 bytes (VTIL_LONGEST_INSTRUCTION) are always enough.
+ * vtil_write_instruction writes an instruction at the start of the lent bytes, in
+ * the layout that vtil_append takes; the bytes after it are not touched. No book is
+ * involved: `image` is any memory; 119 bytes (VTIL_LONGEST_INSTRUCTION) are always
+ * enough.
+ *
+ * It writes crooked registers too, as files may have them. So what it has written
+ * may be refused by vtil_append, 19; it never is by vtil_read_instruction.
  *
  * Refusals, in this order: 10; 7 when the operation's number is over 48; 8 when
  * the count is not the operation's; 5 when some used operand of kind 1 has a
@@ -480,10 +485,17 @@ vtil_answer vtil_remove_block(vtil_book book, uint8_t *image, size_t image_len, 
  * a file may have one of the four in the middle of a block. vtil_undo of the append
  * that closed a block opens it again.
  *
- * Refusals, in this order: 10, 13; 1, 2, 5, 6, 7 or 8, whichever field of the
- * instruction fails first (1: its bytes end too early); 17 when bytes are left
- * after the instruction; 15 when no block has this vip; 18 when the block is
- * closed; 11, 12; 13 when the book's sum would pass 2^64 - 1 with that rate.
+ * A register is sound when its width (bit_count) is at least 1, its offset
+ * (bit_offset) at least 0, and the sum of the two at most 64; any other is crooked.
+ * An appended instruction may only name sound ones. Immediates are not asked, and
+ * nothing but this call asks: a file with crooked registers is checked, opened, read
+ * and looked at as any other, and vtil_undo brings back a removed block that has them.
+ *
+ * Refusals, in this order: 10, 13; 1, 2, 5, 6, 7, 8 or 19, whichever field of the
+ * instruction fails first (1: its bytes end too early; 19: a crooked register fails at
+ * its offset, whatever follows there, or if nothing does); 17 when bytes are left
+ * after the instruction; 15 when no block has this vip; 18 when the block is closed;
+ * 11, 12; 13 when the book's sum would pass 2^64 - 1 with that rate.
  */
 vtil_answer vtil_append(vtil_book book, uint8_t *image, size_t image_len, uint8_t *journal, size_t journal_len,
                         uint64_t vip, const uint8_t *instruction, size_t instruction_len);

@@ -143,6 +143,7 @@ struct reader {
     const uint8_t *bytes;
     size_t len, at;
     uint64_t refusal;
+    bool asks_sound; /* crooked registers are refused: an instruction that is appended is read */
     struct ref_counts counts;
 };
 
@@ -198,6 +199,12 @@ static uint8_t read_header(struct reader *r)
     return machine;
 }
 
+/* Sums of 32 bits would wrap. */
+static bool is_sound(const vtil_register_desc *reg)
+{
+    return reg->bit_count >= 1 && reg->bit_offset >= 0 && (int64_t)reg->bit_count + reg->bit_offset <= 64;
+}
+
 static vtil_register_desc read_register(struct reader *r)
 {
     vtil_register_desc reg;
@@ -207,6 +214,8 @@ static vtil_register_desc read_register(struct reader *r)
         refuse(r, 5);
     reg.bit_count = (int32_t)number(r, 4);
     reg.bit_offset = (int32_t)number(r, 4);
+    if (r->asks_sound && !is_sound(&reg))
+        refuse(r, 19);
     return reg;
 }
 
@@ -902,7 +911,7 @@ static const vtil_instruction_desc *push_instruction(struct block *block, const 
 
 static uint64_t append(const struct routine *routine, const struct ref_call *call, struct edited *out)
 {
-    struct reader r = {.bytes = call->bytes, .len = call->len};
+    struct reader r = {.bytes = call->bytes, .len = call->len, .asks_sound = true};
     vtil_instruction_desc value = read_instruction(&r);
     if (!fine(&r))
         return r.refusal;

@@ -104,6 +104,11 @@ void faulty_appends(uint64_t vip)
     put_zeros(&b, 8 + 21);
     append_bytes_due("foreign register", vip, &b, VTIL_FOREIGN_REGISTER);
     b.len = 0;
+    put_operation(&b, "jmp", 3, 1);
+    put(&b, 4, 1);
+    put_zeros(&b, 24 + 21);
+    append_bytes_due("crooked register", vip, &b, VTIL_CROOKED_REGISTER);
+    b.len = 0;
     put_instruction(&b, NOP, 0);
     put(&b, 1, 0);
     append_bytes_due("leftover", vip, &b, VTIL_LEFTOVER);

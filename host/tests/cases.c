@@ -77,7 +77,10 @@ void put_instruction(struct bytes *b, uint32_t op, uint32_t kind)
     put_operation(b, operation->name, strlen(operation->name), operation->count);
     for (uint32_t i = 0; i < operation->count; i++) {
         put(b, 4, kind);
-        put_zeros(b, kind == 0 ? 12 : 24);
+        if (kind == 0)
+            put_zeros(b, 12);
+        else
+            put_zeros(b, 16), put(b, 4, 1), put_zeros(b, 4);
     }
     put_zeros(b, 21);
 }
@@ -85,6 +88,7 @@ void put_instruction(struct bytes *b, uint32_t op, uint32_t kind)
 /* Made routines -------------------------------------------------------------- */
 
 static uint64_t fault_rate; /* one fault in so many fields; 0: none */
+static bool any_slices;     /* a crooked register is no fault here: a file is made */
 
 static bool faulty(void)
 {
@@ -106,13 +110,25 @@ static void make_header(struct bytes *b)
     put(b, 2, faulty() ? any() : 0xdead);
 }
 
+/* The width of a register, and its offset. */
+static void make_slice(struct bytes *b)
+{
+    uint64_t width = 1 + below(64);
+    if (any_slices)
+        put(b, 8, any());
+    else if (faulty())
+        put(b, 4, odd_number()), put(b, 4, odd_number());
+    else
+        put(b, 4, width), put(b, 4, below(65 - width));
+}
+
 static void make_register(struct bytes *b)
 {
     uint64_t top = faulty() ? below(256) : below(3);
     put(b, 8, any());
     put(b, 7, any());
     put(b, 1, top);
-    put(b, 8, any());
+    make_slice(b);
 }
 
 static void make_operand(struct bytes *b)
@@ -197,6 +213,7 @@ void make_routine(struct bytes *b)
 {
     b->len = 0;
     fault_rate = below(3) == 0 ? 0 : 80;
+    any_slices = true;
     make_header(b);
     put(b, 8, any());
     make_convention(b);
@@ -220,6 +237,7 @@ void make_appended(struct bytes *b)
 {
     b->len = 0;
     fault_rate = below(3) == 0 ? 8 : 0;
+    any_slices = false;
     make_instruction(b);
     if (below(12) == 0)
         b->len = below(b->len);

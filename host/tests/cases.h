@@ -33,7 +33,7 @@ void put_block_front(struct bytes *b, uint64_t vip, uint32_t instructions);
 /* An instruction up to where its first operand is due. */
 void put_operation(struct bytes *b, const void *name, size_t len, uint32_t count);
 
-/* A whole instruction of this operation; its operands are immediates (kind 0) or registers (1), and all else in it is 0. */
+/* A whole instruction of this operation; its operands are immediates (kind 0) or registers of 1 bit (1), and all else is 0. */
 void put_instruction(struct bytes *b, uint32_t op, uint32_t kind);
 
 /* A whole routine by the layouts; in two of three there is a chance of a fault at every field. */

@@ -93,6 +93,66 @@ line 11: append 0x5, 32 bytes: accepted, 182 bytes written, 40 of the journal us
     expect "the accepted lines were done" 0 "$scratch/edited: accepted, 182 bytes consumed" "" "$routine" check "$scratch/edited"
 }
 
+# number N: 32 bits, the lowest byte first. register WIDTH OFFSET: an operand, as `immediate` is.
+number() {
+    printf '%02x%02x%02x%02x' $(($1 & 255)) $(($1 >> 8 & 255)) $(($1 >> 16 & 255)) $(($1 >> 24 & 255))
+}
+register() {
+    printf '01000000 0000000000000000 0000000000000000 %s %s' "$(number "$1")" "$(number "$2")"
+}
+immediate="00000000 ffffffffffffffff 50000000"
+rest="0000000000000000 0000000000000000 00000000 00"
+
+# te takes three operands, add two, neg one.
+crooked_lines() {
+    local te="02000000 7465 03000000" add="03000000 616464 02000000" neg="03000000 6e6567 01000000" most=2147483647
+    write_script <<END
+create 5
+append 5 $add $(register 80 0) $immediate $rest
+append 5 $add $immediate $(register 0 0) $rest
+append 5 $te $(register 64 0) $(register 1 63) $(register 1 64) $rest
+append 5 $te $(register 64 0) $immediate $(register 33 32) $rest
+append 5 $te $(register 64 1) $(register 0 0) $(register 0 0) $rest
+append 5 $neg $(register -1 2) $rest
+append 5 $neg $(register $((-most - 1)) $((-most - 1)))
+append 5 $neg $(register $most $most)
+append 5 $neg $(register 1 -1) ff
+append 6 $add $(register 65 0) 02000000
+append 5 $add 02000000 $(register 65 0)
+append 5 $neg $(register 64 0) $rest
+END
+    expect "edit with crooked registers" 1 "line 1: create 0x5: accepted, 150 bytes written, 20 of the journal used
+line 2: append 0x5, 76 bytes: refused 19: crooked register: its first operand has width 80 and offset 0
+line 3: append 0x5, 76 bytes: refused 19: crooked register: its second operand has width 0 and offset 0
+line 4: append 0x5, 115 bytes: refused 19: crooked register: its third operand has width 1 and offset 64
+line 5: append 0x5, 103 bytes: refused 19: crooked register: its third operand has width 33 and offset 32
+line 6: append 0x5, 115 bytes: refused 19: crooked register: its first operand has width 64 and offset 1
+line 7: append 0x5, 60 bytes: refused 19: crooked register: its first operand has width -1 and offset 2
+line 8: append 0x5, 39 bytes: refused 19: crooked register: its first operand has width -2147483648 and offset -2147483648
+line 9: append 0x5, 39 bytes: refused 19: crooked register: its first operand has width 2147483647 and offset 2147483647
+line 10: append 0x5, 40 bytes: refused 19: crooked register: its first operand has width 1 and offset -1
+line 11: append 0x6, 43 bytes: refused 19: crooked register: its first operand has width 65 and offset 0
+line 12: append 0x5, 43 bytes: refused 6: unknown operand kind: neither 0 nor 1
+line 13: append 0x5, 60 bytes: accepted, 210 bytes written, 40 of the journal used
+13 lines, 11 refused" "" "$routine" edit samples/minimal.vtil -s "$scratch/script" -o "$scratch/edited"
+    expect "the sound register was appended" 0 "$scratch/edited: accepted, 210 bytes consumed" "" "$routine" check "$scratch/edited"
+}
+
+# The register that was appended above is made crooked: its width stands 29 bytes and two numbers before the routine's end.
+crooked_in_a_file() {
+    local at=$((210 - 8 - 21 - 8))
+    { head -c $at "$scratch/edited"; printf '\0\0\0\0'; tail -c +$((at + 5)) "$scratch/edited"; } >"$scratch/crooked"
+    expect "check of a crooked register" 0 "$scratch/crooked: accepted, 210 bytes consumed" "" "$routine" check "$scratch/crooked"
+    passes "it is shown" [ "$("$routine" show "$scratch/crooked" | grep -c 'neg register 0x0 flags 0x0 bits 0 at 0;')" = 1 ]
+    printf 'remove 5\nundo\nappend 5 %s\nundo\n' "$nop" >"$scratch/script"
+    expect "edit of a crooked register's block" 0 "line 1: remove 0x5: accepted, 114 bytes written, 116 of the journal used
+line 2: undo: accepted, 210 bytes written, 0 of the journal used
+line 3: append 0x5, 32 bytes: accepted, 242 bytes written, 20 of the journal used
+line 4: undo: accepted, 210 bytes written, 0 of the journal used
+4 lines, 0 refused" "" "$routine" edit "$scratch/crooked" -s "$scratch/script" -o "$scratch/edited"
+    passes "the file is as it was" cmp "$scratch/crooked" "$scratch/edited"
+}
+
 # closed_by NAME COUNT SIZE: after that operation, whose instruction has so many bytes, a block takes no more until it is taken back.
 closed_by() {
     write_script <<END
@@ -432,6 +492,8 @@ helps() {
 accepted_lines
 taken_back
 refused_lines
+crooked_lines
+crooked_in_a_file
 closed_by js 3 79
 closed_by jmp 1 48
 closed_by vexit 1 50

@@ -296,7 +296,7 @@ static void orders(void)
     static const size_t lengths[][2] = {
         {0, 0}, {0, ENTRY}, {NOP_SIZE, 0}, {NOP_SIZE - 1, ENTRY - 1}, {NOP_SIZE, ENTRY}, {500, 500},
     };
-    begin("appends to closed blocks with other things wrong: 13, then 1, 2 and 5 to 8, then 17, 15, 18, 11, 12");
+    begin("appends to closed blocks with other things wrong: 13, then 1, 2, 5 to 8 and 19, then 17, 15, 18, 11, 12");
     for (size_t i = 0; i < sizeof lengths / sizeof lengths[0]; i++)
         for (int j = 0; j < CLOSING; j++) {
             begin_routine(1);

@@ -509,7 +509,7 @@ static void orders(void)
     static const uint64_t sums[] = {
         0, UINT32_MAX - 1ull, UINT32_MAX, UINT64_MAX - UINT32_MAX, UINT64_MAX - UINT32_MAX + 1, UINT64_MAX,
     };
-    begin("sums that have no room beside other refusals, which all come first: 13, 14 to 18, 1 to 8, 11, 12");
+    begin("sums that have no room beside other refusals, which all come first: 13, 14 to 19, 1 to 8, 11, 12");
     for (size_t i = 0; i < sizeof spares / sizeof spares[0]; i++)
         for (size_t j = 0; j < sizeof journals / sizeof journals[0]; j++)
             for (size_t k = 0; k < sizeof sums / sizeof sums[0]; k++)
@@ -734,7 +734,7 @@ static void one_list(const struct bytes *from)
 
 static void lists(void)
 {
-    static const int answers[] = {0, 1, 2, 5, 6, 7, 8, 11, 12, 14, 15, 16, 17, 18, -1};
+    static const int answers[] = {0, 1, 2, 5, 6, 7, 8, 11, 12, 14, 15, 16, 17, 18, 19, -1};
     static struct bytes b;
     begin("lists of calls: after each the machine's sum, worked afresh, and its cents; the same by vtil_run and vtil_run_on");
     seed(41);
@@ -791,7 +791,7 @@ static void one_wild_list(const struct bytes *from)
 /* Nobody writes image or journal here, so 13 is always the sum's. */
 static void wild_lists(void)
 {
-    static const int answers[] = {0, 11, 12, 13, 14, 15, 16, 18, -1};
+    static const int answers[] = {0, 11, 12, 13, 14, 15, 16, 18, 19, -1};
     static struct bytes b;
     begin("lists of calls on books whose rates and sum are made by hand, between calls too, and by vtil_run_on");
     seed(42);

@@ -22,6 +22,7 @@
 #define BLOCKS 20000 /* the search gathers 8,000 of them at a time */
 #define ROOM 500
 #define PAINT 0xa5
+#define LONGEST 47 /* an operation with the longest name and three operands */
 
 static uint8_t stack[STACK];
 static uint8_t *file, *image, *journal;
@@ -29,7 +30,7 @@ static size_t file_len, image_len, journal_len;
 static size_t last_block; /* where it begins in the file */
 static vtil_book book;
 static const vtil_rates rates = {{1, 2, 3, 4, 5, 6}};
-static struct bytes nop;
+static struct bytes nop, longest; /* instructions */
 
 /* The routine -------------------------------------------------------------------------------- */
 
@@ -82,6 +83,7 @@ static void make_file(void)
     file = make_bytes(ROOM + 36 * BLOCKS);
     put_operation(&nop, "nop", 3, 0);
     put_zeros(&nop, 21);
+    put_instruction(&longest, LONGEST, 1);
     put_first_parts(&part);
     add(&part);
     for (size_t i = 0; i < BLOCKS; i++) {
@@ -128,10 +130,10 @@ static void open_file(void)
 
 static void write_instruction(void)
 {
-    static const vtil_instruction_desc longest = {.op = 47, .count = 3, .operands = {{.kind = 1}, {.kind = 1}, {.kind = 1}}};
+    static const vtil_instruction_desc value = {.op = LONGEST, .count = 3, .operands = {{.kind = 1}, {.kind = 1}, {.kind = 1}}};
     uint8_t bytes[VTIL_LONGEST_INSTRUCTION];
     MARK_TOP();
-    refusal = vtil_write_instruction(longest, bytes, sizeof bytes).refusal;
+    refusal = vtil_write_instruction(value, bytes, sizeof bytes).refusal;
 }
 
 /* The routine's convention and its register, the last block, its instruction and its vip. */
@@ -223,6 +225,12 @@ static void append(void)
 {
     MARK_TOP();
     take(vtil_append(LENT, NEW, nop.at, nop.len));
+}
+
+static void append_longest(void)
+{
+    MARK_TOP();
+    take(vtil_append(LENT, NEW, longest.at, longest.len));
 }
 
 static void remove_empty(void)
@@ -339,6 +347,8 @@ int main(void)
     measure("vtil_create_block", create);
     measure("vtil_append, to an empty block", append);
     measure("vtil_append, behind an instruction", append);
+    measure("vtil_append, of three registers", append_longest);
+    measure("vtil_undo, an append of three registers", undo);
     measure("vtil_undo, an append", undo);
     measure("vtil_undo, an append to an empty block", undo);
     measure("vtil_undo, a create", undo);

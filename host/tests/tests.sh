@@ -46,6 +46,8 @@ build_guard guard_edits book_pair calls
 run "$scratch/guard_edits" samples/*.vtil
 build_guard guard_closed book_pair calls by_hand
 run "$scratch/guard_closed" samples/*.vtil
+build_guard guard_crooked book_pair calls by_hand
+run "$scratch/guard_crooked"
 build_guard guard_sum book_pair calls by_hand
 run "$scratch/guard_sum" samples/*.vtil
 run bash host/tests/command_edits.sh target/host/routine "$scratch/command_edits"

@@ -316,9 +316,12 @@ impl<M: AsMut<[u8]>> Book<M> {
     /// [`OPERATIONS`](crate::OPERATIONS)): the engine leaves the block there, so the block takes no more. An empty block
     /// is open, and [`Book::undo`] of the append that closed a block opens it again.
     ///
-    /// Refusals: 1, 2, 5 to 8, whichever field fails first; 17, bytes are left after it; 15, no block has this vip;
-    /// 18, the block is closed; 11, the image is full; 12, the journal is full; 13, the sum of a resumed book would
-    /// pass 2^64 - 1.
+    /// A register is crooked, and refused 19, unless its width (`bit_count`) is at least 1, its offset (`bit_offset`) at
+    /// least 0, and the sum of the two at most 64. Only an append asks this: files may have any.
+    ///
+    /// Refusals: 1, 2, 5 to 8, 19, whichever field fails first (19: the offset of a crooked register); 17, bytes are
+    /// left after it; 15, no block has this vip; 18, the block is closed; 11, the image is full; 12, the journal is
+    /// full; 13, the sum of a resumed book would pass 2^64 - 1.
     pub fn append(&mut self, vip: Vip, instruction: &[u8]) -> Result<(), Refusal> {
         // SAFETY: as in `reopen`.
         self.call(|book, image, journal| unsafe {

@@ -22,6 +22,7 @@ pub enum Refusal {
     NothingToTakeBack = 16,
     Leftover = 17,
     ClosedBlock = 18,
+    CrookedRegister = 19,
 }
 
 use Refusal::*;
@@ -45,6 +46,7 @@ const ALL: &[Refusal] = &[
     NothingToTakeBack,
     Leftover,
     ClosedBlock,
+    CrookedRegister,
 ];
 
 impl Refusal {
@@ -79,6 +81,7 @@ impl Refusal {
             NothingToTakeBack => "nothing to take back",
             Leftover => "leftover: bytes after the appended instruction",
             ClosedBlock => "closed block: its last instruction is js, jmp, vexit or vxcall",
+            CrookedRegister => "crooked register: width under 1, offset under 0, or their sum over 64",
         }
     }
 }

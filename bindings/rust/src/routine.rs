@@ -80,9 +80,9 @@ impl Routine {
     }
 
     /// Adds an instruction, as a file holds it, after the last one of the block. A block whose last instruction is js,
-    /// jmp, vexit or vxcall is closed and takes no more, as [`Book::append`] says.
+    /// jmp, vexit or vxcall is closed and takes no more, and no block takes a crooked register, as [`Book::append`] says.
     ///
-    /// Refusals, in this order: 1, 2, 5 to 8, whichever field fails first; 17, bytes are left after it; 15, no block
+    /// Refusals, in this order: 1, 2, 5 to 8, 19, whichever field fails first; 17, bytes are left after it; 15, no block
     /// has this vip; 18, the block is closed; 11 and 12 at the limit.
     pub fn append(&mut self, vip: Vip, instruction: &[u8]) -> Result<(), Refusal> {
         self.edit(|book| book.append(vip, instruction))

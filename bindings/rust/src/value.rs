@@ -147,7 +147,8 @@ impl Instruction {
         OPERATIONS.get(self.op as usize).map(|(name, _)| *name)
     }
 
-    /// The instruction as a file holds it.
+    /// The instruction as a file holds it. Any widths and offsets of registers are written, also those that
+    /// [`Book::append`](crate::Book::append) then refuses.
     ///
     /// Refusals, in this order: 7, the number is over 48; 8, so many operands are not the operation's; 5, a foreign
     /// register.

@@ -1,8 +1,8 @@
 //! Books over lent memory: what each call leaves in it, and every refusal at exact lengths.
 
 use vtil::{
-    check, check_raw, operation, Book, Call, Immediate, Instruction, Numbers, Operand, Rates, Refusal, Routine, Vip,
-    MOST_LENT,
+    check, check_raw, operation, Book, Call, Immediate, Instruction, Numbers, Operand, Rates, Refusal, Register,
+    Routine, Vip, MOST_LENT,
 };
 
 const MINIMAL: usize = 114;
@@ -144,6 +144,44 @@ fn a_closed_block_is_refused_in_its_order() {
         assert_eq!((book.image(), book.journal()), (before.image(), before.journal()));
         book.undo().unwrap();
         assert_eq!(book.append(Vip(1), &nop), Ok(()));
+    }
+}
+
+/// A crooked register is refused before whatever is wrong after its offset, and after what is wrong before that.
+#[test]
+fn a_crooked_register_is_refused_in_its_order() {
+    let crooked = Register { bit_count: 65, ..Default::default() };
+    let operands = vec![Operand::Register(crooked), Operand::Immediate(Immediate::default())];
+    let mov = Instruction { op: operation("mov").unwrap(), operands, ..Default::default() }.to_bytes().unwrap();
+    let (kind, id, behind) = (11, 11 + 4 + 15, 11 + 28);
+    let with = |at: usize, byte| {
+        let mut bytes = mov.clone();
+        bytes[at] = byte;
+        bytes
+    };
+    for (image, journal) in [(0, 0), (0, 20), (500, 0), (500, 500)] {
+        let image = image_before(MINIMAL + 2 * 36 + jmp().to_bytes().unwrap().len() + image);
+        let mut book = Book::open(&sample("minimal"), image, journal_before(60 + journal), RATES).unwrap();
+        book.create_block(Vip(1)).unwrap();
+        book.create_block(Vip(2)).unwrap();
+        book.append(Vip(2), &jmp().to_bytes().unwrap()).unwrap();
+        let before = book.clone();
+        for vip in [Vip(1), Vip(2), Vip(3)] {
+            for end in 0..behind {
+                assert_eq!(book.append(vip, &mov[..end]), Err(Refusal::ShortFile), "{end}");
+            }
+            assert_eq!(book.append(vip, &with(kind, 2)), Err(Refusal::UnknownOperandKind));
+            assert_eq!(book.append(vip, &with(id, 3)), Err(Refusal::ForeignRegister));
+            for end in behind..=mov.len() {
+                assert_eq!(book.append(vip, &mov[..end]), Err(Refusal::CrookedRegister), "{end}");
+            }
+            assert_eq!(book.append(vip, &with(behind, 2)), Err(Refusal::CrookedRegister));
+            assert_eq!(book.append(vip, &[&mov[..], &[0]].concat()), Err(Refusal::CrookedRegister));
+        }
+        let list = [Call::Append(Vip(3), &mov[..behind - 1]), Call::Append(Vip(3), &mov)];
+        assert_eq!(book.run_on(&list), Err(Refusal::CrookedRegister));
+        assert_eq!(book.numbers(), before.numbers());
+        assert_eq!((book.image(), book.journal()), (before.image(), before.journal()));
     }
 }
 

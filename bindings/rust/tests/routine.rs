@@ -48,13 +48,13 @@ fn samples_are_accepted_or_refused() {
 
 #[test]
 fn refusals_have_numbers_and_words() {
-    for number in 1..=18 {
+    for number in 1..=19 {
         let refusal = Refusal::from_number(number).unwrap();
         assert_eq!(refusal.number(), number);
         assert_eq!(refusal.to_string(), format!("refused {number}: {}", refusal.words()));
     }
     assert_eq!(Refusal::from_number(0), None);
-    assert_eq!(Refusal::from_number(19), None);
+    assert_eq!(Refusal::from_number(20), None);
 }
 
 #[test]
@@ -214,6 +214,85 @@ fn closed_blocks_of_a_file() {
 
     let mut open = opened("all-operations");
     assert_eq!(open.append_instruction(Vip(1), &nop()), Ok(()));
+}
+
+/// A width and an offset that no append takes, and others that it does: (1, 63) and (64, 0) are at the limit.
+const CROOKED: [(i32, i32); 14] = [
+    (0, 0),
+    (0, 64),
+    (-1, 2),
+    (i32::MIN, 0),
+    (i32::MIN, i32::MIN),
+    (1, -1),
+    (64, -1),
+    (1, i32::MIN),
+    (65, 0),
+    (64, 1),
+    (1, 64),
+    (1, i32::MAX),
+    (i32::MAX, 1),
+    (i32::MAX, i32::MAX),
+];
+const SOUND: [(i32, i32); 6] = [(1, 0), (1, 63), (32, 32), (63, 1), (64, 0), (8, 8)];
+
+fn register((bit_count, bit_offset): (i32, i32)) -> Operand {
+    Operand::Register(Register { bit_count, bit_offset, ..Default::default() })
+}
+
+/// In each place of every operation, beside sound registers and beside immediates whose width is nobody's business.
+#[test]
+fn a_crooked_register_is_not_appended() {
+    let mut routine = opened("odd-flags");
+    for (op, (name, count)) in OPERATIONS.into_iter().enumerate() {
+        for place in 0..count {
+            for other in [register((64, 0)), Operand::Immediate(Immediate { value: u64::MAX, bit_count: u32::MAX })] {
+                let with = |slice| {
+                    let mut operands = vec![other; count];
+                    operands[place] = register(slice);
+                    Instruction { op: op as u32, operands, ..Default::default() }
+                };
+                for slice in CROOKED {
+                    let before = routine.written().to_vec();
+                    assert_eq!(
+                        routine.append_instruction(Vip(5), &with(slice)),
+                        Err(Refusal::CrookedRegister),
+                        "{name} {place} {slice:?}"
+                    );
+                    assert_eq!(routine.written(), before);
+                }
+                for slice in SOUND {
+                    assert_eq!(routine.append_instruction(Vip(5), &with(slice)), Ok(()), "{name} {place} {slice:?}");
+                    routine.undo().unwrap();
+                }
+            }
+        }
+    }
+}
+
+/// Files hold crooked registers: they are written, read, opened, looked at, removed and restored as others are.
+#[test]
+fn crooked_registers_of_a_file() {
+    for slice in CROOKED {
+        let mov = Instruction { operands: vec![register((64, 0)), register(slice)], ..Default::default() };
+        let bytes = mov.to_bytes().unwrap();
+        let mut file = opened("minimal");
+        file.create_block(Vip(5)).unwrap();
+        // The instruction stands between the block's front, of 28 bytes, and its two empty lists.
+        let mut file = file.written().to_vec();
+        file.splice(114 + 28..114 + 28, bytes.iter().copied());
+        file[114 + 24] = 1;
+        assert_eq!(check(&file), Ok(file.len()));
+        let mut routine = Routine::open(&file, FREE).unwrap();
+        assert_eq!(routine.instruction(0, 0), Ok(mov.clone()));
+        let read = routine.read().find_block(Vip(5)).unwrap().instructions().next().unwrap().to_instruction();
+        assert_eq!(read, mov);
+        assert_eq!(routine.append_instruction(Vip(5), &mov), Err(Refusal::CrookedRegister));
+        routine.append_instruction(Vip(5), &nop()).unwrap();
+        routine.remove_block(Vip(5)).unwrap();
+        routine.undo().unwrap();
+        routine.undo().unwrap();
+        assert_eq!(routine.written(), file);
+    }
 }
 
 #[test]

@@ -16,6 +16,8 @@ use Rattle.fields.specs.Outcome.{Outcome, refused, accepted, after, _>>=_, _>>_
 use Rattle.fields.specs.Lists.{choose}
 use Rattle.pod.specs.Values.{Instruction, BasicBlock, Routine}
 use Rattle.pod.specs.Layout.{instruction}
+use Rattle.pod.specs.Sound.{appended}
+use Rattle.laws.proofs.Appended.{appended-read}
 use Rattle.pod.specs.Written.{bytes, many-bytes, instruction-bytes, routine-bytes}
 use Rattle.buffer.proofs.Put.{put-parts, opened, zeros-split}
 use Rattle.laws.proofs.Back.{length-bytes}
@@ -23,7 +25,7 @@ use Rattle.laws.proofs.Layouts.{instruction-layout, read-to, read-within}
 use Rattle.laws.proofs.Place.{many-append}
 use Rattle.laws.proofs.Sizes.{instruction-size}
 use Rattle.ends.specs.Ends.{word}
-use Rattle.value.proofs.Refusal.{told-instruction}
+use Rattle.value.proofs.Refusal.{told-appended}
 use Rattle.machine.specs.Edits.{append, edited, place, block-at, append-to, is-closed, size}
 use Rattle.machine.specs.Journal.{entry, read-size}
 use Rattle.machine.specs.Trailer.{trailer-with, trailer-bytes}
@@ -49,7 +51,7 @@ not-past (no k) e h = cc
 
 module _ (t : List ℕ) where
   abbrev read : Res Instruction
-  read = instruction t 0
+  read = appended t 0
 
   pub unread : {e : ℕ} → no e ≡ span read → e ≡ refusal-of (one-instruction t)
   unfolding one-instruction refusal-of what-is-read after
@@ -71,17 +73,21 @@ module _ (t : List ℕ) where
       ends : (x : Instruction) (n : ℕ) (u : Bool) → read ≡ ok x n → ltb n (length t) ≡ u → refusal-of (refuse-if u 17 >> accepted x) ≡ 0 → Whole t
       ends x n true e q z = let y : _≡_ {A = ℕ} 17 0 = z in absurd (omega arith)
       ends x n false e q z =
-          let l : n ≡ length t = omega (arith, read-within instruction-layout b e, ltb-false n (length t) q) in
+          let l : n ≡ length t = omega (arith, read-within instruction-layout b (appended-read t 0 e), ltb-false n (length t) q) in
           record { x = x; read = e ∙ ap (ok x) l }
 
       go : (q : Res Instruction) → read ≡ q → refusal-of (what-is-read q >>= λ x. (refuse-if (ltb (x .1) (length t)) 17 >> accepted (x .0))) ≡ 0 → Whole t
-      go (no e) r z = absurd (omega (arith, told-instruction t 0 e r))
+      go (no e) r z = absurd (omega (arith, told-appended t 0 e r))
       go (ok x n) r z = ends x n (ltb n (length t)) r refl z
+
+-- it is read as any instruction is
+pub as-instruction : {t : List ℕ} (y : Whole t) → instruction t 0 ≡ ok (y .x) (length t)
+as-instruction y = appended-read _ 0 (y .read)
 
 -- The size of an instruction that was read
 module _ {t : List ℕ} (b : Bytes t) (y : Whole t) where
   pub sized : length (instruction-bytes (y .x)) ≡ length t
-  sized = omega (arith, read-to instruction-layout b (y .read))
+  sized = omega (arith, read-to instruction-layout b (as-instruction y))
 
   pub at-least : 29 ≤ length t
   at-least = omega (arith, sized, instruction-size (y .x))
@@ -159,7 +165,7 @@ module _ (r : Routine) (v : ℕ) (t : List ℕ) where
 
   pub not-one : {k : ℕ} → one-instruction t ≡ refused k → edited (append v t) r ≡ refused k
   unfolding edited one-instruction what-is-read refuse-if choose after
-  not-one {k} h = go (instruction t 0) _ h
+  not-one {k} h = go (appended t 0) _ h
     where
       ends : (u : Bool) (x : Instruction) (rest : Outcome Routine) → (refuse-if u 17 >> accepted x) ≡ refused k → (refuse-if u 17 >> rest) ≡ refused k
       ends true x rest e = cc
@@ -191,7 +197,7 @@ module _ (r : Routine) (v : ℕ) (t : List ℕ) where
     -- its entry, and what it costs
     pub entry-is : entry (append v t) r ≡ trailer-bytes (trailer-with v (place v blocks) (length t) 3)
     unfolding entry read-size
-    entry-is = rw (y .read)
+    entry-is = rw (as-instruction y)
 
     pub append-costs : length (entry (append v t) r) ≡ 20
     append-costs = ap length entry-is ∙ trailer-long _

@@ -1,4 +1,4 @@
--- Bytes to append that are an instruction.
+-- Bytes to append that are an instruction with sound registers.
 use mathlib.Core.Path.{_≡_}
 use mathlib.Core.List.{List}
 use Prim.Native.Nat.{ℕ}
@@ -8,16 +8,16 @@ use Rattle.fields.specs.Refusals.{leftover}
 use Rattle.fields.specs.Parse.{ok}
 use Rattle.fields.specs.Outcome.{Outcome, accepted, _>>=_, _>>_, refuse-if, what-is-read}
 use Rattle.pod.specs.Values.{Instruction}
-use Rattle.pod.specs.Layout.{instruction}
+use Rattle.pod.specs.Sound.{appended}
 
--- one instruction, and nothing after it
+-- one such instruction, and nothing after it
 pub record Whole (s : List ℕ) : Type 0 where
   pub x : Instruction
-  pub read : instruction s 0 ≡ ok x (length s)
+  pub read : appended s 0 ≡ ok x (length s)
 
--- that instruction, or why there is none: what reading refuses, then 17
+-- that instruction, or why there is none: what reading refuses and 19, as they are met, then 17
 unfoldable pub one-instruction : List ℕ → Outcome Instruction
 one-instruction s = do
-  x ← what-is-read (instruction s 0)
+  x ← what-is-read (appended s 0)
   refuse-if (ltb (x .1) (length s)) leftover
   accepted (x .0)

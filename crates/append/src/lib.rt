@@ -17,22 +17,26 @@ ghost use Rattle.append.specs.Whole.{Whole, one-instruction};
 ghost use Rattle.append.specs.Target.{Target, Is-target, with-one};
 use book::Answer;
 use book::Book;
-use fields::Walked;
 use image::LastInstruction;
+use instruction::Asked;
 use pod::Vip;
 
-// The refusal of bytes that are not one instruction, or 0: what reading them refuses, then 17.
+// The refusal of bytes that are not one instruction with sound registers, or 0: what reading them refuses, each register asked as soon as it has been read,
+// then 17.
 fn refusal_of_bytes(instruction: &[u8]) -> u64
     ensures { λ r. ⌜ r ≡ refusal-of (one-instruction (now (instruction .entry))) ⌝ }
 {
-    let far = instruction::instruction_skip(instruction, 0);
-    if let Walked::Past(end, _) = far {
+    let far = instruction::instruction_past(instruction, 0);
+    if let Asked::Past(end, sound) = far {
+        if !sound {
+            return book::CROOKED_REGISTER;
+        }
         if end < instruction.len() {
             return book::LEFTOVER;
         }
         0
     } else {
-        fields::walked_refusal(far) as u64
+        instruction::asked_refusal(far) as u64
     }
 }
 
@@ -82,7 +86,7 @@ fn is_closed(image: &[u8], last: LastInstruction) -> bool
     leaves_block(instruction::op_of(image, last.from))
 }
 
-// The instruction that `instruction` is, and nothing after it, goes last in the block with the vip: what reading refuses, 17, 15, 18, then 11, 12, and 13
+// The instruction that `instruction` is, and nothing after it, goes last in the block with the vip: what reading refuses, and 19, 17, 15, 18, then 11, 12, and 13
 // where the sum is too large for what the instruction adds. The walk to the block's last instruction also tells where the new one goes.
 pub fn append(
     book: Book,

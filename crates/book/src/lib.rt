@@ -52,6 +52,8 @@ pub const LEFTOVER: u64 = fields::LEFTOVER as u64;
 
 pub const CLOSED_BLOCK: u64 = fields::CLOSED_BLOCK as u64;
 
+pub const CROOKED_REGISTER: u64 = fields::CROOKED_REGISTER as u64;
+
 // A refused call answers its number, and the book as it was handed in.
 pub fn refuse(book: Book, refusal: u64) -> Answer
     ensures { λ r. ⌜ ((image journal : List ℕ) → 0 < refusal → outcome r image journal ≡ (refused refusal, state image journal book)) ⌝ }

@@ -26,7 +26,7 @@ use Rattle.machine.proofs.Held.{held-size, held-only}
 use Rattle.machine.proofs.Keeps.{removed, removed-size}
 use Rattle.machine.proofs.Lists.{found}
 use Rattle.demands.specs.Demand1.{instruction-refusals, register-refusals, file-refusals, opening-refusals, look-refusals, charge-refusals, writer-refusals, call-refusals, Numbered, Refuses, Demand-1}
-use Rattle.demands.proofs.Refusals.{Reading, a-vip, a-register, a-convention, an-instruction, a-block, a-routine}
+use Rattle.demands.proofs.Refusals.{Reading, a-vip, a-register, a-convention, an-instruction, an-appended, a-block, a-routine}
 use Rattle.fields.proofs.Only.{Only, accepts, next, next-is, unless, when, attempts}
 use Rattle.demands.proofs.Only.{created-only, removed-only, appended-only, edit-book-only, undo-book-only, opening-only, element-only, vips-only, registers-only}
 
@@ -61,7 +61,7 @@ module _ (s : State) where
   calls (edit (create v)) = edit-calls (create v) refl refl refl (created-only refl v) (λ r r′ q x l. refl)
   calls (edit (remove v)) = edit-calls (remove v) refl refl refl (removed-only refl v) (λ r r′ q x l. absurd (removal-fits v r r′ q x l))
   calls (edit (append v t)) =
-      edit-calls (append v t) refl refl refl (appended-only refl refl refl v t (an-instruction t refl refl refl refl refl refl 0)) (λ r r′ q x l. refl)
+      edit-calls (append v t) refl refl refl (appended-only refl refl refl v t (an-appended t refl refl refl refl refl refl refl 0)) (λ r r′ q x l. refl)
   calls undo = attempted s _ (next (held s) _ (held-only refl refl s) λ r. undo-book-only refl refl s r)
 
 file-numbered : (file : List ℕ) → Reading (In file-refusals) (read-file file)

@@ -20,7 +20,7 @@ use Rattle.demands.specs.Demand3.{edits-standing, Unspoiled, Follows, To
 use Rattle.machine.proofs.Held.{take-image}
 use Rattle.machine.proofs.Simulation.{Sim, linked-used, holds-it, run-sim}
 use Rattle.demands.proofs.Openings.{small, journal-small, fresh-sim}
-use Rattle.demands.proofs.Refusals.{an-instruction}
+use Rattle.demands.proofs.Refusals.{an-appended}
 use Rattle.fields.proofs.Only.{Only, attempts}
 use Rattle.demands.proofs.Only.{created-only, removed-only, appended-only, machine-edit-only, machine-undo-only}
 use Rattle.demands.proofs.OneCall.{keeps-sum, sum-last}
@@ -38,7 +38,8 @@ edited-unspoiled (create v) m = created-only (λ q. omega arith, λ q. omega ari
 edited-unspoiled (remove v) m = removed-only (λ q. omega arith, λ q. omega arith) v (m .now)
 edited-unspoiled (append v s) m =
     appended-only (λ q. omega arith, λ q. omega arith) (λ q. omega arith, λ q. omega arith) (λ q. omega arith, λ q. omega arith) v s
-    (an-instruction s (other _ (omega arith)) (other _ (omega arith)) (other _ (omega arith)) (other _ (omega arith)) (other _ (omega arith)) (other _ (omega arith)) 0) (m .now)
+    (an-appended s (other _ (omega arith)) (other _ (omega arith)) (other _ (omega arith)) (other _ (omega arith)) (other _ (omega arith)) (other _ (omega arith))
+    (λ q. omega arith, λ q. omega arith) 0) (m .now)
 
 module _ (lent : Lengths) where
   call-unspoiled : (c : Call) (m : Machine) → Only Sound-refusal (machine-call lent c m)

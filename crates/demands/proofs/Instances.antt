@@ -4,11 +4,12 @@ use native.Mathlib.Omega.{arith}
 use Rattle.fields.specs.Parse.{bind, le, uint, int, part, many, span, pad, flag}
 use Rattle.fields.specs.Bytes.{put}
 use Rattle.fields.specs.Outcome.{after, refusal-of, refuse-if, refuse-unless, what-is-read, attempt}
-use Rattle.fields.specs.Lists.{choose, same, has, last-of, but-last, last-is}
+use Rattle.fields.specs.Lists.{choose, same, has, every, last-of, but-last, last-is}
 use Rattle.op.specs.Ops.{names, counts, index-of}
 use Rattle.op.specs.Text.{lead, next-state, text}
 use Rattle.pod.specs.Blocks.{repeats}
 use Rattle.pod.specs.Layout as layout
+use Rattle.pod.specs.Sound as sd
 use Rattle.pod.specs.Written as w
 use Rattle.machine.specs.Trailer as tr
 use Rattle.machine.specs.Edits as e
@@ -20,13 +21,14 @@ use Rattle.demands.specs.Instances.{Instances}
 
 pub instances : Instances
 unfolding refusal-of refuse-if refuse-unless what-is-read attempt bind choose le uint int part many span pad flag after names counts same index-of lead
-    next-state text has repeats layout.header layout.register layout.immediate layout.operand layout.named layout.opcode layout.after-opcode
+    next-state text has repeats layout.header layout.register layout.immediate layout.operand layout.named layout.opcode layout.after-opcode-by
     layout.instruction layout.convention layout.block layout.blocks layout.routine w.bytes w.many-bytes w.counted-bytes w.header-bytes
     w.register-bytes w.immediate-bytes w.operand-bytes w.name-bytes w.instruction-bytes w.convention-bytes w.block-head-bytes w.block-bytes
     w.routine-head-bytes w.routine-bytes e.place last-of but-last last-is e.remove-at e.insert-at e.change-at e.leaves-block e.edited e.cost e.admit m.used-by m.machine-edit
     m.machine-undo m.machine-call m.machine-step m.machine-run tr.trailer-bytes tr.trailer j.read-size j.entry j.is-fresh j.or-spoiled j.whole
     j.undo-create j.undo-remove j.without-last j.undo-append j.undo-entry j.undone put b.in-image b.opened b.opening b.open-book b.held
-    b.edit-book b.restored b.undo-book b.call-book b.step b.run c.group c.total c.cents c.subtracted c.added c.carried
+    b.edit-book b.restored b.undo-book b.call-book b.step b.run c.group c.total c.cents c.subtracted c.added c.carried every
+    sd.is-slice sd.sound-operand sd.appended
 instances =
     record {
       smallest-read = refl;
@@ -84,4 +86,17 @@ instances =
       opened-sum = refl;
       image-full-first = refl;
       charged-afresh = refl;
+      sound-slices = refl;
+      crooked-slices = refl;
+      crooked-opened = refl;
+      crooked-first = refl;
+      crooked-cut = refl;
+      cut-read = refl;
+      foreign-first = refl;
+      asked-in-turn = refl;
+      sound-appended = refl;
+      crooked-refused = refl;
+      gone-on = refl;
+      library-crooked-refused = refl;
+      library-gone-on = refl;
     }

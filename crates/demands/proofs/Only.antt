@@ -12,7 +12,8 @@ use Rattle.fields.specs.Parse.{Res, ok, no}
 use Rattle.fields.specs.Outcome.{accepted, refuse-unless, what-is-read}
 use Rattle.fields.specs.Lists.{choose}
 use Rattle.pod.specs.Values.{RoutineConvention, BasicBlock, Routine}
-use Rattle.pod.specs.Layout.{instruction, read-file}
+use Rattle.pod.specs.Layout.{read-file}
+use Rattle.pod.specs.Sound.{appended}
 use Rattle.machine.specs.Trailer.{Trailer}
 use Rattle.machine.specs.Edits.{size, Edit, create, remove, append, edited, Lengths, admit}
 use Rattle.machine.specs.Machine.{Stack, Machine, machine-edit, machine-undo}
@@ -50,7 +51,7 @@ module _ {P : ℕ → Type 0} where
     unfolding edited
     removed-only v r = next _ _ (unless _ 15 p₁₅) λ u. accepts _
 
-    pub appended-only : P 17 → P 18 → (v : ℕ) (s : List ℕ) → Reading P (instruction s 0) → (r : Routine) → Only P (edited (append v s) r)
+    pub appended-only : P 17 → P 18 → (v : ℕ) (s : List ℕ) → Reading P (appended s 0) → (r : Routine) → Only P (edited (append v s) r)
     unfolding edited
     appended-only p₁₇ p₁₈ v s h r =
         next _ _ (reads _ h) λ x. next _ _ (when _ 17 p₁₇) λ u. next _ _ (unless _ 15 p₁₅) λ w. next _ _ (when _ 18 p₁₈) λ w. accepts _

@@ -6,6 +6,7 @@ use mathlib.Core.List.{List}
 use Prim.Native.Nat.{ℕ}
 use Rattle.fields.specs.Parse.{Res, no, u64}
 use Rattle.pod.specs.Layout.{register, instruction, convention, block, routine}
+use Rattle.pod.specs.Sound.{appended}
 use Rattle.laws.proofs.Every as every
 use Rattle.laws.proofs.Refusals.{refusals}
 
@@ -25,6 +26,9 @@ module _ {P : ℕ → Type 0} (s : List ℕ) (p₁ : P 1) where
 module _ {P : ℕ → Type 0} (s : List ℕ) (p₁ : P 1) (p₅ : P 5) (p₂ : P 2) (p₆ : P 6) (p₇ : P 7) (p₈ : P 8) where
   pub an-instruction : (o : ℕ) → Reading P (instruction s o)
   an-instruction o = record { refusal = λ e q. every.an-instruction (refusals P p₁) p₅ p₂ p₆ p₇ p₈ .refusal s o q }
+
+  pub an-appended : P 19 → (o : ℕ) → Reading P (appended s o)
+  an-appended p₁₉ o = record { refusal = λ e q. every.an-appended (refusals P p₁) p₅ p₂ p₆ p₇ p₈ p₁₉ .refusal s o q }
 
   pub a-block : (o : ℕ) → Reading P (block s o)
   a-block o = record { refusal = λ e q. every.a-block (refusals P p₁) p₅ p₂ p₆ p₇ p₈ .refusal s o q }

@@ -5,7 +5,7 @@ use mathlib.Core.Path.{_≡_}
 use mathlib.Core.Bool.{true}
 use mathlib.Core.List.{List, [], _∷_}
 use Rattle.fields.specs.Refusals.{short-file, name-not-text, wrong-mark, unknown-machine, foreign-register, unknown-operand-kind, unknown-operation, wrong-operand-count, repeated-block}
-use Rattle.fields.specs.Refusals.{lending-too-large, image-full, journal-full, spoiled-book, block-present, no-such-block, nothing-to-take-back, leftover, closed-block}
+use Rattle.fields.specs.Refusals.{lending-too-large, image-full, journal-full, spoiled-book, block-present, no-such-block, nothing-to-take-back, leftover, closed-block, crooked-register}
 use Rattle.fields.specs.Parse.{no, u64}
 use Rattle.fields.specs.Outcome.{Outcome, refused}
 use Rattle.fields.specs.Lists.{has}
@@ -46,13 +46,13 @@ charge-refusals = lending-too-large ∷ spoiled-book ∷ []
 abbrev pub writer-refusals : List ℕ
 writer-refusals = lending-too-large ∷ unknown-operation ∷ wrong-operand-count ∷ foreign-register ∷ unknown-operand-kind ∷ image-full ∷ []
 
--- of each call on a book, after 10 and 13: create 14, 11, 12; remove 15, 12; append the instruction's, 17, 15, 18, 11, 12; take back 16. The sum's 13 comes
--- last; create never gets it
+-- of each call on a book, after 10 and 13: create 14, 11, 12; remove 15, 12; append the instruction's and 19, 17, 15, 18, 11, 12; take back 16. The sum's 13
+-- comes last; create never gets it
 abbrev pub call-refusals : Call → List ℕ
 call-refusals (edit (create v)) = lending-too-large ∷ spoiled-book ∷ block-present ∷ image-full ∷ journal-full ∷ []
 call-refusals (edit (remove v)) = lending-too-large ∷ spoiled-book ∷ no-such-block ∷ journal-full ∷ []
 call-refusals (edit (append v s)) =
-    lending-too-large ∷ spoiled-book ∷ leftover ∷ no-such-block ∷ closed-block ∷ image-full ∷ journal-full ∷ instruction-refusals
+    lending-too-large ∷ spoiled-book ∷ crooked-register ∷ leftover ∷ no-such-block ∷ closed-block ∷ image-full ∷ journal-full ∷ instruction-refusals
 call-refusals undo = lending-too-large ∷ spoiled-book ∷ nothing-to-take-back ∷ []
 
 -- a refusal is one of the numbers

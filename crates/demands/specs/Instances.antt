@@ -1,10 +1,11 @@
--- Document 01's starred instances, and some of the charge, of closed blocks and of the running sum, as one claim about the layouts, the machine and the charge.
+-- Document 01's starred instances, and some of the charge, of closed blocks, of the running sum and of crooked registers, as one claim about the layouts,
+-- the machine and the charge.
 use Prim.Native.Nat.{ℕ, _+_, _-_, _^_}
 use mathlib.Core.Path.{_≡_}
 use mathlib.Core.Bool.{Bool, true, false}
 use mathlib.Core.List.{List, [], _∷_, _++_, map}
 use lib.ListN.{length, take, getD, replicate}
-use lib.IntN.{pos}
+use lib.IntN.{ℤ, pos, negsuc}
 use Rattle.fields.specs.Parse.{ok, no, span}
 use Rattle.fields.specs.Bytes.{zeros}
 use Rattle.fields.specs.Outcome.{Outcome, refused, accepted, refusal-of}
@@ -12,7 +13,8 @@ use Rattle.op.specs.Ops.{number}
 use Rattle.pod.specs.Values.{Instruction, RoutineConvention, Routine}
 use Rattle.pod.specs.Blocks.{vips}
 use Rattle.pod.specs.Layout.{instruction, read-file}
-use Rattle.pod.specs.Written.{bytes, instruction-bytes, routine-bytes}
+use Rattle.pod.specs.Sound.{is-slice}
+use Rattle.pod.specs.Written.{bytes, operand-bytes, instruction-bytes, routine-bytes}
 use Rattle.pod.specs.declared.RegisterDesc.{RegisterDesc}
 use Rattle.pod.specs.declared.Operand.{Operand}
 use Rattle.pod.specs.declared.Operand.the-variants.{Imm, Reg}
@@ -193,6 +195,45 @@ most-sum = 2 ^ 64 - 1
 abbrev pub two-opened : ℕ → State
 two-opened n = open-book (routine-bytes two-nops) (replicate n 9) (replicate 40 9) six-rates .1
 
+-- a register of that id, width and offset; of id 0; and its negation
+abbrev pub register-of : ℕ → ℤ → ℤ → Operand
+register-of id width offset = Reg (record { flags = 0; «combined_id» = id; «bit_count» = width; «bit_offset» = offset })
+
+abbrev pub slice-of : ℤ → ℤ → Operand
+slice-of = register-of 0
+
+abbrev pub neg-of : ℤ → ℤ → Instruction
+neg-of width offset = plain 4 (slice-of width offset ∷ [])
+
+abbrev pub is-slice-of : ℤ × ℤ → Bool
+is-slice-of x = is-slice (x .0) (x .1)
+
+-- the negation of a register of 80 bits, up to the register's offset
+abbrev pub crooked : Instruction
+crooked = neg-of (pos 80) (pos 0)
+
+abbrev pub up-to-offset : List ℕ
+up-to-offset = take 39 (instruction-bytes crooked)
+
+-- a file with it
+abbrev pub crooked-file : List ℕ
+crooked-file = routine-bytes (with-blocks (with-instructions (crooked ∷ []) (empty-block 5) ∷ []) smallest-routine)
+
+-- a mov of two operands, given by their bytes, as far as they go
+abbrev pub mov-of : List ℕ → List ℕ
+mov-of operands = take 7 (instruction-bytes (plain 0 [])) ++ (bytes 4 2 ++ operands)
+
+-- what an append to one of the three blocks is refused
+abbrev pub refused-to : ℕ → List ℕ → ℕ
+refused-to v s = refusal-of (edited (append v s) closed-between)
+
+-- create 5, and append it; and then create 6
+abbrev pub appends-crooked : List Call
+appends-crooked = edit (create 5) ∷ append-to-5 crooked ∷ []
+
+abbrev pub goes-on : List Call
+goes-on = appends-crooked ++ (edit (create 6) ∷ [])
+
 pub record Instances : Type 0 where
   -- Header of machine 2 and 106 zeros: consumed 114. Its first 113: 1. Empty: 1
   pub smallest-read : read-file smallest ≡ ok smallest-routine 114
@@ -278,3 +319,30 @@ pub record Instances : Type 0 where
   pub image-full-first : map (λ n. told-sum (step (edit (append 1 (instruction-bytes a-nop))) (with-sum n (two-opened 250)))) (0 ∷ most-sum ∷ []) ≡ (11, 0) ∷ (11, most-sum) ∷ []
   -- The charge is worked afresh at the rates handed in, whatever rates and sum the book has
   pub charged-afresh : look-charge (7 ∷ 7 ∷ 7 ∷ 7 ∷ 7 ∷ 100 ∷ []) (with-sum 1 (two-opened 250)) ≡ accepted 2
+  -- Sound are width 1 with offset 0 or 63, and 64 with 0; not 0 with 0, 1 with -1 or 64, -1 with 2, 64 with 1, 65 with 0, nor 2^31 - 1 with 2^31 - 1
+  pub sound-slices : map is-slice-of ((pos 1, pos 0) ∷ (pos 1, pos 63) ∷ (pos 64, pos 0) ∷ []) ≡ true ∷ true ∷ true ∷ []
+  pub crooked-slices :
+      map is-slice-of ((pos 0, pos 0) ∷ (pos 1, negsuc 0) ∷ (pos 1, pos 64) ∷ (negsuc 0, pos 2) ∷ (pos 64, pos 1) ∷ (pos 65, pos 0) ∷ (pos (2 ^ 31 - 1), pos (2 ^ 31 - 1)) ∷ [])
+      ≡ false ∷ false ∷ false ∷ false ∷ false ∷ false ∷ false ∷ []
+  -- A file with a crooked register opens
+  pub crooked-opened : refusal-of (open-book crooked-file (replicate 250 9) [] six-rates .0) ≡ 0
+  -- Appended it is 19: also with a byte after it, to a block that is not there, and to a closed one; and where the bytes end behind the register's offset,
+  -- which reading refuses 1. Where the register is foreign too it is 5
+  pub crooked-first : refused-to 5 (instruction-bytes crooked) ∷ refused-to 5 (instruction-bytes crooked ++ (0 ∷ [])) ∷ map (λ v. refused-to v (instruction-bytes crooked)) (9 ∷ 6 ∷ [])
+      ≡ 19 ∷ 19 ∷ 19 ∷ 19 ∷ []
+  pub crooked-cut : refused-to 5 up-to-offset ≡ 19
+  pub cut-read : span (instruction up-to-offset 0) ≡ no 1
+  pub foreign-first : refused-to 5 (instruction-bytes (plain 4 (register-of 0x0300000000000000 (pos 80) (pos 0) ∷ []))) ≡ 5
+  -- Each operand is asked, in turn: a crooked one before an operand of kind 2 is 19, and behind it 6; a sound one before a crooked one does not help
+  pub asked-in-turn :
+      map (λ s. refused-to 5 (mov-of s))
+      ((operand-bytes (slice-of (pos 80) (pos 0)) ++ bytes 4 2) ∷ (bytes 4 2 ++ operand-bytes (slice-of (pos 80) (pos 0)))
+      ∷ (operand-bytes (Reg any-register) ++ operand-bytes (slice-of (pos 80) (pos 0))) ∷ [])
+      ≡ 19 ∷ 6 ∷ 19 ∷ []
+  -- A sound register is appended
+  pub sound-appended : map (λ (x : ℤ × ℤ). refused-to 5 (instruction-bytes (neg-of (x .0) (x .1)))) ((pos 1, pos 63) ∷ (pos 64, pos 0) ∷ []) ≡ 0 ∷ 0 ∷ []
+  -- On the 114 bytes, image 222 and journal 116, create 5 and append it: 19. Create 6: length 186, used 40
+  pub crooked-refused : answer-to appends-crooked ≡ refused 19
+  pub gone-on : answer-to goes-on ≡ answered 186 40
+  pub library-crooked-refused : library-answer-to appends-crooked ≡ refused 19
+  pub library-gone-on : library-answer-to goes-on ≡ answered 186 40

@@ -14,7 +14,7 @@ use borrow.Author.Tests.{leb-true, eqb-true, eqb-false}
 use Rattle.fields.specs.Parse.{ok, no, Reader, bind, uint, int, part, many, counted, flag, u64}
 use Rattle.fields.proofs.Le.{uint-is}
 use Rattle.op.specs.Ops.{number, counts}
-use Rattle.pod.specs.Layout.{register, immediate, operand, named, opcode, after-opcode, instruction, convention, block}
+use Rattle.pod.specs.Layout.{register, immediate, operand, named, opcode, after-opcode-by, instruction, convention, block}
 use Rattle.pod.specs.Values.{Instruction, RoutineConvention, BasicBlock}
 use Rattle.pod.specs.declared.RegisterDesc.{RegisterDesc}
 use Rattle.pod.specs.declared.ImmediateDesc.{ImmediateDesc}
@@ -163,7 +163,7 @@ module _ (s : List ℕ) where
   registers-ends o e = flat-ends register 24 (λ o x n. register-end o) o e
 
   pub instruction-ends : (o : ℕ) {x : Instruction} {n : ℕ} → instruction s o ≡ ok x n → instructionEnd s o ≡ n
-  unfolding instruction opcode named after-opcode instructionEnd
+  unfolding instruction opcode named after-opcode-by instructionEnd
   instruction-ends o {x} {n} e =
       let a = inv _ _ e in
       let size = inv (uint 4 s o) _ (a .2) in

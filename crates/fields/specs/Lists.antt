@@ -1,7 +1,7 @@
 -- Lists and tests: what any file may want.
 use Prim.Native.Nat.{ℕ}
 use mathlib.Core.List.{List, [], _∷_}
-use mathlib.Core.Bool.{Bool, true, false, _||_}
+use mathlib.Core.Bool.{Bool, true, false, _||_, _&&_}
 use lib.Dec.{eqb}
 
 -- the first where the test holds, else the second
@@ -25,6 +25,11 @@ has v (x ∷ xs) = choose (eqb x v) true (has v xs)
 unfoldable pub any : {A : Type 0} → (A → Bool) → List A → Bool
 any f [] = false
 any f (x ∷ xs) = f x || any f xs
+
+-- every element passes the test
+unfoldable pub every : {A : Type 0} → (A → Bool) → List A → Bool
+every f [] = true
+every f (x ∷ xs) = f x && every f xs
 
 -- a list is empty
 abbrev pub none : {A : Type 0} → List A → Bool

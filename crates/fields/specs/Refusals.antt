@@ -71,3 +71,7 @@ leftover = 17
 -- the last instruction of the block to append to is js, jmp, vexit or vxcall
 abbrev pub closed-block : ℕ
 closed-block = 18
+
+-- a register of the instruction to append has a width under 1, an offset under 0, or their sum is over 64
+abbrev pub crooked-register : ℕ
+crooked-register = 19

@@ -45,6 +45,8 @@ pub const LEFTOVER: u8 = 17;
 
 pub const CLOSED_BLOCK: u8 = 18;
 
+pub const CROOKED_REGISTER: u8 = 19;
+
 // An image or a journal is at most this long.
 pub const MOST_LENT: usize = 16_777_216;
 
@@ -86,9 +88,10 @@ pub enum Skip {
     Refused(u8),
 }
 
-// A part with flags in it that is passed over: the offset past it and whether its bytes are its written form, or the refusal.
+// A part with flags or registers in it that is walked over: the offset past it, whether its bytes are its written form, and whether every register in it
+// is sound; or the refusal.
 pub enum Walked {
-    Past(usize, bool),
+    Past(usize, bool, bool),
     Refused(u8),
 }
 

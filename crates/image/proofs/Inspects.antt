@@ -2,7 +2,7 @@
 -- routine that is read from it, and the other way round.
 -- Assumes nothing.
 use mathlib.Core.Path.{_≡_, refl, sym, ap, ap₂, _∙_}
-use mathlib.Core.Bool.{Bool, true, false, _&&_, and-true, and-false}
+use mathlib.Core.Bool.{Bool, true, false, _&&_, and-true}
 use mathlib.Core.List.{List, [], append-nil}
 use Prim.Native.Nat.{ℕ, _-_, _≤_, _<_}
 use native.Mathlib.Omega.{arith}
@@ -19,6 +19,8 @@ use Rattle.fields.specs.Lists.{choose, same}
 use Rattle.op.proofs.Same.{same-yes, same-no}
 use Rattle.pod.specs.Values.{Routine}
 use Rattle.pod.specs.Layout.{routine, read-file}
+use Rattle.pod.specs.Sound.{routine-sound}
+use Rattle.fields.specs.Sight.{Sight, sight}
 use Rattle.pod.specs.Written.{routine-bytes, walked}
 use Rattle.laws.proofs.Layouts.{routine-layout, read-to}
 use Rattle.laws.proofs.Walks.{spans-walked, walked-whole}
@@ -26,7 +28,7 @@ use Rattle.laws.specs.At.{At}
 use Rattle.machine.specs.Edits.{size}
 use Rattle.machine.specs.Journal.{or-spoiled, whole}
 use Rattle.machine.specs.Book.{State, in-image, held}
-use Rattle.machine.proofs.Held.{whole-yes, held-positive}
+use Rattle.machine.proofs.Held.{both, whole-yes, held-positive}
 pub use Rattle.machine.proofs.Held.{held-sound, sound-held}
 pub use Rattle.book.proofs.Answers.{refused-by, accepted-by}
 use Rattle.book.specs.Holding.{Holding, Sound}
@@ -34,21 +36,20 @@ use Rattle.image.specs.Places.{ends-at, is-routine}
 
 -- one routine's written form, and no more
 abbrev One : List ℕ → Type 0
-One s = walked routine routine-bytes s 0 ≡ ok true (length s)
+One s = (u : Bool) × (walked routine routine-bytes routine-sound s 0 ≡ ok (sight true u) (length s))
 
 is-one : (s : List ℕ) → is-routine s ≡ true → One s
 unfolding is-routine
-is-one s e = go (walked routine routine-bytes s 0) e
+is-one s e = go (walked routine routine-bytes routine-sound s 0) e
   where
-    go : (r : Res Bool) → ends-at (length s) r ≡ true → r ≡ ok true (length s)
-    go (ok false n) p = let z : false ≡ true = sym (and-false (eqb n (length s))) ∙ p in let y : _≡_ {A = ℕ} 0 1 = cc in absurd (omega arith)
-    go (ok true n) p = ap (ok true) (eqb-true n (length s) (sym (and-true (eqb n (length s))) ∙ p))
+    go : (r : Res Sight) → ends-at (length s) r ≡ true → (u : Bool) × (r ≡ ok (sight true u) (length s))
+    go (ok x n) p = let q = both (eqb n (length s)) (x .written) p in (x .sound, ap₂ (λ w m. ok (sight w (x .sound)) m) (q .1) (eqb-true n (length s) (q .0)))
     go (no k) p = let z : false ≡ true = p in let y : _≡_ {A = ℕ} 0 1 = cc in absurd (omega arith)
 
 is-none : (s : List ℕ) → is-routine s ≡ false → One s → ⊥
 unfolding is-routine
 is-none s e q =
-    let z : true ≡ false = sym (and-true _ ∙ eq-eqb (length s) (length s) refl) ∙ sym (ap (ends-at (length s)) q) ∙ e in
+    let z : true ≡ false = sym (and-true _ ∙ eq-eqb (length s) (length s) refl) ∙ sym (ap (ends-at (length s)) (q .1)) ∙ e in
     let y : _≡_ {A = ℕ} 0 1 = cc in
     absurd (omega arith)
 
@@ -110,7 +111,7 @@ module _ (s : State) where
         unread x m q e =
             let t : At part 0 (routine-bytes x) = record { rest = []; is = e ∙ sym (append-nil (routine-bytes x)); within = omega arith } in
             let n : m ≡ length part = omega (arith, read-to routine-layout bytes q, ap length e) in
-            is-none part h (spans-walked routine-layout bytes q t ∙ ap (ok true) n)
+            is-none part h (routine-sound x, spans-walked routine-layout bytes routine-sound q t ∙ ap (ok (sight true (routine-sound x))) n)
 
         go : (r : Res Routine) → read-file part ≡ r → (whole routine-bytes part r >>= λ r. (refuse-unless rest-is-zero 13 >> accepted r)) ≡ refused 13
         go (no e) q = refl
@@ -120,7 +121,7 @@ module _ (s : State) where
     clean : is-routine part ≡ true → (x : Routine) × (held s ≡ (refuse-unless rest-is-zero 13 >> accepted x))
     unfolding after
     clean h =
-        let i = walked-whole routine-layout bytes (is-one part h) in
+        let i = walked-whole routine-layout routine-sound bytes (is-one part h .1) in
         (i .0, tested w ∙ rw (whole-yes routine-bytes part (read-file part) (i .1) (i .2)))
 
     module _ (h : is-routine part ≡ true) where

@@ -7,21 +7,23 @@ use lib.Dec.{eqb}
 use lib.ListN.{length, take}
 use Rattle.fields.specs.Parse.{Res, ok, no}
 use Rattle.pod.specs.Values.{Routine}
+use Rattle.fields.specs.Sight.{Sight}
 use Rattle.pod.specs.Layout.{routine}
+use Rattle.pod.specs.Sound.{routine-sound}
 use Rattle.pod.specs.Written.{convention-bytes, instruction-bytes, many-bytes, routine-bytes, walked}
 use Rattle.machine.specs.Edits.{place as place-of, block-at}
 use Rattle.book.specs.Holding.{block-start}
 use Rattle.image.specs.declared.Found.{Found}
 use Rattle.image.specs.declared.LastInstruction.{LastInstruction}
 
--- what was walked over ends at n, and is in written form
-abbrev pub ends-at : ℕ → Res Bool → Bool
-ends-at n (ok written m) = eqb m n && written
+-- what was walked over ends at n, and is in written form. What its registers are plays no part
+abbrev pub ends-at : ℕ → Res Sight → Bool
+ends-at n (ok x m) = eqb m n && x .written
 ends-at n (no e) = false
 
 -- exactly one accepted routine in written form
 unfoldable pub is-routine : List ℕ → Bool
-is-routine s = ends-at (length s) (walked routine routine-bytes s 0)
+is-routine s = ends-at (length s) (walked routine routine-bytes routine-sound s 0)
 
 -- the place of the block with the vip and where it begins; the number of blocks and the end of the last where no block has it
 pub record Finds (x : Routine) (v : ℕ) (r : Found) : Type 0 where

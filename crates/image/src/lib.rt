@@ -18,7 +18,7 @@ use pod::Vip;
 fn is_routine(s: &[u8]) -> bool
     ensures { λ r. ⌜ r ≡ is-routine (now (s .entry)) ⌝ }
 {
-    if let Walked::Past(end, written) = reader::pass_file(s) {
+    if let Walked::Past(end, written, _) = reader::pass_file(s) {
         (end == s.len()) & written
     } else {
         false

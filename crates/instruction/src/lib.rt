@@ -1,12 +1,14 @@
 // Instructions.
 ghost use mathlib.Core.Path.{_≡_};
-ghost use Prim.Native.Nat.{ℕ, _<_};
-ghost use Rattle.fields.specs.Parse.{ok, many, span, refusal-in};
-ghost use Rattle.fields.specs.Answers.{of-skip, of-walked};
+ghost use Prim.Native.Nat.{ℕ, _≤_, _<_};
+ghost use Rattle.fields.specs.Parse.{ok, bind, uint, many, span, refusal-in};
+ghost use Rattle.fields.specs.Sight.{sight};
+ghost use Rattle.fields.specs.Answers.{of-walked};
 ghost use Rattle.pod.specs.Values.{Instruction};
 ghost use Rattle.pod.specs.Layout.{operand, named, opcode, instruction};
+ghost use Rattle.pod.specs.Sound.{instruction-sound, sound-operand, appended};
 ghost use Rattle.pod.specs.Written.{instruction-bytes, walked};
-ghost use Rattle.instruction.specs.Answers.{of-op, Found};
+ghost use Rattle.instruction.specs.Answers.{of-op, Found, of-asked, when-asked};
 use fields::Skip;
 use fields::U32Read;
 use fields::Walked;
@@ -24,6 +26,45 @@ pub fn op_refusal(op: OpRead) -> u8
 {
     if let OpRead::Refused(e) = op { e } else { 0 }
 }
+
+// Operands, or an instruction, that are passed over: the offset past them, and whether every register is sound; or the refusal, and whether every register
+// before the fault is. So the answer also says what append is refused, which asks a register as soon as it has been read.
+pub enum Asked {
+    Past(usize, bool),
+    Refused(u8, bool),
+}
+
+// The refusal of what was refused, and 0 of what was passed over: where no register is asked,
+fn plain_refusal(far: Asked) -> u8
+    ensures { λ r. ⌜ r ≡ refusal-in (of-asked far) ⌝ }
+{
+    if let Asked::Refused(e, _) = far { e } else { 0 }
+}
+
+// and where each is. It is pub for append.
+pub fn asked_refusal(far: Asked) -> u8
+    ensures { λ r. ⌜ r ≡ refusal-in (when-asked far) ⌝ }
+{
+    match far {
+        Asked::Past(_, sound) => { if sound { 0 } else { fields::CROOKED_REGISTER } }
+        Asked::Refused(e, sound) => { if sound { e } else { fields::CROOKED_REGISTER } }
+    }
+}
+
+// An instruction that is walked over the fast way: the offset past it, or 0 where this does not tell; whether it is in written form, and whether every
+// register in it is sound.
+pub struct FastInstruction {
+    pub end: usize,
+    pub written: bool,
+    pub sound: bool,
+}
+
+// Where the fast way does not tell.
+const NOT_TOLD: FastInstruction = FastInstruction {
+    end: 0,
+    written: false,
+    sound: false,
+};
 
 // The operation with the name `name`, whose operand count stands at `at`.
 fn named_at(s: &[u8], name: &[u8], at: usize) -> OpRead
@@ -120,86 +161,109 @@ pub fn op_of(s: &[u8], at: usize) -> usize
 }
 
 // `count` operands.
-fn operands_run(s: &[u8], at: usize, count: u32) -> Skip
-    ensures { λ r. ⌜ of-skip r ≡ span (many operand count (now (s .entry)) at) ⌝ }
+fn operands_run(s: &[u8], at: usize, count: u32) -> Asked
+    ensures { λ r. ⌜ (of-asked r ≡ span (many operand count (now (s .entry)) at)) × (when-asked r ≡ span (many sound-operand count (now (s .entry)) at)) ⌝ }
 {
     let mut left = count;
     let mut o = at;
+    let mut sound = true;
     while 0 < left {
         let operand = pod::operand_at(s, o);
-        if let OperandRead::Value(_, n) = operand {
+        if let OperandRead::Value(_, n, t) = operand {
             o = n;
+            sound = sound & t;
         } else {
-            return Skip::Refused(pod::operand_refusal(operand));
+            return Asked::Refused(pod::operand_refusal(operand), sound);
         }
         left -= 1;
     }
-    Skip::Past(o)
+    Asked::Past(o, sound)
 }
 
-// The offset past the instruction at `at`, or 0 where this does not tell: near the end of the file, and where it is refused. It has the tests of
-// `fast_code` a second time: the walk over a file spends its time here, and shared they slow it by a tenth and more. The loop goes by the count in the
-// file, which is at hand before the table's.
-fn fast_end(s: &[u8], at: usize) -> usize
-    ensures { λ r. ⌜ (0 < r → span (instruction (now (s .entry)) at) ≡ ok tt r) ⌝ }
+// A field of `k` bytes is passed over, after what was passed over so far: it is no register, so what was told stays.
+fn then_uint(s: &[u8], far: Asked, k: usize) -> Asked
+    requires { ⌜ k ≤ 8 ⌝ }
+    ensures { λ r. ⌜ (of-asked r ≡ bind (of-asked far) (λ _ n. span (uint k (now (s .entry)) n)))
+        × (when-asked r ≡ bind (when-asked far) (λ _ n. span (uint k (now (s .entry)) n))) ⌝ }
+{
+    if let Asked::Past(at, sound) = far {
+        if fields::within(s, at, k) {
+            Asked::Past(at + k, sound)
+        } else {
+            Asked::Refused(fields::SHORT_FILE, sound)
+        }
+    } else {
+        far
+    }
+}
+
+// The instruction at `at` is walked over the fast way, which does not tell near the end of the file, and where the instruction is refused. It is pub for the
+// walk over a block, which asks it first: asked by `instruction_skip`, whose answers go through memory, it makes the walk over a file half as long again. It
+// has the tests of `fast_code` a second time: the walk over a file spends its time here, and shared they slow it by a tenth and more. The loop goes by the
+// count in the file, which is at hand before the table's.
+pub fn fast_skip(s: &[u8], at: usize) -> FastInstruction
+    ensures { λ r. ⌜ (0 < r .end → walked instruction instruction-bytes instruction-sound (now (s .entry)) at ≡ ok (sight (r .written) (r .sound)) (r .end)) ⌝ }
 {
     if s.len() < at {
-        return 0;
+        return NOT_TOLD;
     }
     if s.len() - at < 128 {
-        return 0;
+        return NOT_TOLD;
     }
     let a = at + 4;
     let n = fields::four(s, at) as usize;
     let code = op::fast_lookup(fields::eight(s, a), n);
     if 255 < code {
-        return 0;
+        return NOT_TOLD;
     }
     let b = a + n;
     let count = fields::four(s, b);
     if count != code % 4 {
-        return 0;
+        return NOT_TOLD;
     }
     let mut o = b + 4;
     let mut left = count;
+    let mut sound = true;
     while 0 < left {
-        o = pod::fast_operand(s, o);
+        let operand = pod::fast_operand(s, o);
+        o = operand.end;
         if o == 0 {
-            return 0;
+            return NOT_TOLD;
         }
+        sound = sound & operand.sound;
         left -= 1;
     }
-    o + 21
+    FastInstruction {
+        end: o + 21,
+        written: s[o + 20] <= 1,
+        sound,
+    }
 }
 
-// The instruction at `at` is passed over: the fast way, or else field by field.
-fn instruction_past(s: &[u8], at: usize) -> Skip
-    ensures { λ r. ⌜ of-skip r ≡ span (instruction (now (s .entry)) at) ⌝ }
+// The instruction at `at` is passed over, field by field. It is pub for append, which asks its registers.
+pub fn instruction_past(s: &[u8], at: usize) -> Asked
+    ensures { λ r. ⌜ (of-asked r ≡ span (instruction (now (s .entry)) at)) × (when-asked r ≡ span (appended (now (s .entry)) at)) ⌝ }
 {
-    let end = fast_end(s, at);
-    if 0 < end {
-        return Skip::Past(end);
-    }
     let op = op_at(s, at);
     if let OpRead::Value(k, a) = op {
         let o = operands_run(s, a, op::operand_count(k));
-        let v = fields::then_uint(s, o, 8);
-        let f = fields::then_uint(s, v, 8);
-        let i = fields::then_uint(s, f, 4);
-        fields::then_uint(s, i, 1)
+        let v = then_uint(s, o, 8);
+        let f = then_uint(s, v, 8);
+        let i = then_uint(s, f, 4);
+        then_uint(s, i, 1)
     } else {
-        Skip::Refused(op_refusal(op))
+        Asked::Refused(op_refusal(op), true)
     }
 }
 
-// The instruction at `at` is walked over. Its flag, sp reset, is its last byte: in written form it is at most 1.
+// The instruction at `at` is walked over, field by field. Its flag, sp reset, is its last byte: in written form it is at most 1.
 pub fn instruction_skip(s: &[u8], at: usize) -> Walked
-    ensures { λ r. ⌜ of-walked r ≡ walked instruction instruction-bytes (now (s .entry)) at ⌝ }
+    ensures { λ r. ⌜ of-walked r ≡ walked instruction instruction-bytes instruction-sound (now (s .entry)) at ⌝ }
 {
     let far = instruction_past(s, at);
-    if let Skip::Past(end) = far {
-        Walked::Past(end, s[end - 1] <= 1)
+    if let Asked::Past(end, sound) = far {
+        Walked::Past(end, s[end - 1] <= 1, sound)
     } else {
-        Walked::Refused(fields::skip_refusal(far))
+        Walked::Refused(plain_refusal(far))
     }
 }

@@ -14,7 +14,7 @@ use Rattle.op.specs.Ops.{names, counts, number}
 use Rattle.op.proofs.Same.{names-many}
 use Rattle.op.proofs.Packed.{placed}
 use Rattle.pod.specs.Blocks.{vips, repeats}
-use Rattle.pod.specs.Layout.{header, register, immediate, operand, named, opcode, after-opcode, instruction, convention, block, blocks, routine}
+use Rattle.pod.specs.Layout.{header, register, immediate, operand, named, opcode, after-opcode-by, instruction, convention, block, blocks, routine}
 use Rattle.pod.specs.Written.{bytes, counted-bytes, header-bytes, register-bytes, immediate-bytes, operand-bytes}
 use Rattle.pod.specs.Written.{name-bytes, instruction-bytes, convention-bytes, block-head-bytes, block-bytes, routine-head-bytes, routine-bytes}
 use Rattle.laws.specs.Holds.{Header-holds, Register-holds, Immediate-holds, Operand-holds, Instruction-holds, Convention-holds, Block-holds, Blocks-holds, Routine-holds}
@@ -92,7 +92,7 @@ module _ {s : List ℕ} (b : Bytes s) (o : ℕ) where
       give (leb-true machine 2 known, kept (rw (eqb-true first 0x4c495456 p) at (u₁ .1)) also kept (u₂ .1) also u₃ also kept (rw (eqb-true second 0xdead q) at (u₄ .1)))
 
   pub instruction-took : Post (instruction s o) (λ i n. Instruction-holds i × Took s o (instruction-roles i) (instruction-bytes i) n)
-  unfolding instruction after-opcode instruction-bytes instruction-roles counted-bytes
+  unfolding instruction after-opcode-by instruction-bytes instruction-roles counted-bytes
   instruction-took =
       step _ (opcode-took b o) λ op n₁ c.
       step _ (many-spans operand operand-bytes (operand-took b) (getD counts op 0) n₁ (within (c .count))) λ xs n₂ u₂.

@@ -12,7 +12,8 @@ use Rattle.pod.specs.Values.{Instruction, RoutineConvention, BasicBlock, Routin
 use Rattle.pod.specs.declared.RegisterDesc.{RegisterDesc}
 use Rattle.pod.specs.declared.ImmediateDesc.{ImmediateDesc}
 use Rattle.pod.specs.declared.Operand.{Operand}
-use Rattle.pod.specs.Layout.{header, register, immediate, operand, of-kind, named, opcode, after-opcode, instruction, convention, block, blocks, routine}
+use Rattle.pod.specs.Layout.{header, register, immediate, operand, of-kind, named, opcode, after-opcode-by, instruction, convention, block, blocks, routine}
+use Rattle.pod.specs.Sound.{sound-operand, appended}
 
 pub record Kept (R : ℕ → Type 0) (P : (A : Type 0) → Reader A → Type 0) : Type 1 where
   pub then : {A B : Type 0} (p : Reader A) (f : A → Reader B) → P A p → ((a : A) → P B (f a)) → P B (p >>= f)
@@ -76,11 +77,19 @@ module _ {R : ℕ → Type 0} {P : (A : Type 0) → Reader A → Type 0} (k : Ke
           k .then _ _ (k .number 4) λ size. k .then _ _ (k .bytes size) λ name. k .then _ _ (tests 2 _ r₂) λ t.
           k .then _ _ (k .number 4) λ count. k .then _ _ (tests 7 _ r₇) λ t. k .then _ _ (tests 8 _ r₈) λ t. k .gives _
 
-      pub an-instruction : P Instruction instruction
-      unfolding instruction after-opcode
-      an-instruction =
-          k .then _ _ an-opcode λ op. k .then _ _ (several operand an-operand _) λ xs. k .then _ _ (k .number 8) λ vip.
+      with-operands : (p : Reader Operand) → P Operand p → P Instruction (opcode >>= after-opcode-by p)
+      unfolding after-opcode-by
+      with-operands p h =
+          k .then _ _ an-opcode λ op. k .then _ _ (several p h _) λ xs. k .then _ _ (k .number 8) λ vip.
           k .then _ _ (signed _ 8) λ sp. k .then _ _ (k .number 4) λ index. k .then _ _ a-flag λ reset. k .gives _
+
+      pub an-instruction : P Instruction instruction
+      unfolding instruction
+      an-instruction = with-operands operand an-operand
+
+      pub an-appended : R 19 → P Instruction appended
+      unfolding appended sound-operand
+      an-appended r₁₉ = with-operands sound-operand (k .then _ _ an-operand λ x. k .then _ _ (tests 19 _ r₁₉) λ t. k .gives x)
 
       pub a-block : P BasicBlock block
       unfolding block

@@ -11,4 +11,5 @@ pub mod Place
 pub mod Every
 pub mod Refusals
 pub mod Local
+pub mod Appended
 pub mod Walks

@@ -15,7 +15,7 @@ use Rattle.op.specs.Text.{is-text}
 use Rattle.op.proofs.Same.{short}
 use Rattle.op.proofs.Packed.{listed-number, listed-text, few}
 use Rattle.pod.specs.Values.{Instruction, RoutineConvention, BasicBlock, Routine}
-use Rattle.pod.specs.Layout.{header, register, immediate, operand, of-kind, named, opcode, after-opcode, instruction, convention, block, blocks, routine}
+use Rattle.pod.specs.Layout.{header, register, immediate, operand, of-kind, named, opcode, after-opcode-by, instruction, convention, block, blocks, routine}
 use Rattle.pod.specs.Written.{bytes, counted-bytes, header-bytes, register-bytes, immediate-bytes, operand-bytes}
 use Rattle.pod.specs.Written.{name-bytes, instruction-bytes, convention-bytes, block-head-bytes, block-bytes, routine-head-bytes, routine-bytes}
 use Rattle.pod.specs.declared.RegisterDesc.{RegisterDesc}
@@ -73,7 +73,7 @@ opcode-reads op h =
     (seq _ _ _ _ (part-reads w) (named-reads w op (listed-text op h) (listed-number op h) h)))
 
 pub instruction-reads : (i : Instruction) → Instruction-holds i → Reads instruction i (instruction-bytes i)
-unfolding instruction after-opcode instruction-bytes counted-bytes
+unfolding instruction after-opcode-by instruction-bytes counted-bytes
 instruction-reads i h =
     same-bytes (simp (h .count, append-assoc))
     (seq _ _ _ _ (opcode-reads (i .op) (h .op))

@@ -17,8 +17,10 @@ use Rattle.fields.specs.Bytes.{Bytes, most-lent}
 use Rattle.pod.specs.Values.{Instruction, BasicBlock, Routine}
 use Rattle.pod.specs.Blocks.{vips, repeats}
 use Rattle.pod.specs.Layout.{instruction}
+use Rattle.pod.specs.Sound.{appended}
 use Rattle.pod.specs.Written.{many-bytes, instruction-bytes, block-bytes, routine-head-bytes}
 use Rattle.laws.specs.Holds.{Instruction-holds, Block-holds, Routine-holds}
+use Rattle.laws.proofs.Appended.{appended-read}
 use Rattle.laws.proofs.Layouts.{instruction-layout, read-holds, read-to, read-within}
 use Rattle.laws.proofs.Sizes.{instruction-size, block-size, block-least, block-empty, routine-size}
 use Rattle.machine.specs.Edits.{Edit, create, remove, append, present, place, empty-block, block-at, remove-at, change-at, append-to, with-instructions, with-blocks, is-closed, edited, size}
@@ -43,8 +45,8 @@ Did (append v s) r r′ = Appended v s r r′
 did-append : (v : ℕ) (s : List ℕ) → Bytes s → (r r′ : Routine) → edited (append v s) r ≡ accepted r′ → Appended v s r r′
 unfolding edited
 did-append v s b r r′ d =
-    let x = came (what-is-read (instruction s 0)) _ d in
-    let q = was-read (instruction s 0) (x .1) in
+    let x = came (what-is-read (appended s 0)) _ d in
+    let q = appended-read s 0 (was-read (appended s 0) (x .1)) in
     let p = if-passed 17 _ (ltb (x .0 .1) (length s)) (x .2) in
     let t = unless-passed 15 _ (present v (r .explored-blocks)) (p .1) in
     let y = if-passed 18 _ (is-closed (block-at (place v (r .explored-blocks)) (r .explored-blocks))) (t .1) .1 in

@@ -10,7 +10,7 @@ use Rattle.fields.specs.Outcome.{Outcome, accepted, _>>=_, _>>_, refuse-if, ref
 use Rattle.fields.specs.Lists.{choose, has, last-of, but-last, last-is}
 use Rattle.pod.specs.Values.{Instruction, BasicBlock, Routine}
 use Rattle.pod.specs.Blocks.{vips}
-use Rattle.pod.specs.Layout.{instruction}
+use Rattle.pod.specs.Sound.{appended}
 use Rattle.pod.specs.Written.{block-bytes, routine-bytes}
 use Rattle.machine.specs.Trailer.{trailer-size}
 
@@ -99,7 +99,7 @@ pub data Edit : Type 0 where
   remove : ℕ → Edit
   append : ℕ → List ℕ → Edit
 
--- the routine after an edit, or why it is refused. create: 14. remove: 15. append: reading refusals, 17, 15, 18
+-- the routine after an edit, or why it is refused. create: 14. remove: 15. append: reading refusals and 19 as they are met, 17, 15, 18
 unfoldable pub edited : Edit → Routine → Outcome Routine
 edited (create v) r = do
   refuse-if (present v (r .explored-blocks)) block-present
@@ -108,7 +108,7 @@ edited (remove v) r = do
   refuse-unless (present v (r .explored-blocks)) no-such-block
   accepted (with-blocks (remove-at (place v (r .explored-blocks)) (r .explored-blocks)) r)
 edited (append v s) r = do
-  x ← what-is-read (instruction s 0)
+  x ← what-is-read (appended s 0)
   refuse-if (ltb (x .1) (length s)) leftover
   refuse-unless (present v (r .explored-blocks)) no-such-block
   refuse-if (is-closed (block-at (place v (r .explored-blocks)) (r .explored-blocks))) closed-block

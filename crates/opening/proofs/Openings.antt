@@ -1,7 +1,6 @@
 -- Each way out of an opening, against the definition: what the calls left is what `open-book` says.
 -- Assumes nothing.
 use mathlib.Core.Path.{_≡_, sym, ap, ap₂, _∙_}
-use mathlib.Core.Bool.{Bool}
 use mathlib.Core.List.{List, _++_, append-nil}
 use Prim.Native.Nat.{ℕ, _+_, _-_, _≤_, _<_}
 use native.Mathlib.Nat.{zero-add, sub-zero}
@@ -17,6 +16,8 @@ use Rattle.fields.proofs.Invert.{inv-span, inv-span-no}
 use Rattle.fields.specs.Lists.{choose}
 use Rattle.pod.specs.Values.{Routine}
 use Rattle.pod.specs.Layout.{routine, read-file}
+use Rattle.pod.specs.Sound.{routine-sound}
+use Rattle.fields.specs.Sight.{Sight}
 use Rattle.pod.specs.Written.{routine-bytes, walked}
 use Rattle.laws.proofs.Layouts.{routine-layout, read-to, read-within, read-holds}
 use Rattle.laws.proofs.Every.{a-routine}
@@ -42,14 +43,14 @@ put-all y a h =
     ap (λ l. y ++ l) (drop-of-length-le a e) ∙ append-nil y
 
 -- what was walked over is a routine
-pub passed : (s : List ℕ) {n : ℕ} {t : Bool} → walked routine routine-bytes s 0 ≡ ok t n → (x : Routine) × (read-file s ≡ ok x n)
-passed s h = inv-span (read-file s) (walked-past routine routine-bytes s 0 h)
+pub passed : (s : List ℕ) {n : ℕ} {x : Sight} → walked routine routine-bytes routine-sound s 0 ≡ ok x n → (x : Routine) × (read-file s ≡ ok x n)
+passed s h = inv-span (read-file s) (walked-past routine routine-bytes routine-sound s 0 h)
 
-pub ends : (s : List ℕ) → Bytes s → {n : ℕ} {t : Bool} → walked routine routine-bytes s 0 ≡ ok t n → n ≤ length s
+pub ends : (s : List ℕ) → Bytes s → {n : ℕ} {x : Sight} → walked routine routine-bytes routine-sound s 0 ≡ ok x n → n ≤ length s
 ends s b h = read-within routine-layout b (passed s h .1)
 
-not-read : (s : List ℕ) {e : ℕ} → walked routine routine-bytes s 0 ≡ no e → read-file s ≡ no e
-not-read s h = inv-span-no (read-file s) (walked-refused routine routine-bytes s 0 h)
+not-read : (s : List ℕ) {e : ℕ} → walked routine routine-bytes routine-sound s 0 ≡ no e → read-file s ≡ no e
+not-read s h = inv-span-no (read-file s) (walked-refused routine routine-bytes routine-sound s 0 h)
 
 -- what was copied: the file's first n bytes, over those of the image
 module _ (file image copied : List ℕ) (n : ℕ) (f : n ≤ length file) (r : n ≤ length image) (c : copied ≡ put 0 (take n file) image) (b : Bytes file) where
@@ -135,12 +136,12 @@ module _ (file image journal : List ℕ) (rates : Rates) where
       unfolding what-is-read after
       was-read {x} {n} e = lent-well (ok x n) e
 
-      pub unread : {e : ℕ} → walked routine routine-bytes file 0 ≡ no e → (refused e, unopened image journal) ≡ open-book file image journal rates
+      pub unread : {e : ℕ} → walked routine routine-bytes routine-sound file 0 ≡ no e → (refused e, unopened image journal) ≡ open-book file image journal rates
       unfolding what-is-read after attempt
       unread h = lent-well _ (not-read file h)
 
 -- no file is refused with 0
-pub some-refusal : (s : List ℕ) {e : ℕ} → walked routine routine-bytes s 0 ≡ no e → 0 < e
+pub some-refusal : (s : List ℕ) {e : ℕ} → walked routine routine-bytes routine-sound s 0 ≡ no e → 0 < e
 some-refusal s h =
     a-routine (refusals (λ e. 0 < e) (omega arith)) (omega arith) (omega arith) (omega arith) (omega arith) (omega arith) (omega arith) (omega arith) (omega arith)
     .refusal s 0 (not-read s h)

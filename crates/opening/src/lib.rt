@@ -59,7 +59,7 @@ pub fn open(file: &[u8], image: &mut [u8], journal: &mut [u8], rates: Rates) -> 
         return book::refuse_opening(book::LENDING_TOO_LARGE);
     }
     let far = reader::pass_file(file);
-    if let Walked::Past(n, _) = far {
+    if let Walked::Past(n, _, _) = far {
         fill(file, image, journal, n, rates)
     } else {
         book::refuse_opening(fields::walked_refusal(far) as u64)

@@ -71,15 +71,18 @@ opcode = do
   name ← part size
   named name
 
--- what follows the operation
-unfoldable pub after-opcode : ℕ → Reader Instruction
-after-opcode op = do
-  operands ← many operand (getD counts op 0)
+-- what follows the operation, its operands read by p
+unfoldable pub after-opcode-by : Reader Operand → ℕ → Reader Instruction
+after-opcode-by p op = do
+  operands ← many p (getD counts op 0)
   vip ← u64
   sp-offset ← i64
   sp-index ← u32
   sp-reset ← flag
   done (record { op = op; operands = operands; vip = vip; sp-offset = sp-offset; sp-index = sp-index; sp-reset = sp-reset })
+
+abbrev pub after-opcode : ℕ → Reader Instruction
+after-opcode = after-opcode-by operand
 
 unfoldable pub instruction : Reader Instruction
 instruction = opcode >>= after-opcode

@@ -1,11 +1,12 @@
 -- The written form: a value's fields in the layouts and their order, pad 0, and nothing else.
 use Prim.Native.Nat.{ℕ, zero, suc, _-_, _/_, _%_}
 use mathlib.Core.List.{List, [], _∷_, _++_}
-use mathlib.Core.Bool.{Bool, true, false, _&&_}
+use mathlib.Core.Bool.{Bool, true, false}
 use lib.ListN.{length, getD, take, drop}
 use mir.Syntax.{w32, w64}
 use mir.Val.{ofZ}
 use Rattle.fields.specs.Parse.{Res, ok, Reader, bind}
+use Rattle.fields.specs.Sight.{Sight, sight, of-both}
 use Rattle.fields.specs.Lists.{same}
 use Rattle.op.specs.Ops.{names}
 use Rattle.pod.specs.Values.{Instruction, RoutineConvention, BasicBlock, Routine}
@@ -80,14 +81,15 @@ routine-head-bytes r =
 unfoldable pub routine-bytes : Routine → List ℕ
 routine-bytes r = routine-head-bytes r ++ counted-bytes block-bytes (r .explored-blocks)
 
--- what a walk over a part sees: the offset past it, and whether the bytes passed are its written form
-unfoldable pub walked : {A : Type 0} → Reader A → (A → List ℕ) → Reader Bool
-walked p w s o = bind (p s o) (λ a n. ok (same (take (n - o) (drop o s)) (w a)) n)
+-- what a walk over a part sees: the offset past it, whether the bytes passed are its written form, and whether what was read passes the test t, that its
+-- registers are sound
+unfoldable pub walked : {A : Type 0} → Reader A → (A → List ℕ) → (A → Bool) → Reader Sight
+walked p w t s o = bind (p s o) (λ a n. ok (sight (same (take (n - o) (drop o s)) (w a)) (t a)) n)
 
--- what it sees of two parts, one after the other: the offset past both, and whether both are in written form
-unfoldable pub both : Res Bool → (ℕ → Res Bool) → Res Bool
-both r f = bind r (λ t n. bind (f n) (λ u m. ok (t && u) m))
+-- what it sees of two parts, one after the other: the offset past both, and what is so of both
+unfoldable pub both : Res Sight → (ℕ → Res Sight) → Res Sight
+both r f = bind r (λ x n. bind (f n) (λ y m. ok (of-both x y) m))
 
--- and of a part after it that is written just as it is read
-unfoldable pub passing : Res Bool → (ℕ → Res Unit) → Res Bool
-passing r f = bind r (λ t n. bind (f n) (λ _ m. ok t m))
+-- and of a part after it that is written just as it is read and has no register
+unfoldable pub passing : {A : Type 0} → Res A → (ℕ → Res Unit) → Res A
+passing r f = bind r (λ x n. bind (f n) (λ _ m. ok x m))

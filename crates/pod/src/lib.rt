@@ -3,11 +3,12 @@ ghost use mathlib.Core.Path.{_≡_};
 ghost use Prim.Native.Nat.{_+_, _≤_, _<_};
 ghost use lib.ListN.{length};
 ghost use Rattle.pod.specs.Layout.{register, immediate, operand};
-ghost use Rattle.pod.specs.Answers.{of-register, of-immediate, of-operand};
-ghost use Rattle.fields.specs.Parse.{ok, bind, i32, many, counted, span, refusal-in};
-ghost use Rattle.fields.specs.Answers.{of-skip};
+ghost use Rattle.pod.specs.Sound.{is-slice, is-sound, operand-sound};
+ghost use Rattle.pod.specs.Told.{judged};
+ghost use Rattle.pod.specs.Answers.{of-register, of-immediate, of-operand, of-passed, Register-told, Operand-told};
+ghost use Rattle.fields.specs.Parse.{ok, bind, i32, many, counted, refusal-in};
+ghost use Rattle.fields.specs.Lists.{every};
 use fields::I32Read;
-use fields::Skip;
 use fields::U32Read;
 use fields::U64Read;
 
@@ -70,8 +71,9 @@ pub struct InstructionDesc {
     pub sp_reset: u8,
 }
 
+// A register, the offset past it, and whether it is sound; or the refusal.
 pub enum RegisterRead {
-    Value(RegisterDesc, usize),
+    Value(RegisterDesc, usize, bool),
     Refused(u8),
 }
 
@@ -80,9 +82,22 @@ enum ImmediateRead {
     Refused(u8),
 }
 
+// An operand, the offset past it, and whether its register, if it is one, is sound; or the refusal.
 pub enum OperandRead {
-    Value(Operand, usize),
+    Value(Operand, usize, bool),
     Refused(u8),
+}
+
+// A part with registers in it that is passed over: the offset past it, and whether every register is sound; or the refusal.
+pub enum Passed {
+    Past(usize, bool),
+    Refused(u8),
+}
+
+// An operand that is passed over the fast way: the offset past it, or 0 where this does not tell; and whether its register, if it is one, is sound.
+pub struct FastOperand {
+    pub end: usize,
+    pub sound: bool,
 }
 
 // The refusal of a register, an immediate or an operand that was refused, and 0 of one with a value. They are pub for the readers above,
@@ -117,6 +132,12 @@ pub fn operand_refusal(operand: OperandRead) -> u8
     }
 }
 
+pub fn passed_refusal(far: Passed) -> u8
+    ensures { λ r. ⌜ r ≡ refusal-in (of-passed far) ⌝ }
+{
+    if let Passed::Refused(e) = far { e } else { 0 }
+}
+
 fn immediate_at(s: &[u8], at: usize) -> ImmediateRead
     ensures { λ r. ⌜ of-immediate r ≡ immediate (now (s .entry)) at ⌝ }
 {
@@ -139,10 +160,24 @@ fn immediate_at(s: &[u8], at: usize) -> ImmediateRead
     }
 }
 
+// Whether a register with this width and offset is sound. Their sum is taken in 64 bits, where it cannot wrap.
+fn is_slice(width: i32, offset: i32) -> bool
+    ensures { λ r. ⌜ r ≡ is-slice width offset ⌝ }
+{
+    if width < 1 {
+        return false;
+    }
+    if offset < 0 {
+        return false;
+    }
+    let reach = width as u64 + offset as u64;
+    reach <= 64
+}
+
 // A register's width and offset, after its flags and id.
 fn bits_at(s: &[u8], at: usize, flags: u64, id: u64) -> RegisterRead
-    ensures { λ r. ⌜ of-register r ≡ bind (i32 (now (s .entry)) at) (λ w a.
-        bind (i32 (now (s .entry)) a) (λ o b. ok (record { flags = flags; «combined_id» = id; «bit_count» = w; «bit_offset» = o }) b)) ⌝ }
+    ensures { λ r. ⌜ (of-register r ≡ bind (i32 (now (s .entry)) at) (λ w a.
+        bind (i32 (now (s .entry)) a) (λ o b. ok (record { flags = flags; «combined_id» = id; «bit_count» = w; «bit_offset» = o }) b))) × Register-told r ⌝ }
 {
     let width = fields::i32_at(s, at);
     if let I32Read::Value(w, a) = width {
@@ -156,6 +191,7 @@ fn bits_at(s: &[u8], at: usize, flags: u64, id: u64) -> RegisterRead
                     bit_offset: o,
                 },
                 b,
+                is_slice(w, o),
             )
         } else {
             RegisterRead::Refused(fields::i32_refusal(offset))
@@ -166,7 +202,7 @@ fn bits_at(s: &[u8], at: usize, flags: u64, id: u64) -> RegisterRead
 }
 
 pub fn register_at(s: &[u8], at: usize) -> RegisterRead
-    ensures { λ r. ⌜ of-register r ≡ register (now (s .entry)) at ⌝ }
+    ensures { λ r. ⌜ (of-register r ≡ register (now (s .entry)) at) × Register-told r ⌝ }
 {
     let flags = fields::u64_at(s, at);
     if let U64Read::Value(f, a) = flags {
@@ -186,21 +222,21 @@ pub fn register_at(s: &[u8], at: usize) -> RegisterRead
 }
 
 pub fn operand_at(s: &[u8], at: usize) -> OperandRead
-    ensures { λ r. ⌜ of-operand r ≡ operand (now (s .entry)) at ⌝ }
+    ensures { λ r. ⌜ (of-operand r ≡ operand (now (s .entry)) at) × Operand-told r ⌝ }
 {
     let kind = fields::u32_at(s, at);
     if let U32Read::Value(k, a) = kind {
         if k == 0 {
             let immediate = immediate_at(s, a);
             if let ImmediateRead::Value(i, b) = immediate {
-                OperandRead::Value(Operand::Imm(i), b)
+                OperandRead::Value(Operand::Imm(i), b, true)
             } else {
                 OperandRead::Refused(immediate_refusal(immediate))
             }
         } else if k == 1 {
             let register = register_at(s, a);
-            if let RegisterRead::Value(r, b) = register {
-                OperandRead::Value(Operand::Reg(r), b)
+            if let RegisterRead::Value(r, b, sound) = register {
+                OperandRead::Value(Operand::Reg(r), b, sound)
             } else {
                 OperandRead::Refused(register_refusal(register))
             }
@@ -218,49 +254,64 @@ fn wide(x: u8) -> u64
     x as u64
 }
 
-// The offset past the operand at `at`, or 0 where this does not tell. It is pub for the fast way over an instruction, which has tested the length.
-// It has no branch on the kind: an immediate's size and 12 more for a register, and the highest byte of the id of a register.
-pub fn fast_operand(s: &[u8], at: usize) -> usize
+// Where the fast way over an operand does not tell.
+const NOT_TOLD: FastOperand = FastOperand {
+    end: 0,
+    sound: true,
+};
+
+// The operand at `at` is passed over. It is pub for the fast way over an instruction, which has tested the length. It has no branch on the kind: an
+// immediate's size and 12 more for a register; the highest byte of the id of a register; and its width and offset, read as unsigned, so that a negative
+// one is too large.
+pub fn fast_operand(s: &[u8], at: usize) -> FastOperand
     requires { ⌜ at + 28 ≤ length (now s) ⌝ }
-    ensures { λ r. ⌜ (0 < r → (span (operand (now (s .entry)) at) ≡ ok tt r) × (r ≤ at + 28)) ⌝ }
+    ensures { λ r. ⌜ (0 < r .end → (judged operand operand-sound (now (s .entry)) at ≡ ok (r .sound) (r .end)) × (r .end ≤ at + 28)) ⌝ }
 {
     let kind = fields::four(s, at);
     let top = wide(s[at + 19]);
     if 1 < kind {
-        return 0;
+        return NOT_TOLD;
     }
     if 2 < kind * top {
-        return 0;
+        return NOT_TOLD;
     }
-    at + 16 + 12 * (kind as usize)
+    let width = fields::four(s, at + 20);
+    let offset = fields::four(s, at + 24);
+    let reach = width + offset;
+    FastOperand {
+        end: at + 16 + 12 * (kind as usize),
+        sound: (kind <= width) & (kind * reach <= 64),
+    }
 }
 
 // `count` registers.
-fn registers_run(s: &[u8], at: usize, count: u32) -> Skip
-    ensures { λ r. ⌜ of-skip r ≡ span (many register count (now (s .entry)) at) ⌝ }
+fn registers_run(s: &[u8], at: usize, count: u32) -> Passed
+    ensures { λ r. ⌜ of-passed r ≡ judged (many register count) (every is-sound) (now (s .entry)) at ⌝ }
 {
     let mut left = count;
     let mut o = at;
+    let mut sound = true;
     while 0 < left {
         let register = register_at(s, o);
-        if let RegisterRead::Value(_, n) = register {
+        if let RegisterRead::Value(_, n, t) = register {
             o = n;
+            sound = sound & t;
         } else {
-            return Skip::Refused(register_refusal(register));
+            return Passed::Refused(register_refusal(register));
         }
         left -= 1;
     }
-    Skip::Past(o)
+    Passed::Past(o, sound)
 }
 
 // A list of registers.
-pub fn registers_skip(s: &[u8], at: usize) -> Skip
-    ensures { λ r. ⌜ of-skip r ≡ span (counted register (now (s .entry)) at) ⌝ }
+pub fn registers_skip(s: &[u8], at: usize) -> Passed
+    ensures { λ r. ⌜ of-passed r ≡ judged (counted register) (every is-sound) (now (s .entry)) at ⌝ }
 {
     let count = fields::u32_at(s, at);
     if let U32Read::Value(n, a) = count {
         registers_run(s, a, n)
     } else {
-        Skip::Refused(fields::u32_refusal(count))
+        Passed::Refused(fields::u32_refusal(count))
     }
 }

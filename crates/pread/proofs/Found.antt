@@ -17,6 +17,9 @@ use Rattle.routine.specs.Head.{head-walked}
 use Rattle.laws.proofs.Walks.{walked-past, walked-refused}
 use Rattle.pod.specs.Values.{RoutineConvention, BasicBlock, Routine}
 use Rattle.pod.specs.Layout.{register, convention, block, routine, instruction}
+use Rattle.pod.specs.Sound.{instruction-sound}
+use Rattle.fields.specs.Sight.{Sight}
+use Rattle.fields.specs.Lists.{every}
 use Rattle.pod.specs.Written.{bytes, bit, counted-bytes, header-bytes, instruction-bytes, block-head-bytes, walked, both, passing}
 use Rattle.pod.specs.declared.RegisterDesc.{RegisterDesc}
 use Rattle.laws.proofs.Back.{length-bytes}
@@ -28,17 +31,17 @@ use Rattle.pread.specs.Answers.{convention-read, block-read, routine-rea
 use Rattle.pread.proofs.Parts.{listed, block-at, convention-at, routine-at}
 
 -- a block's numbers and its instructions, walked over
-abbrev pub instructions-walk : List ℕ → ℕ → Res Bool
-instructions-walk s o = bind (span (part 24 s o)) (λ _ n. walked (counted instruction) (counted-bytes instruction-bytes) s n)
+abbrev pub instructions-walk : List ℕ → ℕ → Res Sight
+instructions-walk s o = bind (span (part 24 s o)) (λ _ n. walked (counted instruction) (counted-bytes instruction-bytes) (every instruction-sound) s n)
 
 -- what a walk says of the reader
-module _ {A : Type 0} (p : Reader A) (w : A → List ℕ) (s : List ℕ) (o : ℕ) {q : Res Bool} where
-  pub accepts : {t : Bool} {n : ℕ} → q ≡ ok t n → q ≡ walked p w s o → (a : A) × (p s o ≡ ok a n)
-  accepts e f = inv-span (p s o) (walked-past p w s o (sym f ∙ e))
+module _ {A : Type 0} (p : Reader A) (w : A → List ℕ) (T : A → Bool) (s : List ℕ) (o : ℕ) {q : Res Sight} where
+  pub accepts : {x : Sight} {n : ℕ} → q ≡ ok x n → q ≡ walked p w T s o → (a : A) × (p s o ≡ ok a n)
+  accepts e f = inv-span (p s o) (walked-past p w T s o (sym f ∙ e))
 
   -- the refusal x that was handed on
-  pub refuses : {k x : ℕ} → q ≡ no k → q ≡ walked p w s o → x ≡ refusal-in q → p s o ≡ no x
-  refuses e f r = inv-span-no (p s o) (walked-refused p w s o (sym (handed e f r)))
+  pub refuses : {k x : ℕ} → q ≡ no k → q ≡ walked p w T s o → x ≡ refusal-in q → p s o ≡ no x
+  refuses e f r = inv-span-no (p s o) (walked-refused p w T s o (sym (handed e f r)))
 
 module _ (s : List ℕ) (y : Bytes s) (o n : ℕ) where
   module _ {c : RoutineConvention} (e : convention s o ≡ ok c n) where

@@ -100,7 +100,7 @@ pub fn register_at(s: &[u8], at: usize) -> RegisterRead
     ensures { λ r. ⌜ r ≡ register-read (register (now (s .entry)) at) ⌝ }
 {
     let field = pod::register_at(s, at);
-    if let pod::RegisterRead::Value(register, end) = field {
+    if let pod::RegisterRead::Value(register, end, _) = field {
         return RegisterRead {
             refusal: 0,
             end,
@@ -118,7 +118,7 @@ pub fn register_at(s: &[u8], at: usize) -> RegisterRead
 fn register_there(s: &[u8], at: usize) -> RegisterDesc
     ensures { λ r. ⌜ ((x : Register) (n : ℕ) → register (now (s .entry)) at ≡ ok x n → r ≡ x) ⌝ }
 {
-    if let pod::RegisterRead::Value(register, _) = pod::register_at(s, at) {
+    if let pod::RegisterRead::Value(register, _, _) = pod::register_at(s, at) {
         register
     } else {
         pod::NO_REGISTER
@@ -183,7 +183,7 @@ pub fn convention_at(s: &[u8], at: usize) -> ConventionRead
     ensures { λ r. ⌜ r ≡ convention-read at (convention (now (s .entry)) at) ⌝ }
 {
     let far = convention::convention_skip(s, at);
-    if let Walked::Past(end, _) = far {
+    if let Walked::Past(end, _, _) = far {
         convention_there(s, at, end)
     } else {
         no_convention(fields::walked_refusal(far) as u64)
@@ -194,7 +194,11 @@ pub fn convention_at(s: &[u8], at: usize) -> ConventionRead
 fn walked_end(far: Walked) -> usize
     ensures { λ r. ⌜ r ≡ end-of (of-walked far) ⌝ }
 {
-    if let Walked::Past(n, _) = far { n } else { 0 }
+    if let Walked::Past(n, _, _) = far {
+        n
+    } else {
+        0
+    }
 }
 
 // The block that stands at `at` and ends at `end`, whose list of prev vips stands at `prev` and of next vips at `next`.
@@ -252,7 +256,7 @@ pub fn block_at(s: &[u8], at: usize) -> BlockRead
     let instructions = block::instructions_skip(s, at);
     let prevs = block::then_vips(s, instructions);
     let nexts = block::then_vips(s, prevs);
-    if let Walked::Past(end, _) = nexts {
+    if let Walked::Past(end, _, _) = nexts {
         block_there(s, at, walked_end(instructions), walked_end(prevs), end)
     } else {
         no_block(fields::walked_refusal(nexts) as u64)
@@ -304,7 +308,7 @@ pub fn routine_at(s: &[u8], at: usize) -> RoutineRead
 {
     let head = routine::head_skip(s, at);
     let whole = routine::then_blocks(s, head);
-    if let Walked::Past(end, _) = whole {
+    if let Walked::Past(end, _, _) = whole {
         routine_there(s, at, walked_end(head), end)
     } else {
         no_routine(fields::walked_refusal(whole) as u64)

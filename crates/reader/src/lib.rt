@@ -6,6 +6,7 @@ ghost use mathlib.Core.Path.{_≡_};
 ghost use Rattle.fields.specs.Parse.{u64};
 ghost use Rattle.fields.specs.Answers.{of-walked};
 ghost use Rattle.pod.specs.Layout.{register, convention, instruction, block, routine};
+ghost use Rattle.pod.specs.Sound.{routine-sound};
 ghost use Rattle.pod.specs.Written.{routine-bytes, walked};
 ghost use Rattle.value.specs.Answers.{instruction-read};
 ghost use Rattle.pread.specs.Answers.{routine-read, convention-read, register-read, block-read, vip-read};
@@ -33,21 +34,21 @@ pub fn at<'a>(src: &'a [u8], at: usize) -> Reader<'a>
 
 // The routine at the offset reached is walked over. The record is passed by value: it stays where it stands.
 pub fn pass_routine<'a>(r: Reader<'a>) -> Walked
-    ensures { λ v. ⌜ of-walked v ≡ walked routine routine-bytes (now (r .entry .src)) (r .entry .at) ⌝ }
+    ensures { λ v. ⌜ of-walked v ≡ walked routine routine-bytes routine-sound (now (r .entry .src)) (r .entry .at) ⌝ }
 {
     routine::routine_skip(r.src, r.at)
 }
 
 // The routine at an offset of a file is walked over.
 pub fn pass_at(s: &[u8], offset: usize) -> Walked
-    ensures { λ v. ⌜ of-walked v ≡ walked routine routine-bytes (now (s .entry)) offset ⌝ }
+    ensures { λ v. ⌜ of-walked v ≡ walked routine routine-bytes routine-sound (now (s .entry)) offset ⌝ }
 {
     pass_routine(at(s, offset))
 }
 
 // The routine that a file starts with is walked over.
 pub fn pass_file(s: &[u8]) -> Walked
-    ensures { λ v. ⌜ of-walked v ≡ walked routine routine-bytes (now (s .entry)) 0 ⌝ }
+    ensures { λ v. ⌜ of-walked v ≡ walked routine routine-bytes routine-sound (now (s .entry)) 0 ⌝ }
 {
     pass_at(s, 0)
 }

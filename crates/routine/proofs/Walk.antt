@@ -1,18 +1,21 @@
 -- The routine, walked over part by part; and the blocks, with the test of their vips.
 -- Assumes nothing.
-use mathlib.Core.Path.{_≡_, refl, sym, ap, _∙_}
+use mathlib.Core.Path.{_≡_, refl, sym, ap, ap₂, _∙_}
 use mathlib.Core.Bool.{Bool, true, false, _&&_, and-assoc}
 use mathlib.Core.List.{List}
 use Prim.Native.Nat.{ℕ}
 use lib.Dec.{leb, eqb}
 use Rattle.fields.specs.Parse.{Res, ok, no, Reader, bind, span, uint, many, counted, pad, u32, u64}
-use Rattle.fields.specs.Lists.{choose, same}
+use Rattle.fields.specs.Lists.{choose, same, every}
+use Rattle.fields.specs.Sight.{Sight, sight, of-both}
 use Rattle.fields.specs.Bytes.{Bytes}
 use Rattle.fields.proofs.Invert.{inv, inv-span-no}
 use Rattle.fields.proofs.Chain.{chain-map}
 use Rattle.pod.specs.Values.{BasicBlock}
 use Rattle.pod.specs.Blocks.{vips, repeats}
 use Rattle.pod.specs.Layout.{header, convention, block, blocks, routine}
+use Rattle.pod.specs.Sound.{convention-sound, block-sound, routine-sound}
+use Rattle.pod.specs.Told.{no-register-in}
 use Rattle.pod.specs.Written.{many-bytes, counted-bytes, header-bytes, convention-bytes, block-bytes, routine-head-bytes, routine-bytes, walked, both, passing}
 use Rattle.laws.proofs.Took.{uint-took}
 use Rattle.laws.proofs.Consumed.{header-took, blocks-took}
@@ -46,52 +49,55 @@ module _ (s : List ℕ) (o : ℕ) where
       chain-check (uint 2 s l) (λ v. eqb v 0xdead) 3 _ (λ q. q) (λ e. refl) (λ f k. refl))))
 
 module _ (s : List ℕ) (b : Bytes s) (o : ℕ) where
-  abbrev also : {A : Type 0} → Reader A → (A → List ℕ) → Res Bool → Res Bool
-  also p w q = both q (walked p w s)
+  abbrev also : {A : Type 0} → Reader A → (A → List ℕ) → (A → Bool) → Res Sight → Res Sight
+  also p w t q = both q (walked p w t s)
 
-  abbrev entry : Res Bool → Res Bool
+  abbrev entry : Res Sight → Res Sight
   entry q = passing q (λ n. span (u64 s n))
 
-  abbrev last : Res Bool → Res Bool
-  last = also blocks (counted-bytes block-bytes)
+  abbrev last : Res Sight → Res Sight
+  last = also blocks (counted-bytes block-bytes) (every block-sound)
 
-  abbrev specials : Res Bool → Res Bool
-  specials = also (counted convention) (counted-bytes convention-bytes)
+  abbrev specials : Res Sight → Res Sight
+  specials = also (counted convention) (counted-bytes convention-bytes) (every convention-sound)
 
-  abbrev one : Res Bool → Res Bool
-  one = also convention convention-bytes
+  abbrev one : Res Sight → Res Sight
+  one = also convention convention-bytes convention-sound
 
-  -- each part is in written form, or the whole is not
-  pub routine-walked : last (specials (one (one (entry (walked header header-bytes s o))))) ≡ walked routine routine-bytes s o
+  -- what is so of each part is so of the whole
+  pub routine-walked : last (specials (one (one (entry (walked header header-bytes no-register-in s o))))) ≡ walked routine routine-bytes routine-sound s o
   unfolding bind both passing walked routine routine-bytes routine-head-bytes
   routine-walked =
-      link-walked s o routine-bytes header header-bytes o (took-fills header (header-took b) o) _ (λ q. last (specials (one (one (entry q))))) (λ e. refl) λ arch-id n₁ u₁.
-      let t₁ = same (from-to s o n₁) (header-bytes arch-id) in
-      link s o routine-bytes (uint-took b n₁ 8) _ (λ q. last (specials (one (one (bind q (λ _ m. ok t₁ m)))))) (λ e. refl) λ vip n₂ u₂.
-      link-walked s o routine-bytes convention convention-bytes n₂ (fills convention-layout b n₂) _
-      (λ q. last (specials (one (bind q (λ u m. ok (t₁ && u) m))))) (λ e. refl) λ own n₃ u₃.
-      let t₃ = same (from-to s n₂ n₃) (convention-bytes own) in
-      link-walked s o routine-bytes convention convention-bytes n₃ (fills convention-layout b n₃) _
-      (λ q. last (specials (bind q (λ u m. ok (t₁ && t₃ && u) m)))) (λ e. refl) λ sub n₄ u₄.
-      let t₄ = same (from-to s n₃ n₄) (convention-bytes sub) in
-      link-walked s o routine-bytes (counted convention) (counted-bytes convention-bytes) n₄ (counted-fills convention convention-bytes (fills convention-layout b) b n₄) _
-      (λ q. last (bind q (λ u m. ok (t₁ && t₃ && t₄ && u) m))) (λ e. refl) λ special n₅ u₅.
-      let t₅ = same (from-to s n₄ n₅) (counted-bytes convention-bytes special) in
-      link-walked s o routine-bytes blocks (counted-bytes block-bytes) n₅ (took-fills blocks (blocks-took b) n₅) _
-      (λ q. bind q (λ u m. ok (t₁ && t₃ && t₄ && t₅ && u) m)) (λ e. refl) λ bs n₆ u₆.
-      let t₆ = same (from-to s n₅ n₆) (counted-bytes block-bytes bs) in
-      ap (λ x. ok x n₆)
-      (ap (λ x. x && t₆) (and-assoc (t₁ && t₃) t₄ t₅ ∙ and-assoc t₁ t₃ (t₄ && t₅))
+      link-walked s o routine-bytes routine-sound header header-bytes no-register-in o (took-fills header (header-took b) o) _
+      (λ q. last (specials (one (one (entry q))))) (λ e. refl) λ arch-id n₁ u₁.
+      let x₁ = sight (same (from-to s o n₁) (header-bytes arch-id)) true in
+      link s o routine-bytes routine-sound (uint-took b n₁ 8) _ (λ q. last (specials (one (one (bind q (λ _ m. ok x₁ m)))))) (λ e. refl) λ vip n₂ u₂.
+      link-walked s o routine-bytes routine-sound convention convention-bytes convention-sound n₂ (fills convention-layout b n₂) _
+      (λ q. last (specials (one (bind q (λ y m. ok (of-both x₁ y) m))))) (λ e. refl) λ own n₃ u₃.
+      let x₃ = sight (same (from-to s n₂ n₃) (convention-bytes own)) (convention-sound own) in
+      link-walked s o routine-bytes routine-sound convention convention-bytes convention-sound n₃ (fills convention-layout b n₃) _
+      (λ q. last (specials (bind q (λ y m. ok (of-both (of-both x₁ x₃) y) m)))) (λ e. refl) λ sub n₄ u₄.
+      let x₄ = sight (same (from-to s n₃ n₄) (convention-bytes sub)) (convention-sound sub) in
+      link-walked s o routine-bytes routine-sound (counted convention) (counted-bytes convention-bytes) (every convention-sound) n₄
+      (counted-fills convention convention-bytes (fills convention-layout b) b n₄) _
+      (λ q. last (bind q (λ y m. ok (of-both (of-both (of-both x₁ x₃) x₄) y) m))) (λ e. refl) λ special n₅ u₅.
+      let x₅ = sight (same (from-to s n₄ n₅) (counted-bytes convention-bytes special)) (every convention-sound special) in
+      link-walked s o routine-bytes routine-sound blocks (counted-bytes block-bytes) (every block-sound) n₅ (took-fills blocks (blocks-took b) n₅) _
+      (λ q. bind q (λ y m. ok (of-both (of-both (of-both (of-both x₁ x₃) x₄) x₅) y) m)) (λ e. refl) λ bs n₆ u₆.
+      let x₆ = sight (same (from-to s n₅ n₆) (counted-bytes block-bytes bs)) (every block-sound bs) in
+      ap₂ (λ x y. ok (sight x y) n₆)
+      (ap (λ x. x && x₆ .written) (and-assoc (x₁ .written && x₃ .written) (x₄ .written) (x₅ .written) ∙ and-assoc (x₁ .written) (x₃ .written) (x₄ .written && x₅ .written))
       ∙ sym (((u₁ beside stands (u₂ .1) beside u₃ beside u₄ beside u₅) beside u₆) .is))
+      (and-assoc (x₃ .sound && x₄ .sound) (x₅ .sound) (x₆ .sound) ∙ and-assoc (x₃ .sound) (x₄ .sound) (x₅ .sound && x₆ .sound))
 
 -- the blocks, where their count was read
 module _ (s : List ℕ) (b : Bytes s) (o : ℕ) {c a : ℕ} (u : u32 s o ≡ ok c a) where
-  abbrev of-list : ℕ → ℕ → Res Bool
-  of-list k m = walked (many block k) (many-bytes block-bytes) s m
+  abbrev of-list : ℕ → ℕ → Res Sight
+  of-list k m = walked (many block k) (many-bytes block-bytes) (every block-sound) s m
 
-  listed : {r : Res Bool} → of-list c a ≡ r → walked (counted block) (counted-bytes block-bytes) s o ≡ r
+  listed : {r : Res Sight} → of-list c a ≡ r → walked (counted block) (counted-bytes block-bytes) (every block-sound) s o ≡ r
   unfolding bind
-  listed e = walked-counted block block-bytes (fills block-layout b) b o ∙ ap (λ q. bind q of-list) u ∙ e
+  listed e = walked-counted block block-bytes (fills block-layout b) block-sound b o ∙ ap (λ q. bind q of-list) u ∙ e
 
   run : counted block s o ≡ many block c s a
   unfolding bind
@@ -101,24 +107,24 @@ module _ (s : List ℕ) (b : Bytes s) (o : ℕ) {c a : ℕ} (u : u32 s o ≡ ok 
   abbrev Says : Bool → Type 0
   Says h = (bs : List BasicBlock) (end : ℕ) → many block c s a ≡ ok bs end → h ≡ repeats (vips bs)
 
-  module _ {n : ℕ} {t : Bool} (h : Bool) (e : of-list c a ≡ ok t n) (f : Says h) where
-    pub shared : h ≡ true → no 9 ≡ walked blocks (counted-bytes block-bytes) s o
+  module _ {n : ℕ} {x : Sight} (h : Bool) (e : of-list c a ≡ ok x n) (f : Says h) where
+    pub shared : h ≡ true → no 9 ≡ walked blocks (counted-bytes block-bytes) (every block-sound) s o
     unfolding walked blocks bind choose
     shared q =
         let i = inv (counted block s o) _ (listed e) in
         rw (i .2, sym (f (i .0) (i .1) (sym run ∙ i .2)) ∙ q)
 
-    pub alone : h ≡ false → ok t n ≡ walked blocks (counted-bytes block-bytes) s o
+    pub alone : h ≡ false → ok x n ≡ walked blocks (counted-bytes block-bytes) (every block-sound) s o
     unfolding walked blocks bind choose
     alone q =
         let i = inv (counted block s o) _ (listed e) in
         rw (i .2, sym (f (i .0) (i .1) (sym run ∙ i .2)) ∙ q) (sym (i .3))
 
-  pub faulty : {e : ℕ} → of-list c a ≡ no e → no e ≡ walked blocks (counted-bytes block-bytes) s o
+  pub faulty : {e : ℕ} → of-list c a ≡ no e → no e ≡ walked blocks (counted-bytes block-bytes) (every block-sound) s o
   unfolding walked blocks bind
-  faulty e = rw (inv-span-no (counted block s o) (walked-refused (counted block) (counted-bytes block-bytes) s o (listed e)))
+  faulty e = rw (inv-span-no (counted block s o) (walked-refused (counted block) (counted-bytes block-bytes) (every block-sound) s o (listed e)))
 
 -- their count is refused
-pub no-count : (s : List ℕ) (o : ℕ) {e : ℕ} → u32 s o ≡ no e → no e ≡ walked blocks (counted-bytes block-bytes) s o
+pub no-count : (s : List ℕ) (o : ℕ) {e : ℕ} → u32 s o ≡ no e → no e ≡ walked blocks (counted-bytes block-bytes) (every block-sound) s o
 unfolding walked blocks bind
 no-count s o h = rw h

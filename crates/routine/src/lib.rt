@@ -1,14 +1,18 @@
 // The whole routine.
 ghost use mathlib.Core.Path.{_≡_};
 ghost use Rattle.fields.specs.Parse.{ok, many, counted, bind, span, u64, refusal-in};
+ghost use Rattle.fields.specs.Lists.{every};
+ghost use Rattle.fields.specs.Sight.{sight, of-both};
 ghost use Rattle.fields.specs.Answers.{of-skip, of-walked};
 ghost use Rattle.routine.specs.Header.{marked, arch-id-byte};
 ghost use Rattle.routine.specs.Head.{head-walked};
-ghost use mathlib.Core.Bool.{true, _&&_};
+ghost use mathlib.Core.Bool.{true};
 ghost use Prim.Native.Nat.{_+_, _≤_, _<_};
 ghost use Rattle.sorting.specs.Buffer.{TOP};
 ghost use Rattle.routine.specs.Rising.{of-blocks, rising, Apart};
 ghost use Rattle.pod.specs.Layout.{header, convention, block, blocks, routine};
+ghost use Rattle.pod.specs.Sound.{convention-sound, block-sound, routine-sound};
+ghost use Rattle.pod.specs.Told.{no-register-in};
 ghost use Rattle.pod.specs.Written.{many-bytes, counted-bytes, header-bytes, convention-bytes, block-bytes, routine-bytes, walked, both, passing};
 use fields::Skip;
 use fields::U8Read;
@@ -75,13 +79,13 @@ fn header_past(s: &[u8], at: usize) -> Skip
     then_mark(s, c, 2, VTIL_MAGIC_2)
 }
 
-// The header is walked over: in written form its pad is 0.
+// The header is walked over: in written form its pad is 0. It has no register.
 fn header_skip(s: &[u8], at: usize) -> Walked
-    ensures { λ r. ⌜ of-walked r ≡ walked header header-bytes (now (s .entry)) at ⌝ }
+    ensures { λ r. ⌜ of-walked r ≡ walked header header-bytes no-register-in (now (s .entry)) at ⌝ }
 {
     let far = header_past(s, at);
     if let Skip::Past(n) = far {
-        Walked::Past(n, s[at + PAD] == 0)
+        Walked::Past(n, s[at + PAD] == 0, true)
     } else {
         Walked::Refused(fields::skip_refusal(far))
     }
@@ -89,27 +93,30 @@ fn header_skip(s: &[u8], at: usize) -> Walked
 
 // `count` conventions.
 fn conventions_run(s: &[u8], at: usize, count: u32) -> Walked
-    ensures { λ r. ⌜ of-walked r ≡ walked (many convention count) (many-bytes convention-bytes) (now (s .entry)) at ⌝ }
+    ensures { λ r. ⌜ of-walked r ≡ walked (many convention count) (many-bytes convention-bytes) (every convention-sound) (now (s .entry)) at ⌝ }
 {
     let mut left = count;
     let mut o = at;
     let mut written = true;
+    let mut sound = true;
     while 0 < left {
         let far = convention::convention_skip(s, o);
-        if let Walked::Past(n, w) = far {
+        if let Walked::Past(n, w, t) = far {
             o = n;
             written = written & w;
+            sound = sound & t;
         } else {
             return far;
         }
         left -= 1;
     }
-    Walked::Past(o, written)
+    Walked::Past(o, written, sound)
 }
 
-// Blocks that were walked over: the offset past them, whether their vips were seen to rise, and whether all are in written form; or the refusal.
+// Blocks that were walked over: the offset past them, whether their vips were seen to rise, whether all are in written form, and whether every register in
+// them is sound; or the refusal.
 enum BlocksSkip {
-    Past(usize, bool, bool),
+    Past(usize, bool, bool, bool),
     Refused(u8),
 }
 
@@ -140,29 +147,31 @@ fn floor_after(floor: u64, vip: Vip) -> u64
 
 // `count` blocks. Their vips are looked at on the way: where they rise, as compilers write them, no search for repeated ones is needed.
 fn blocks_run(s: &[u8], at: usize, count: u32) -> BlocksSkip
-    ensures { λ r. ⌜ (of-blocks r ≡ walked (many block count) (many-bytes block-bytes) (now (s .entry)) at) × (rising r ≡ true → Apart (many block count (now (s .entry)) at)) ⌝ }
+    ensures { λ r. ⌜ (of-blocks r ≡ walked (many block count) (many-bytes block-bytes) (every block-sound) (now (s .entry)) at) × (rising r ≡ true → Apart (many block count (now (s .entry)) at)) ⌝ }
 {
     let mut left = count;
     let mut o = at;
     let mut floor: u64 = 0;
     let mut written = true;
+    let mut sound = true;
     while 0 < left {
         let far = block::block_skip(s, o);
-        if let Walked::Past(n, w) = far {
+        if let Walked::Past(n, w, t) = far {
             floor = floor_after(floor, Vip(ends::word64(s, o)));
             o = n;
             written = written & w;
+            sound = sound & t;
         } else {
             return BlocksSkip::Refused(fields::walked_refusal(far));
         }
         left -= 1;
     }
-    BlocksSkip::Past(o, floor < sorting::TOP, written)
+    BlocksSkip::Past(o, floor < sorting::TOP, written, sound)
 }
 
 // The list of conventions at `at`.
 fn conventions_skip(s: &[u8], at: usize) -> Walked
-    ensures { λ r. ⌜ of-walked r ≡ walked (counted convention) (counted-bytes convention-bytes) (now (s .entry)) at ⌝ }
+    ensures { λ r. ⌜ of-walked r ≡ walked (counted convention) (counted-bytes convention-bytes) (every convention-sound) (now (s .entry)) at ⌝ }
 {
     let count = fields::u32_at(s, at);
     if let U32Read::Value(n, a) = count {
@@ -174,18 +183,18 @@ fn conventions_skip(s: &[u8], at: usize) -> Walked
 
 // The blocks, of which no two share a vip.
 fn blocks_skip(s: &[u8], at: usize) -> Walked
-    ensures { λ r. ⌜ of-walked r ≡ walked blocks (counted-bytes block-bytes) (now (s .entry)) at ⌝ }
+    ensures { λ r. ⌜ of-walked r ≡ walked blocks (counted-bytes block-bytes) (every block-sound) (now (s .entry)) at ⌝ }
 {
     let count = fields::u32_at(s, at);
     if let U32Read::Value(c, a) = count {
         let run = blocks_run(s, a, c);
-        if let BlocksSkip::Past(n, rising, written) = run {
+        if let BlocksSkip::Past(n, rising, written, sound) = run {
             if rising {
-                Walked::Past(n, written)
+                Walked::Past(n, written, sound)
             } else if distinct::has_repeat(s, a, c) {
                 Walked::Refused(fields::REPEATED_BLOCK)
             } else {
-                Walked::Past(n, written)
+                Walked::Past(n, written, sound)
             }
         } else {
             Walked::Refused(blocks_refusal(run))
@@ -195,14 +204,14 @@ fn blocks_skip(s: &[u8], at: usize) -> Walked
     }
 }
 
-// The entry vip, after what was walked over so far. It is written as it is read, so what was seen stays.
+// The entry vip, after what was walked over so far. It is written as it is read and is no register, so what was seen stays.
 fn then_entry(s: &[u8], far: Walked) -> Walked
     ensures { λ r. ⌜ of-walked r ≡ passing (of-walked far) (λ n. span (u64 (now (s .entry)) n)) ⌝ }
 {
-    if let Walked::Past(at, written) = far {
+    if let Walked::Past(at, written, sound) = far {
         let entry = fields::u64_at(s, at);
         if let U64Read::Value(_, n) = entry {
-            Walked::Past(n, written)
+            Walked::Past(n, written, sound)
         } else {
             Walked::Refused(fields::u64_refusal(entry))
         }
@@ -212,31 +221,31 @@ fn then_entry(s: &[u8], far: Walked) -> Walked
 }
 
 // What was seen of a part that ended where `next` began, and of that.
-fn seen_both(written: bool, next: Walked) -> Walked
-    ensures { λ r. ⌜ of-walked r ≡ bind (of-walked next) (λ u m. ok (written && u) m) ⌝ }
+fn seen_both(written: bool, sound: bool, next: Walked) -> Walked
+    ensures { λ r. ⌜ of-walked r ≡ bind (of-walked next) (λ y m. ok (of-both (sight written sound) y) m) ⌝ }
 {
-    if let Walked::Past(n, w) = next {
-        Walked::Past(n, written & w)
+    if let Walked::Past(n, w, t) = next {
+        Walked::Past(n, written & w, sound & t)
     } else {
         next
     }
 }
 
 fn then_convention(s: &[u8], far: Walked) -> Walked
-    ensures { λ r. ⌜ of-walked r ≡ both (of-walked far) (walked convention convention-bytes (now (s .entry))) ⌝ }
+    ensures { λ r. ⌜ of-walked r ≡ both (of-walked far) (walked convention convention-bytes convention-sound (now (s .entry))) ⌝ }
 {
-    if let Walked::Past(at, written) = far {
-        seen_both(written, convention::convention_skip(s, at))
+    if let Walked::Past(at, written, sound) = far {
+        seen_both(written, sound, convention::convention_skip(s, at))
     } else {
         far
     }
 }
 
 fn then_conventions(s: &[u8], far: Walked) -> Walked
-    ensures { λ r. ⌜ of-walked r ≡ both (of-walked far) (walked (counted convention) (counted-bytes convention-bytes) (now (s .entry))) ⌝ }
+    ensures { λ r. ⌜ of-walked r ≡ both (of-walked far) (walked (counted convention) (counted-bytes convention-bytes) (every convention-sound) (now (s .entry))) ⌝ }
 {
-    if let Walked::Past(at, written) = far {
-        seen_both(written, conventions_skip(s, at))
+    if let Walked::Past(at, written, sound) = far {
+        seen_both(written, sound, conventions_skip(s, at))
     } else {
         far
     }
@@ -244,10 +253,10 @@ fn then_conventions(s: &[u8], far: Walked) -> Walked
 
 // It is pub, as head_skip is, for the reader that answers where the blocks stand.
 pub fn then_blocks(s: &[u8], far: Walked) -> Walked
-    ensures { λ r. ⌜ of-walked r ≡ both (of-walked far) (walked blocks (counted-bytes block-bytes) (now (s .entry))) ⌝ }
+    ensures { λ r. ⌜ of-walked r ≡ both (of-walked far) (walked blocks (counted-bytes block-bytes) (every block-sound) (now (s .entry))) ⌝ }
 {
-    if let Walked::Past(at, written) = far {
-        seen_both(written, blocks_skip(s, at))
+    if let Walked::Past(at, written, sound) = far {
+        seen_both(written, sound, blocks_skip(s, at))
     } else {
         far
     }
@@ -266,7 +275,7 @@ pub fn head_skip(s: &[u8], at: usize) -> Walked
 
 // The routine at `at` is walked over.
 pub fn routine_skip(s: &[u8], at: usize) -> Walked
-    ensures { λ r. ⌜ of-walked r ≡ walked routine routine-bytes (now (s .entry)) at ⌝ }
+    ensures { λ r. ⌜ of-walked r ≡ walked routine routine-bytes routine-sound (now (s .entry)) at ⌝ }
 {
     let head = head_skip(s, at);
     then_blocks(s, head)

@@ -13,7 +13,10 @@ use Rattle.fields.specs.Parse.{ok, no, le}
 use Rattle.fields.specs.Lists.{choose}
 use Rattle.fields.specs.Outcome.{Outcome, refused, accepted}
 use Rattle.pod.specs.Values.{BasicBlock}
+use Rattle.fields.specs.Sight.{Sight, sight}
+use Rattle.fields.proofs.Invert.{inv-ok}
 use Rattle.pod.specs.Layout.{block}
+use Rattle.pod.specs.Sound.{block-sound}
 use Rattle.pod.specs.Written.{block-bytes, walked}
 use Rattle.laws.specs.At.{At}
 use Rattle.laws.proofs.Layouts.{block-layout, read-to}
@@ -26,39 +29,39 @@ use Rattle.undo_remove.specs.Blocks.{whole-block, has-vip, is-block}
 
 module _ (v : ℕ) (s : List ℕ) (y : Bytes s) where
   -- the walk over one sees the written form, to the end
-  seen : {b : BasicBlock} → whole-block s ≡ accepted b → walked block block-bytes s 0 ≡ ok true (length s)
+  seen : {b : BasicBlock} → whole-block s ≡ accepted b → walked block block-bytes block-sound s 0 ≡ ok (sight true (block-sound b)) (length s)
   seen {b} e =
       let w = whole-is block-bytes s _ e in
       let at : At s 0 (block-bytes b) = record { rest = []; is = w .2 ∙ sym (append-nil (block-bytes b)); within = omega arith } in
       let n : w .0 ≡ length s = omega (arith, read-to block-layout y (w .1), ap length (w .2)) in
-      spans-walked block-layout y (w .1) at ∙ ap (ok true) n
+      spans-walked block-layout y block-sound (w .1) at ∙ ap (ok (sight true (block-sound b))) n
 
-  none : (walked block block-bytes s 0 ≡ ok true (length s) → ⊥) → false ≡ is-block v s
+  none : ((u : Bool) → walked block block-bytes block-sound s 0 ≡ ok (sight true u) (length s) → ⊥) → false ≡ is-block v s
   unfolding is-block
   none h = go (whole-block s) refl
     where
       go : (q : Outcome BasicBlock) → whole-block s ≡ q → false ≡ has-vip v q
       go (refused e) p = refl
-      go (accepted b) p = absurd (h (seen p))
+      go (accepted b) p = absurd (h _ (seen p))
 
-  pub not-read : {e : ℕ} → walked block block-bytes s 0 ≡ no e → false ≡ is-block v s
-  not-read q = none λ p. let z : _≡_ {A = ℕ} 0 1 = cc in omega arith
+  pub not-read : {e : ℕ} → walked block block-bytes block-sound s 0 ≡ no e → false ≡ is-block v s
+  not-read q = none λ u p. let z : _≡_ {A = ℕ} 0 1 = cc in omega arith
 
   -- the walk passed a block, which ends at n
-  module _ {n : ℕ} {t : Bool} (q : walked block block-bytes s 0 ≡ ok t n) where
-    pub not-all : (eqb n (length s) && t) ≡ false → false ≡ is-block v s
-    not-all h = none λ p.
+  module _ {n : ℕ} {x : Sight} (q : walked block block-bytes block-sound s 0 ≡ ok x n) where
+    pub not-all : (eqb n (length s) && x .written) ≡ false → false ≡ is-block v s
+    not-all h = none λ u p.
         let e : n ≡ length s = cc in
-        let w : t ≡ true = cc in
-        let x : true ≡ false = sym (ap₂ _&&_ (eq-eqb n (length s) e) w) ∙ h in
+        let w : x .written ≡ true = ap (λ (y : Sight). y .written) (inv-ok (sym q ∙ p) .0) in
+        let f : true ≡ false = sym (ap₂ _&&_ (eq-eqb n (length s) e) w) ∙ h in
         let z : _≡_ {A = ℕ} 0 1 = cc in
         omega arith
 
-    module _ (h : (eqb n (length s) && t) ≡ true) where
+    module _ (h : (eqb n (length s) && x .written) ≡ true) where
       one : (b : BasicBlock) × (block s 0 ≡ ok b (length s)) × (s ≡ block-bytes b)
       one =
-          let p = both (eqb n (length s)) t h in
-          walked-whole block-layout y (q ∙ ap₂ (λ x m. ok x m) (p .1) (eqb-true n (length s) (p .0)))
+          let p = both (eqb n (length s)) (x .written) h in
+          walked-whole block-layout block-sound y (q ∙ ap₂ (λ t m. ok (sight t (x .sound)) m) (p .1) (eqb-true n (length s) (p .0)))
 
       pub long-enough : 8 ≤ length s
       long-enough = let p = one in omega (arith, ap length (p .2), block-least (p .0))

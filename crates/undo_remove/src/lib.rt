@@ -26,7 +26,7 @@ use pod::Vip;
 fn is_block(s: &[u8], vip: Vip) -> bool
     ensures { λ r. ⌜ r ≡ is-block (vip .0) (now (s .entry)) ⌝ }
 {
-    if let Walked::Past(end, written) = block::block_skip(s, 0) {
+    if let Walked::Past(end, written, _) = block::block_skip(s, 0) {
         if (end == s.len()) & written {
             fields::eight(s, 0) == vip.0
         } else {

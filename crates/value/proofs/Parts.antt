@@ -18,7 +18,7 @@ use Rattle.fields.specs.Lists.{choose}
 use Rattle.op.specs.Ops.{number, counts}
 use Rattle.pod.specs.Values.{Instruction}
 use Rattle.pod.specs.Written.{bit}
-use Rattle.pod.specs.Layout.{operand, named, opcode, after-opcode, instruction}
+use Rattle.pod.specs.Layout.{operand, named, opcode, after-opcode, after-opcode-by, instruction}
 use Rattle.pod.specs.Descs.{places, instruction-desc}
 use Rattle.pod.specs.declared.Operand.{Operand}
 use Rattle.pod.specs.declared.OperandDesc.{OperandDesc}
@@ -61,7 +61,7 @@ unfolding flag bind
 flagged s o f = sym (step (uint 1 s o) _ f _ (λ b n. refl))
 
 after-parts : (k : ℕ) (s : List ℕ) (o : ℕ) → after-opcode k s o ≡ bind (many operand (getD counts k 0) s o) (λ xs n. bind (tail s n) (λ t m. ok (made k xs t) m))
-unfolding after-opcode tail
+unfolding after-opcode-by tail
 after-parts k s o =
     under _ _ _ (λ xs n. step _ _ _ _ (λ v a. step _ _ _ _ (λ z b. step _ _ _ _ (λ i c. flagged s c _ ∙ step _ _ _ _ (λ r d. here _ _ _)))))
 

@@ -6,7 +6,8 @@ use Prim.Native.Nat.{ℕ, _<_}
 use native.Mathlib.Omega.{arith}
 use Rattle.fields.specs.Parse.{Res, no, many}
 use Rattle.pod.specs.Layout.{operand, instruction}
-use Rattle.laws.proofs.Every.{Kept, several, an-operand, an-instruction}
+use Rattle.pod.specs.Sound.{appended}
+use Rattle.laws.proofs.Every.{Kept, several, an-operand, an-instruction, an-appended}
 use Rattle.laws.proofs.Refusals.{Refuses, refusals}
 
 -- an answer that is accepted, or refused with a number over 0
@@ -21,3 +22,6 @@ told-operands n s o e q = several told operand (an-operand told (omega arith) (o
 
 pub told-instruction : (s : List ℕ) (o : ℕ) → Told (instruction s o)
 told-instruction s o e q = an-instruction told (omega arith) (omega arith) (omega arith) (omega arith) (omega arith) .refusal s o q
+
+pub told-appended : (s : List ℕ) (o : ℕ) → Told (appended s o)
+told-appended s o e q = an-appended told (omega arith) (omega arith) (omega arith) (omega arith) (omega arith) (omega arith) .refusal s o q

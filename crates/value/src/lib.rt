@@ -89,7 +89,7 @@ fn operands_at(s: &[u8], at: usize, count: usize) -> OperandsRead
     let mut o = at;
     while i < count {
         let operand = pod::operand_at(s, o);
-        if let OperandRead::Value(x, n) = operand {
+        if let OperandRead::Value(x, n, _) = operand {
             p[i] = operand_desc(x);
             o = n;
         } else {

@@ -62,7 +62,7 @@ pub extern "C" fn vtil_check(file: &[u8]) -> i64
         return 0 - (fields::LENDING_TOO_LARGE as i64);
     }
     let far = reader::pass_file(file);
-    if let Walked::Past(n, _) = far {
+    if let Walked::Past(n, _, _) = far {
         signed(n)
     } else {
         0 - (fields::walked_refusal(far) as i64)

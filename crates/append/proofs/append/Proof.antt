@@ -24,7 +24,7 @@ use Rattle.image.proofs.Inspects.{sound-holding}
 use Rattle.image.proofs.Fills.{sound-filled}
 use Rattle.append.specs.Whole.{Whole}
 use Rattle.append.specs.Target.{Target, with-one}
-use Rattle.append.proofs.Appends.{is-whole, sized, one-size, not-one, no-block, closed, appends, entry-is, append-costs}
+use Rattle.append.proofs.Appends.{is-whole, as-instruction, sized, one-size, not-one, no-block, closed, appends, entry-is, append-costs}
 use borrow.Author.Needs.{needs}
 use Rattle.append.proofs.append.Statement.{statement}
 use Rattle.append.proofs.append.Tie as tie
@@ -182,7 +182,7 @@ module _ (c : tie.After-can-add) where
   gains : sum rates (R′ (admitting passed)) ≡ sum rates (R (t passed)) + more
   gains =
       let a = admitting passed in
-      let m = counting c .sum-of-instruction .ensures _ _ (Y a .read) in
+      let m = counting c .sum-of-instruction .ensures _ _ (as-instruction (Y a)) in
       omega (arith, appended-sum rates (R (s a)) (I (s a)) (there (block (p a))) (Y a .x), m)
 
   sum-over : c .can-add .result ≡ false → new-sum ≡ refused 13

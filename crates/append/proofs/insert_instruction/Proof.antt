@@ -10,7 +10,7 @@ use Rattle.pod.specs.Written.{bytes}
 use Rattle.image.proofs.Cuts.{the-block}
 use Rattle.append.specs.Target.{Target}
 use Rattle.append.proofs.Flags.{written-flagged}
-use Rattle.append.proofs.Appends.{sized, at-least, ends-within, head-within, count-read, count-few, appended-image}
+use Rattle.append.proofs.Appends.{as-instruction, sized, at-least, ends-within, head-within, count-read, count-few, appended-image}
 use borrow.Author.Needs.{needs}
 use Rattle.append.proofs.insert_instruction.Statement.{statement}
 use Rattle.append.proofs.insert_instruction.Tie as tie
@@ -100,7 +100,7 @@ returns c =
     u .put-u32 .ensures
     ∙ ap₂ (λ n l. put (a .at + 24) (bytes 4 (n + 1)) l) (counted x i w g)
     (p .put-instruction .ensures
-    ∙ ap₂ (put end) (sym (written-flagged (a .instruction .now) b (y .x) (y .read)))
+    ∙ ap₂ (put end) (sym (written-flagged (a .instruction .now) b (y .x) (as-instruction y)))
     (v .move-within .ensures ∙ ap (λ n. put (end + n) (take (a .written - end) (drop end (a .image .now))) (a .image .now)) (sym (sized b y))))
     ∙ appended-image g (y .x) (omega (arith, sized b y, s .pre .1 .1))
 

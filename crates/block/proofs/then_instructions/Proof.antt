@@ -4,6 +4,7 @@ use Rattle.fields.specs.Answers.{of-skip}
 use Rattle.fields.proofs.Chain.{far-past}
 use Rattle.fields.proofs.Steps.{off, on-u32, off-u32}
 use Rattle.pod.specs.Layout.{instruction}
+use Rattle.pod.specs.Sound.{instruction-sound}
 use Rattle.pod.specs.Written.{instruction-bytes}
 use Rattle.laws.proofs.Layouts.{instruction-layout}
 use Rattle.laws.proofs.Walks.{fills, walked-counted}
@@ -23,7 +24,7 @@ returns c =
     let call = count .before .before in
     let b = known call .shared-slice-known .given in
     far-past _ (so-far call .far .given .1)
-    (rw (walked-counted instruction instruction-bytes (fills instruction-layout b) b) (on-u32 _ (count .count .given .1) (call .u32-at .ensures) (c .instructions-run .ensures)))
+    (rw (walked-counted instruction instruction-bytes (fills instruction-layout b) instruction-sound b) (on-u32 _ (count .count .given .1) (call .u32-at .ensures) (c .instructions-run .ensures)))
 
 returns-2 : tie.Need-returns-2
 returns-2 c =
@@ -31,7 +32,7 @@ returns-2 c =
     let call = told .before .before in
     let b = known call .shared-slice-known .given in
     far-past _ (so-far call .far .given .1)
-    (rw (walked-counted instruction instruction-bytes (fills instruction-layout b) b) (off-u32 _ (told .enum-told .given .1) (call .u32-at .ensures) (c .u32-refusal .ensures)))
+    (rw (walked-counted instruction instruction-bytes (fills instruction-layout b) instruction-sound b) (off-u32 _ (told .enum-told .given .1) (call .u32-at .ensures) (c .u32-refusal .ensures)))
 
 returns-3 : tie.Need-returns-3
 returns-3 c = off _ (ap of-skip (c .before .enum-told2 .given .1)) refl (c .skip-refusal .ensures)

@@ -1,5 +1,5 @@
--- A convention passed over part by part: each call is given how far the one before it came.
-use Rattle.convention.proofs.Skip.{convention-skip}
+-- A convention passed over part by part: each call is given how far the one before it came, and what was told so far.
+use Rattle.convention.proofs.Skip.{convention-judged}
 use borrow.Author.Needs.{needs}
 use Rattle.convention.proofs.convention_past.Statement.{statement}
 use Rattle.convention.proofs.convention_past.Tie as tie
@@ -17,7 +17,7 @@ returns c =
       retval .then-registers2 .ensures,
       param .then-registers .ensures,
       param .before .registers-skip .ensures,
-    ) (convention-skip _ _)
+    ) (convention-judged _ _)
 
 pub convention-past-spec : {M : Type 1} → statement M
 convention-past-spec =

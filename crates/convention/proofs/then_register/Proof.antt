@@ -1,10 +1,13 @@
--- A register passed over after what was passed over so far: the reader's answer without its value.
+-- A register passed over after what was passed over so far: the reader's answer without its value, but for whether it is sound.
 use mathlib.Core.Path.{_≡_, sym, ap, _∙_}
-use Rattle.fields.specs.Parse.{Res, bind, span}
-use Rattle.fields.specs.Answers.{of-skip}
-use Rattle.fields.proofs.Chain.{far-past, far-refused}
+use mathlib.Core.Bool.{Bool, _&&_}
+use Rattle.fields.specs.Parse.{Res, ok, bind}
 use Rattle.pod.specs.Layout.{register}
-use Rattle.pod.specs.Answers.{of-register}
+use Rattle.pod.specs.Sound.{is-sound}
+use Rattle.pod.specs.Told.{judged, judged-both}
+use Rattle.pod.specs.Answers.{of-register, of-passed}
+use Rattle.pod.proofs.Steps.{register-told}
+use Rattle.convention.proofs.Skip.{told-past, told-refused}
 use Rattle.fields.proofs.Steps.{handed}
 use borrow.Author.Needs.{needs}
 use Rattle.convention.proofs.then_register.Statement.{statement}
@@ -18,26 +21,31 @@ abbrev start : tie.After-far → tie.Start
 start c = c .before .before .before
 
 -- what was passed over so far has an end, and the register at it decides the answer
-past : (c : tie.After-register-at) {x : Res Unit} → (let f = passed c in let s = start f in x ≡ span (register (s .args .s .now) (f .far .given .0 .0))
-    → x ≡ bind (of-skip (s .args .far)) (λ _ n. span (register (s .args .s .now) n)))
-past c = far-past _ (passed c .far .given .1)
+past : (c : tie.After-register-at) {x : Res Bool} → (let f = passed c in let s = start f in
+    x ≡ bind (judged register is-sound (s .args .s .now) (f .far .given .0 .0)) (λ u m. ok (f .far .given .0 .1 .0 && u) m)
+    → x ≡ judged-both (of-passed (s .args .far)) (judged register is-sound (s .args .s .now)))
+unfolding judged-both
+past c = told-past _ (passed c .far .given .1)
 
 returns : tie.Need-returns
-unfolding span
+unfolding judged bind
 returns c =
     let told = c .before in
     let r = told .before .before in
-    past r (rw (sym (r .register-at .ensures) ∙ ap of-register (told .register .given .1)))
+    let given = told .register .given .1 in
+    let n = told .register .given .0 .1 .0 in
+    past r (rw (sym (r .register-at .ensures .0) ∙ ap of-register given) (ap (λ x. ok (passed r .far .given .0 .1 .0 && x) n) (register-told given (r .register-at .ensures .1))))
 
 returns-2 : tie.Need-returns-2
-unfolding span
+unfolding judged bind
 returns-2 c =
     let told = c .before in
     let r = told .before .before in
-    past r (rw (← handed (ap of-register (told .enum-told .given .1)) (r .register-at .ensures) (c .register-refusal .ensures)))
+    past r (rw (← handed (ap of-register (told .enum-told .given .1)) (r .register-at .ensures .0) (c .register-refusal .ensures)))
 
 returns-3 : tie.Need-returns-3
-returns-3 c = far-refused _ (c .enum-told2 .given .1)
+unfolding judged-both
+returns-3 c = told-refused _ (c .enum-told2 .given .1)
 
 pub then-register-spec : {M : Type 1} → statement M
 then-register-spec =

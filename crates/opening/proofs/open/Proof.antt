@@ -9,6 +9,8 @@ use Rattle.fields.specs.Parse.{ok, no}
 use Rattle.fields.specs.Answers.{of-walked}
 use Rattle.fields.proofs.Steps.{handed}
 use Rattle.pod.specs.Layout.{routine}
+use Rattle.pod.specs.Sound.{routine-sound}
+use Rattle.fields.specs.Sight.{sight}
 use Rattle.pod.specs.Written.{routine-bytes, walked}
 use Rattle.opening.proofs.Openings.{passed, ends, image-long, journal-long, was-read, unread, some-refusal}
 use borrow.Author.Needs.{needs}
@@ -38,13 +40,14 @@ journal-lent c = leb-true _ _ (sym (c .before .is-lent2 .ensures) ∙ not-false 
 abbrev walking : tie.After-far → tie.After-pass-file
 walking c = c .before .before
 
-past : (c : tie.After-far) → walked routine routine-bytes (start (first (lent (walking c))) .args .file .now) 0 ≡ ok (c .far .given .0 .1 .0) (c .far .given .0 .0)
+past : (c : tie.After-far) → let g = c .far .given .0 in
+    walked routine routine-bytes routine-sound (start (first (lent (walking c))) .args .file .now) 0 ≡ ok (sight (g .1 .0) (g .1 .1 .0)) (g .0)
 past c = sym (walking c .pass-file .ensures) ∙ ap of-walked (c .far .given .1)
 
 abbrev refusing : tie.After-walked-refusal → tie.After-pass-file
 refusing c = c .before .before .before
 
-refusal : (c : tie.After-walked-refusal) → walked routine routine-bytes (start (first (lent (refusing c))) .args .file .now) 0 ≡ no (c .walked-refusal .result)
+refusal : (c : tie.After-walked-refusal) → walked routine routine-bytes routine-sound (start (first (lent (refusing c))) .args .file .now) 0 ≡ no (c .walked-refusal .result)
 refusal c = sym (handed (ap of-walked (c .before .enum-told .given .1)) (refusing c .pass-file .ensures) (c .walked-refusal .ensures))
 
 fill-requires : tie.Need-fill-requires

@@ -6,7 +6,12 @@ use Rattle.pod.proofs.bits_at.Statement.{statement}
 use Rattle.pod.proofs.bits_at.Tie as tie
 
 returns : tie.Need-returns
-returns c = stands _ _ (c .before .before .before .before .before .width .given .0 .0) (c .before .offset .given .0 .0) (search needs) (search needs) (search (needs, steps))
+returns c =
+    let offset = c .before in
+    let width = offset .before .before .before .before .before in
+    let w = width .width .given .0 .0 in
+    let o = offset .before .offset .given .0 .0 in
+    (stands _ _ w o (search needs) (search needs) (search (needs, steps)), c .is-slice .ensures)
 
 returns-2 : tie.Need-returns-2
 returns-2 c = search (needs, steps)
@@ -22,6 +27,7 @@ bits-at-spec =
     (λ c. search needs)
     (λ c κs. search needs)
     (λ c. search needs)
+    (λ c κs. search needs)
     (λ c. search needs)
     (λ c κs. search needs)
     (λ c. search needs)

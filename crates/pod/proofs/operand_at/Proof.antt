@@ -1,5 +1,5 @@
 -- An operand: what the kind and then the value found decides how the definition goes on.
-use Rattle.pod.proofs.Steps.{steps}
+use Rattle.pod.proofs.Steps.{steps, register-told}
 use Rattle.pod.specs.Layout.{operand}
 use borrow.Author.Needs.{needs}
 use Rattle.pod.proofs.operand_at.Statement.{statement}
@@ -15,7 +15,7 @@ returns-2 c = search (needs, steps)
 
 returns-3 : tie.Need-returns-3
 unfolding operand
-returns-3 c = search (needs, steps)
+returns-3 c = let told = c .before in (search (needs, steps), register-told (told .register .given .1) (told .before .before .register-at .ensures .1))
 
 returns-4 : tie.Need-returns-4
 unfolding operand

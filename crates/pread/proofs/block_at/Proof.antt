@@ -6,6 +6,7 @@ use Rattle.fields.specs.Parse.{ok}
 use Rattle.fields.specs.Answers.{of-walked}
 use Rattle.pod.specs.Values.{BasicBlock}
 use Rattle.pod.specs.Layout.{block}
+use Rattle.pod.specs.Sound.{block-sound}
 use Rattle.pod.specs.Written.{block-bytes, walked}
 use Rattle.block.proofs.Walk.{block-walked}
 use Rattle.pread.specs.Answers.{block-read, prev-list, next-list, end-of}
@@ -24,7 +25,7 @@ abbrev known : tie.After-then-vips2 → tie.After-shared-slice-known
 known c = instructions c .before
 
 -- the three walks together
-whole : (c : tie.After-then-vips2) → let a = known c .before .args in of-walked (c .then-vips2 .result) ≡ walked block block-bytes (a .s .now) (a .at)
+whole : (c : tie.After-then-vips2) → let a = known c .before .args in of-walked (c .then-vips2 .result) ≡ walked block block-bytes block-sound (a .s .now) (a .at)
 whole c = rw (c .then-vips2 .ensures, prevs c .then-vips .ensures, instructions c .instructions-skip .ensures) (block-walked _ (known c .shared-slice-known .given) _)
 
 abbrev walking : tie.After-nexts → tie.After-then-vips2
@@ -33,7 +34,7 @@ walking c = c .before .before
 -- the block that was walked over, and where its lists of vips stand
 
 there : (c : tie.After-nexts) → let a = known (walking c) .before .args in (b : BasicBlock) × (block (a .s .now) (a .at) ≡ ok b (c .nexts .given .0 .0))
-there c = accepts block block-bytes _ _ (ap of-walked (c .nexts .given .1)) (whole (walking c))
+there c = accepts block block-bytes block-sound _ _ (ap of-walked (c .nexts .given .1)) (whole (walking c))
 
 -- where its lists of vips stand
 prevs-at : (c : tie.After-nexts) → let w = walking c in end-of (of-walked (instructions w .instructions-skip .result)) ≡ prev-list (known w .before .args .at) (there c .0)
@@ -69,7 +70,7 @@ unfolding block-read
 returns-2 c =
     let told = c .before .before in
     c .no-block .ensures
-    ∙ ap (block-read _) (sym (refuses block block-bytes _ _ (ap of-walked (told .enum-told .given .1)) (whole (told .before .before)) (c .before .walked-refusal .ensures)))
+    ∙ ap (block-read _) (sym (refuses block block-bytes block-sound _ _ (ap of-walked (told .enum-told .given .1)) (whole (told .before .before)) (c .before .walked-refusal .ensures)))
 
 pub block-at-spec : {M : Type 1} → statement M
 block-at-spec =

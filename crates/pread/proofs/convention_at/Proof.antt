@@ -4,6 +4,7 @@ use Rattle.fields.specs.Parse.{ok}
 use Rattle.fields.specs.Answers.{of-walked}
 use Rattle.pod.specs.Values.{RoutineConvention}
 use Rattle.pod.specs.Layout.{convention}
+use Rattle.pod.specs.Sound.{convention-sound}
 use Rattle.pod.specs.Written.{convention-bytes}
 use Rattle.laws.proofs.Walks.{convention-within, walked-past}
 use Rattle.pread.specs.Answers.{convention-read}
@@ -20,13 +21,13 @@ walking c = c .before .before
 
 -- the convention that was walked over
 there : (c : tie.After-far) → let a = known (walking c) .before .args in (k : RoutineConvention) × (convention (a .s .now) (a .at) ≡ ok k (c .far .given .0 .0))
-there c = accepts convention convention-bytes _ _ (ap of-walked (c .far .given .1)) (walking c .convention-skip .ensures)
+there c = accepts convention convention-bytes convention-sound _ _ (ap of-walked (c .far .given .1)) (walking c .convention-skip .ensures)
 
 convention-there-requires : tie.Need-convention-there-requires
 convention-there-requires c κs =
     let far = c .before in
     let w = walking far in
-    convention-within _ (known w .shared-slice-known .given) _ (walked-past convention convention-bytes _ _ (sym (w .convention-skip .ensures) ∙ ap of-walked (far .far .given .1)))
+    convention-within _ (known w .shared-slice-known .given) _ (walked-past convention convention-bytes convention-sound _ _ (sym (w .convention-skip .ensures) ∙ ap of-walked (far .far .given .1)))
 
 returns : tie.Need-returns
 returns c =
@@ -39,7 +40,7 @@ returns-2 c =
     let told = c .before .before in
     let walk = told .before .before .convention-skip in
     c .no-convention .ensures
-    ∙ ap (convention-read _) (sym (refuses convention convention-bytes _ _ (ap of-walked (told .enum-told .given .1)) (walk .ensures) (c .before .walked-refusal .ensures)))
+    ∙ ap (convention-read _) (sym (refuses convention convention-bytes convention-sound _ _ (ap of-walked (told .enum-told .given .1)) (walk .ensures) (c .before .walked-refusal .ensures)))
 
 pub convention-at-spec : {M : Type 1} → statement M
 convention-at-spec =

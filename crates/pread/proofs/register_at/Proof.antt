@@ -9,12 +9,12 @@ use Rattle.pread.proofs.register_at.Tie as tie
 
 returns : tie.Need-returns
 unfolding register-read
-returns c = ap register-read (sym (ap of-register (c .before .field .given .1)) ∙ c .before .before .before .register-at .ensures)
+returns c = ap register-read (sym (ap of-register (c .before .field .given .1)) ∙ c .before .before .before .register-at .ensures .0)
 
 returns-2 : tie.Need-returns-2
 unfolding register-read
 returns-2 c =
-    ap register-read (handed (ap of-register (c .before .enum-told .given .1)) (c .before .before .before .register-at .ensures) (c .register-refusal .ensures))
+    ap register-read (handed (ap of-register (c .before .enum-told .given .1)) (c .before .before .before .register-at .ensures .0) (c .register-refusal .ensures))
 
 pub register-at-spec : {M : Type 1} → statement M
 register-at-spec = tie.close (tie.spec (λ c κs. search needs) (λ c. search needs) returns (λ c. search needs) (λ c κs. search needs) (λ c. search needs) returns-2)

@@ -6,6 +6,7 @@ use Rattle.fields.specs.Parse.{ok}
 use Rattle.fields.specs.Answers.{of-walked}
 use Rattle.pod.specs.Values.{Routine}
 use Rattle.pod.specs.Layout.{routine}
+use Rattle.pod.specs.Sound.{routine-sound}
 use Rattle.pod.specs.Written.{routine-bytes, walked}
 use Rattle.routine.specs.Head.{head-walked}
 use Rattle.routine.proofs.Walk.{routine-walked}
@@ -22,7 +23,7 @@ abbrev known : tie.After-then-blocks → tie.After-shared-slice-known
 known c = head c .before
 
 -- the two walks together
-whole : (c : tie.After-then-blocks) → let a = known c .before .args in of-walked (c .then-blocks .result) ≡ walked routine routine-bytes (a .s .now) (a .at)
+whole : (c : tie.After-then-blocks) → let a = known c .before .args in of-walked (c .then-blocks .result) ≡ walked routine routine-bytes routine-sound (a .s .now) (a .at)
 unfolding head-walked
 whole c = rw (c .then-blocks .ensures, head c .head-skip .ensures) (routine-walked _ (known c .shared-slice-known .given) _)
 
@@ -31,7 +32,7 @@ walking c = c .before .before
 
 -- the routine that was walked over
 there : (c : tie.After-whole) → let a = known (walking c) .before .args in (r : Routine) × (routine (a .s .now) (a .at) ≡ ok r (c .whole .given .0 .0))
-there c = accepts routine routine-bytes _ _ (ap of-walked (c .whole .given .1)) (whole (walking c))
+there c = accepts routine routine-bytes routine-sound _ _ (ap of-walked (c .whole .given .1)) (whole (walking c))
 
 -- where its blocks stand
 blocks-at : (c : tie.After-whole) → let w = walking c in end-of (of-walked (head w .head-skip .result)) ≡ block-list (known w .before .args .at) (there c .0)
@@ -61,7 +62,7 @@ unfolding routine-read
 returns-2 c =
     let told = c .before .before in
     c .no-routine .ensures
-    ∙ ap (routine-read _) (sym (refuses routine routine-bytes _ _ (ap of-walked (told .enum-told .given .1)) (whole (told .before .before)) (c .before .walked-refusal .ensures)))
+    ∙ ap (routine-read _) (sym (refuses routine routine-bytes routine-sound _ _ (ap of-walked (told .enum-told .given .1)) (whole (told .before .before)) (c .before .walked-refusal .ensures)))
 
 pub routine-at-spec : {M : Type 1} → statement M
 routine-at-spec =

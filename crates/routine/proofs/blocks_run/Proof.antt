@@ -5,9 +5,12 @@ use native.Mathlib.Omega.{arith}
 use borrow.Author.Tests.{ltb-true}
 use Prim.Native.Nat.{_<_}
 use Rattle.fields.specs.Parse.{ok, many}
+use Rattle.fields.specs.Lists.{every}
+use Rattle.fields.specs.Sight.{sight}
 use Rattle.fields.specs.Answers.{of-walked}
 use Rattle.fields.proofs.Steps.{handed}
 use Rattle.pod.specs.Layout.{block}
+use Rattle.pod.specs.Sound.{block-sound}
 use Rattle.pod.specs.Written.{many-bytes, block-bytes, walked, both}
 use Rattle.laws.proofs.Layouts.{block-layout}
 use Rattle.laws.proofs.Walks.{Fills, fills, walked-past, walk-start, walk-end, walk-next, walk-stop}
@@ -19,12 +22,13 @@ use Rattle.routine.proofs.blocks_run.Statement.{statement}
 use Rattle.routine.proofs.blocks_run.Tie as tie
 
 abbrev Inv-loop : tie.InvT-loop
-Inv-loop s at count left₀ o₀ floor₀ written₀ left o floor written =
-    (both (ok written o) (walked (many block left) (many-bytes block-bytes) s) ≡ walked (many block count) (many-bytes block-bytes) s at)
+Inv-loop s at count left₀ o₀ floor₀ written₀ sound₀ left o floor written sound =
+    (both (ok (sight written sound) o) (walked (many block left) (many-bytes block-bytes) (every block-sound) s)
+    ≡ walked (many block count) (many-bytes block-bytes) (every block-sound) s at)
     × (floor < TOP → RisesFrom s left o floor → RisesFrom s count at 0)
 
 abbrev μ-loop : tie.MeasureT-loop
-μ-loop s at count left₀ o₀ floor₀ written₀ left o floor written = left
+μ-loop s at count left₀ o₀ floor₀ written₀ sound₀ left o floor written sound = left
 
 abbrev start : tie.At-loop Inv-loop μ-loop → tie.After-shared-slice-known Inv-loop μ-loop
 start c = c .before
@@ -36,14 +40,14 @@ all : (c : tie.After-shared-slice-known Inv-loop μ-loop) → Fills block block-
 all c = fills block-layout (c .shared-slice-known .given)
 
 loop-holds : tie.Need-loop-holds Inv-loop μ-loop
-loop-holds c = (walk-start block block-bytes (all c) _ _, λ l r. r)
+loop-holds c = (walk-start block block-bytes (all c) block-sound _ _, λ l r. r)
 
 returns : tie.Need-returns Inv-loop μ-loop
 returns c =
     let told = c .before in
     let call = told .before .before in
     let loop = test call .before in (
-      walk-stop block block-bytes (all (start loop)) _ _ _ (loop .loop .inv .0) (test call .loop-test .taken)
+      walk-stop block block-bytes (all (start loop)) block-sound _ _ _ (loop .loop .inv .0) (test call .loop-test .taken)
           (sym (handed (ap of-walked (told .enum-told .given .1)) (call .block-skip .ensures) (c .walked-refusal .ensures))),
       λ w. false-true w,
     )
@@ -57,16 +61,16 @@ loop-again c =
     let i = loop .loop .inv in
     let h = test call .loop-test .taken in
     let past = sym (call .block-skip .ensures) ∙ ap of-walked (far .far .given .1) in (
-      walk-next block block-bytes (all (start loop)) _ _ _ (i .0) h past,
+      walk-next block block-bytes (all (start loop)) block-sound _ _ _ (i .0) h past,
       λ l r. let f = c .floor-after .ensures l in
-          i .1 (omega (arith, f .0, f .1)) (rises-more _ _ _ _ _ _ h (walked-past block block-bytes _ _ past) (vip .word64 .ensures) (f .0) (rw (f .1) at r)),
+          i .1 (omega (arith, f .0, f .1)) (rises-more _ _ _ _ _ _ h (walked-past block block-bytes block-sound _ _ past) (vip .word64 .ensures) (f .0) (rw (f .1) at r)),
     )
 
 returns-2 : tie.Need-returns-2 Inv-loop μ-loop
 returns-2 c =
     let i = c .before .loop .inv in
     let none = c .loop-test .left in (
-      walk-end block block-bytes (all (start (c .before))) _ _ _ (i .0) none,
+      walk-end block block-bytes (all (start (c .before))) block-sound _ _ _ (i .0) none,
       λ w. all-different _ _ _ (i .1 (ltb-true _ _ w) (rises-end _ _ _ _ none)),
     )
 

@@ -5,6 +5,7 @@ use Rattle.fields.specs.Parse.{ok, span}
 use Rattle.fields.specs.Answers.{of-skip}
 use Rattle.fields.proofs.Steps.{handed}
 use Rattle.pod.specs.Layout.{header}
+use Rattle.pod.specs.Told.{no-register-in}
 use Rattle.pod.specs.Written.{header-bytes}
 use Rattle.laws.proofs.Walks.{header-within, header-walked, walked-no}
 use borrow.Author.Needs.{needs}
@@ -23,7 +24,7 @@ returns c = let far = c .before .before in header-walked _ (known far .shared-sl
 
 returns-2 : tie.Need-returns-2
 returns-2 c =
-    walked-no header header-bytes _ _
+    walked-no header header-bytes no-register-in _ _
     (handed (ap of-skip (c .before .enum-told .given .1)) (c .before .before .before .header-past .ensures) (c .skip-refusal .ensures))
 
 pub header-skip-spec : {M : Type 1} → statement M

@@ -6,6 +6,8 @@ use Rattle.fields.specs.Bytes.{Bytes}
 use Rattle.fields.specs.Answers.{of-walked}
 use Rattle.fields.specs.Parse.{ok}
 use Rattle.pod.specs.Layout.{block}
+use Rattle.pod.specs.Sound.{block-sound}
+use Rattle.fields.specs.Sight.{sight}
 use Rattle.pod.specs.Written.{block-bytes, walked}
 use Rattle.undo_remove.proofs.Whole as W
 use borrow.Author.Needs.{needs}
@@ -23,7 +25,8 @@ walking c = c .before .before .before
 octets : (c : tie.After-block-skip) → Bytes (start c .args .s .now)
 octets c = c .before .shared-slice-known .given
 
-ends : (c : tie.After-known-told) → walked block block-bytes (start (walking c) .args .s .now) 0 ≡ ok (c .before .end .given .0 .1 .0) (c .before .end .given .0 .0)
+ends : (c : tie.After-known-told) → let g = c .before .end .given .0 in
+    walked block block-bytes block-sound (start (walking c) .args .s .now) 0 ≡ ok (sight (g .1 .0) (g .1 .1 .0)) (g .0)
 ends c = sym (walking c .block-skip .ensures) ∙ ap of-walked (c .before .end .given .1)
 
 eight-requires : tie.Need-eight-requires

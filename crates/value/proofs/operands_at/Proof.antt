@@ -38,7 +38,7 @@ unfolding operands-read
 returns c =
     let d : tie.After-operand-at Inv-loop μ-loop = c .before .before .before in
     let l = turn d .loop in
-    let q = handed (ap of-operand (c .before .enum-told .given .1)) (d .operand-at .ensures) (c .operand-refusal .ensures) in
+    let q = handed (ap of-operand (c .before .enum-told .given .1)) (d .operand-at .ensures .0) (c .operand-refusal .ensures) in
     let e = got-stop operand (N (turn d)) _ _ (l .inv .0) (l .i) _ (l .inv .4) (omega arith) (sym q) in
     rw (e, places-none _ (turn d .before .unused-place .ensures))
 
@@ -53,7 +53,7 @@ loop-again c =
       length-append (l .inv .0) (x ∷ []) ∙ omega arith,
       omega arith,
       rw (c .operand-desc .ensures, l .inv .3, ← h) (places-set (l .inv .0) x (omega arith)),
-      got-more operand (N (turn d)) _ _ (l .inv .0) (l .i) _ (l .inv .4) (omega arith) (sym (d .operand-at .ensures) ∙ ap of-operand (v .operand .given .1)),
+      got-more operand (N (turn d)) _ _ (l .inv .0) (l .i) _ (l .inv .4) (omega arith) (sym (d .operand-at .ensures .0) ∙ ap of-operand (v .operand .given .1)),
     )
 
 returns-2 : tie.Need-returns-2 Inv-loop μ-loop

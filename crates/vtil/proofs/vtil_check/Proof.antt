@@ -7,6 +7,7 @@ use Rattle.fields.specs.Parse.{ok, span}
 use Rattle.fields.specs.Answers.{of-walked}
 use Rattle.fields.proofs.Steps.{handed}
 use Rattle.pod.specs.Layout.{routine, read-file}
+use Rattle.pod.specs.Sound.{routine-sound}
 use Rattle.pod.specs.Written.{routine-bytes}
 use Rattle.laws.proofs.Walks.{walked-past, walked-refused}
 use Rattle.vtil.proofs.Told.{ends, told-ok, told-no, minus-fits, within-limit, over-limit}
@@ -19,7 +20,7 @@ known c = c .before .before
 
 -- the walk accepts
 past : (c : tie.After-far) → ok tt (c .far .given .0 .0) ≡ span (read-file (known (c .before .before) .before .args .file .now))
-past c = walked-past routine routine-bytes _ 0 (sym (c .before .before .pass-file .ensures) ∙ ap of-walked (c .far .given .1))
+past c = walked-past routine routine-bytes routine-sound _ 0 (sym (c .before .before .pass-file .ensures) ∙ ap of-walked (c .far .given .1))
 
 returns : tie.Need-returns
 returns c = over-limit _ (c .if1 .taken)
@@ -38,7 +39,7 @@ returns-3 : tie.Need-returns-3
 returns-3 c =
     let call = c .before .before .before in
     told-no _ (omega arith)
-    (walked-refused routine routine-bytes _ 0 (sym (handed (ap of-walked (c .before .enum-told .given .1)) (call .pass-file .ensures) (c .walked-refusal .ensures))))
+    (walked-refused routine routine-bytes routine-sound _ 0 (sym (handed (ap of-walked (c .before .enum-told .given .1)) (call .pass-file .ensures) (c .walked-refusal .ensures))))
     ∙ within-limit _ (call .before .if1 .left)
 
 pub vtil-check-spec : {M : Type 1} → statement M
