@@ -5,6 +5,7 @@ use crate::faults::{apply, change, foreign_id, places, Fault, FAULTS};
 use crate::names;
 use crate::reference::ops;
 use crate::rng::Rng;
+use crate::widths::{edge, put_all};
 
 #[derive(Clone, Copy, Debug, PartialEq, Eq)]
 pub enum Class {
@@ -28,9 +29,11 @@ pub enum Class {
     Counts,
     /// Bytes without a plan.
     Noise,
+    /// Accepted routines whose registers have the widths and offsets at which append begins to refuse.
+    Widths,
 }
 
-pub const CLASSES: [Class; 10] = [
+pub const CLASSES: [Class; 11] = [
     Class::Structured,
     Class::Trailing,
     Class::Truncated,
@@ -41,6 +44,7 @@ pub const CLASSES: [Class; 10] = [
     Class::Repeated,
     Class::Counts,
     Class::Noise,
+    Class::Widths,
 ];
 
 pub struct Generator {
@@ -67,6 +71,7 @@ impl Generator {
             Class::Repeated => vec![self.repeated()],
             Class::Counts => vec![self.counts()],
             Class::Noise => vec![self.noise()],
+            Class::Widths => vec![self.widths()],
         }
     }
 
@@ -223,6 +228,12 @@ impl Generator {
             2 => [&minimal_routine()[..8], &vec![self.rng.byte(); length]].concat(),
             _ => self.spliced(),
         }
+    }
+
+    fn widths(&mut self) -> Vec<u8> {
+        let mut draft = self.structured();
+        put_all(&mut draft, &mut self.rng, edge);
+        draft.bytes
     }
 
     /// The beginning of one file, then the end of another.

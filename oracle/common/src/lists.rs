@@ -2,10 +2,11 @@
 //! refused.
 
 use crate::charge::{any_rates, Rates};
-use crate::draft::{Draft, Field, Shape, MIDDLING, SMALL};
-use crate::faults::{apply, places, FAULTS};
+use crate::draft::{Draft, Field, FieldAt, Shape, MIDDLING, SMALL};
+use crate::faults::{apply, places, Fault, FAULTS};
 use crate::reference::Call;
 use crate::rng::Rng;
+use crate::widths::{edge, put, put_all, sound};
 
 pub struct List {
     pub file: Vec<u8>,
@@ -23,25 +24,57 @@ fn vips_of(draft: &Draft) -> Vec<u64> {
     there.chain([5, 6, u64::MAX]).collect()
 }
 
-/// An instruction's bytes, now and then with a fault or with bytes left over. Many close the block, so that later calls
-/// meet it closed, opened again by an undo, removed, and restored.
+/// An instruction's bytes with sound registers, now and then with crooked ones, with a fault, or with bytes left over.
+/// Many close the block, so that later calls meet it closed, opened again by an undo, removed, and restored.
 fn instruction(rng: &mut Rng) -> Vec<u8> {
     let mut draft = Draft::default();
     draft.often_closing_instruction(rng);
+    put_all(&mut draft, rng, sound);
     match rng.below(8) {
-        0 => draft.bytes.extend([0; 3]),
+        0 => leave_over(&mut draft),
         1 => spoil(&mut draft, rng),
+        2 | 3 => make_crooked(&mut draft, rng),
         _ => {}
     }
     draft.bytes
 }
 
+fn leave_over(draft: &mut Draft) {
+    draft.bytes.extend([0; 3]);
+}
+
 fn spoil(draft: &mut Draft, rng: &mut Rng) {
-    let fault = rng.pick(&FAULTS);
-    let places = places(draft, fault);
-    if !places.is_empty() {
-        apply(draft, fault, rng.pick(&places), rng);
+    let possible: Vec<Fault> = FAULTS.into_iter().filter(|&fault| !places(draft, fault).is_empty()).collect();
+    let fault = rng.pick(&possible);
+    let place = rng.pick(&places(draft, fault));
+    apply(draft, fault, place, rng);
+}
+
+/// Puts one register or all to the edges of what is sound. Half the time there is another fault too: before the
+/// register, in it, or behind it.
+fn make_crooked(draft: &mut Draft, rng: &mut Rng) {
+    let registers = draft.fields_of(Field::RegisterId);
+    if registers.is_empty() {
+        return;
     }
+    let register = rng.pick(&registers);
+    if rng.one_in(4) {
+        put_all(draft, rng, edge);
+    } else {
+        put(draft, register, edge(rng));
+    }
+    match rng.below(8) {
+        0 | 1 => spoil(draft, rng),
+        2 => cut_at_widths(draft, register, rng),
+        3 => leave_over(draft),
+        _ => {}
+    }
+}
+
+/// Cuts between the register's id and a little behind its offset.
+fn cut_at_widths(draft: &mut Draft, register: FieldAt, rng: &mut Rng) {
+    let id_end = register.at + register.size;
+    draft.bytes.truncate(id_end + rng.pick(&[0, 3, 4, 7, 8, 8, 8, 9, 12]));
 }
 
 fn call(rng: &mut Rng, vips: &[u64]) -> Call {
@@ -74,7 +107,10 @@ fn room(rng: &mut Rng, edges: &[usize], plenty: usize) -> usize {
 
 pub fn list(rng: &mut Rng) -> List {
     let shape = if rng.one_in(4) { MIDDLING } else { SMALL };
-    let draft = Draft::routine(rng, Shape { often_closing: true, ..shape });
+    let mut draft = Draft::routine(rng, Shape { often_closing: true, ..shape });
+    if rng.one_in(2) {
+        put_all(&mut draft, rng, edge);
+    }
     let calls = calls(rng, &vips_of(&draft));
     List {
         image_length: draft.bytes.len() + room(rng, &[0, 35, 36, 37, 71, 72], 4_000),

@@ -23,7 +23,7 @@ pub enum Answer {
         consumed: usize,
         written: Vec<u8>,
     },
-    /// Refusals 3 to 7 by the text of `Malformed`, and 8.
+    /// Refusals 3 to 7 by the text of `Malformed`, and 8; and those of edits that are worked out from its values.
     Refused(Refusal),
     /// "Some other error": 1 or 2.
     Other,

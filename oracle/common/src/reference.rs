@@ -18,10 +18,15 @@ pub const UNKNOWN_OPERAND_KIND: Refusal = 6;
 pub const UNKNOWN_OPERATION: Refusal = 7;
 pub const WRONG_OPERAND_COUNT: Refusal = 8;
 pub const REPEATED_BLOCK: Refusal = 9;
+pub const IMAGE_FULL: Refusal = 11;
+pub const JOURNAL_FULL: Refusal = 12;
 pub const SPOILED_BOOK: Refusal = 13;
 pub const BLOCK_PRESENT: Refusal = 14;
 pub const NO_SUCH_BLOCK: Refusal = 15;
+pub const NOTHING_TO_TAKE_BACK: Refusal = 16;
+pub const LEFTOVER: Refusal = 17;
 pub const CLOSED_BLOCK: Refusal = 18;
+pub const CROOKED_REGISTER: Refusal = 19;
 
 /// The declarations of reference.h.
 mod c {

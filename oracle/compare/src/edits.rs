@@ -3,42 +3,20 @@
 //! its own. Then the whole list again, in one call, and in two: from the opening to its middle, and on from there.
 //! Every call and every list is also made on books with sums made by hand.
 
+use crate::by_rust::{edit, refusal_difference, Crooked};
 use crate::calls::{self, Answer};
 use crate::charges;
 use crate::report::{hex, number, numbers, shrink, Report};
 use crate::sums::{self, Change};
 use oracle::charge::{counts, Counts};
 use oracle::lists::{self, List};
-use oracle::reference::{Call, Machine, Refusal, BLOCK_PRESENT, CLOSED_BLOCK, NO_SUCH_BLOCK};
+use oracle::original;
+use oracle::reference::{Call, Machine, Refusal};
 use oracle::rng::Rng;
-use scroll::Pread;
 use std::cmp::Ordering;
 use std::collections::BTreeMap;
 use vtil::{Book, Numbers, Rates};
-use vtil_parser::{Instruction, Op, Routine, Vip};
-
-/// Does an edit to the Rust's routine. 14 and 15 are where the Rust's own calls answer `None`.
-fn edit(routine: &mut Routine, call: &Call) -> Result<(), Refusal> {
-    match call {
-        Call::Create(vip) => routine.create_block(Vip(*vip)).map(|_| ()).ok_or(BLOCK_PRESENT),
-        Call::Remove(vip) => routine.remove_block(Vip(*vip)).map(|_| ()).ok_or(NO_SUCH_BLOCK),
-        Call::Append(vip, bytes) => push(routine, *vip, bytes),
-        Call::Undo => unreachable!("the history holds edits only"),
-    }
-}
-
-/// The Rust has no append; its users push to the block's list. Nor has it closed blocks: whether a block is closed is
-/// seen in the Rust's own values.
-fn push(routine: &mut Routine, vip: u64, bytes: &[u8]) -> Result<(), Refusal> {
-    let block = routine.explored_blocks.get_mut(&Vip(vip)).ok_or(NO_SUCH_BLOCK)?;
-    let last = block.instructions.last().map(|instruction| &instruction.op);
-    if matches!(last, Some(Op::Js(..) | Op::Jmp(..) | Op::Vexit(..) | Op::Vxcall(..))) {
-        return Err(CLOSED_BLOCK);
-    }
-    let instruction = bytes.pread_with::<Instruction>(0, scroll::LE).expect("document 01 accepts this instruction");
-    block.instructions.push(instruction);
-    Ok(())
-}
+use vtil_parser::Routine;
 
 /// Keeps the edits that none has taken back.
 fn note(history: &mut Vec<Call>, call: &Call) {
@@ -90,6 +68,7 @@ struct Tally {
     smaller: usize,
     same: usize,
     by_hand: sums::Tally,
+    crooked: Crooked,
 }
 
 impl Tally {
@@ -102,6 +81,7 @@ impl Tally {
     }
 
     fn print(&self) {
+        println!("{}", self.crooked);
         println!("sums after a call: larger {}, smaller {}, as before {}", self.larger, self.smaller, self.same);
         self.by_hand.print();
     }
@@ -116,7 +96,7 @@ impl Run<'_> {
     }
 
     /// The Rust's routine is no value to keep: it is read again, and every edit that still stands is done again.
-    fn replayed(&self) -> Result<Routine, Refusal> {
+    fn replayed(&self) -> Result<Routine, original::Answer> {
         let mut routine = read(self.list);
         self.history.iter().try_for_each(|call| edit(&mut routine, call))?;
         Ok(routine)
@@ -129,19 +109,21 @@ impl Run<'_> {
 
     fn difference_after(&mut self, call: &Call, tally: &mut Tally) -> Option<String> {
         let step = self.machine.step(call);
-        match step.refusal {
-            BLOCK_PRESENT | NO_SUCH_BLOCK | CLOSED_BLOCK => {
-                let rust = self.replayed().and_then(|mut routine| edit(&mut routine, call));
-                if rust != Err(step.refusal) {
-                    return Some(format!("document 01 refuses {}, Rust {rust:?}", step.refusal));
-                }
-            }
-            0 => note(&mut self.history, call),
-            _ => {}
+        if step.refusal == 0 {
+            note(&mut self.history, call);
         }
-        let Ok(rust) = self.replayed() else {
-            return Some("document 01 does what the Rust refuses".to_string());
+        let rust = match self.replayed() {
+            Ok(rust) => rust,
+            Err(answer) => return Some(format!("document 01 does what the Rust refuses: {answer:?}")),
         };
+        if step.refusal != 0 {
+            let routine = self.replayed().expect("the Rust did the same edits");
+            tally.crooked.count(&routine, call, step.refusal);
+            let refused = refusal_difference(routine, call, step.refusal);
+            if refused.is_some() {
+                return refused;
+            }
+        }
         let change = Change { before: self.counts, after: counts(&rust) };
         let by_hand = sums::call_difference(&self.book, call, &step, &change, &mut tally.by_hand);
         if by_hand.is_some() {

@@ -2,6 +2,7 @@
 //! The exit status is 0 where nothing differs, 1 where something does, 2 on a bad command line.
 
 mod aborts;
+mod by_rust;
 mod calls;
 mod charges;
 mod edits;

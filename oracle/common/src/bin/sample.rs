@@ -15,6 +15,9 @@ const USAGE: &str = "usage: sample [--seed S] [--records N] --out PATH";
 /// Larger files say nothing more, and the sample stays small.
 const LARGEST_FILE: usize = 450;
 
+/// How many classes are sampled: all but the last, whose files differ from structured ones in what append alone asks.
+const SAMPLED: usize = CLASSES.len() - 1;
+
 struct Options {
     seed: u64,
     records: usize,
@@ -59,7 +62,7 @@ fn answer(file: &[u8]) -> i64 {
 struct Sample {
     records: Vec<(Vec<u8>, i64)>,
     /// How many records each class has for each answer: accepted, then refusals 1 to 9.
-    kept: [[usize; 10]; CLASSES.len()],
+    kept: [[usize; 10]; SAMPLED],
     most: usize,
 }
 
@@ -95,7 +98,7 @@ fn sample(options: &Options) -> Sample {
         sample.records.push((file.to_vec(), answer(file)));
     }
     for turn in 0.. {
-        let class = turn % CLASSES.len();
+        let class = turn % SAMPLED;
         for file in generator.batch(CLASSES[class]) {
             sample.add(class, file);
             if sample.records.len() >= options.records {
