@@ -2,9 +2,7 @@
 //! the charge after an edit: read off the book, beside worked out afresh.
 
 use crate::clock::{best_of_both, heading, print, print_one_side, time};
-use crate::inputs::{one_block, vip_of, with_size, RATES};
-use oracle::draft::Draft;
-use oracle::rng::Rng;
+use crate::inputs::{appended, one_block, vip_of, with_size, RATES};
 use std::time::Duration;
 use vtil::{BlockRef, Book, Rates, Refusal};
 use vtil_parser::{Routine, Vip};
@@ -71,12 +69,6 @@ fn measure(
     print_one_side(&format!("{name}, taken back"), None, Some(best_back));
 }
 
-fn instruction() -> Vec<u8> {
-    let mut draft = Draft::default();
-    draft.instruction(&mut Rng::new(2));
-    draft.bytes
-}
-
 /// The first block from the middle on that is open. A closed one, whose last instruction is js, jmp, vexit or vxcall,
 /// takes no append: the time would be that of a refusal.
 fn open_block(file: &[u8]) -> u64 {
@@ -88,7 +80,7 @@ fn open_block(file: &[u8]) -> u64 {
 
 fn append(bench: &mut Bench, name: &str) {
     let vip = open_block(bench.file);
-    let bytes = instruction();
+    let bytes = appended();
     let append_rust = |routine: &mut Routine| {
         let block = routine.explored_blocks.get_mut(&Vip(vip)).expect("the block is there");
         let instruction = scroll::Pread::pread_with(&bytes[..], 0, scroll::LE).expect("an instruction");
@@ -150,7 +142,7 @@ fn append_and_charge(bench: &mut Bench, vip: u64, bytes: &[u8], charge: Charge) 
 
 /// The sides are measured in turn, so each has a book.
 fn measure_charge(name: &str, left: &mut Bench, right: &mut Bench) {
-    let (vip, bytes) = (open_block(left.file), instruction());
+    let (vip, bytes) = (open_block(left.file), appended());
     let (_, due) = append_and_charge(left, vip, &bytes, afresh);
     let timed = |bench: &mut Bench, charge| {
         let (took, cents) = append_and_charge(bench, vip, &bytes, charge);

@@ -1,8 +1,9 @@
 //! The routines that are measured. Each is the same on every machine.
 
 use oracle::blocks::{empty_blocks, rearrange, set_block_count, Order};
-use oracle::draft::{minimal_routine, Draft};
+use oracle::draft::{minimal_routine, Draft, Field};
 use oracle::rng::Rng;
+use oracle::widths::{put_all, sound};
 
 /// At which routines are opened and charged. All six differ, so that the sum depends on every group.
 pub const RATES: [u32; 6] = [1, 20, 300, 4_000, 50_000, 600_000];
@@ -48,16 +49,43 @@ pub fn with_size(size: usize) -> Vec<u8> {
     file
 }
 
-/// 100,000 instructions in 4,000 blocks, some 8 MB.
-pub fn instructions() -> Vec<u8> {
+/// 100,000 instructions in 4,000 blocks, some 8 MB, those of each block changed by `change`.
+fn instructions_changed(mut change: impl FnMut(&mut Draft)) -> Vec<u8> {
     const BLOCKS: usize = 4_000;
     let mut rng = Rng::new(SEED);
     let mut file = minimal_routine();
     for place in 0..BLOCKS {
-        put_next_block(&mut file, place, &mut rng);
+        let mut instructions = some_instructions(INSTRUCTIONS_A_BLOCK, &mut rng);
+        change(&mut instructions);
+        put_block(&mut file, vip_of(place), INSTRUCTIONS_A_BLOCK, instructions);
     }
     set_block_count(&mut file, BLOCKS);
     file
+}
+
+/// 100,000 instructions in 4,000 blocks, whose registers have any widths and offsets; most are such as append refuses.
+pub fn instructions() -> Vec<u8> {
+    instructions_changed(|_| {})
+}
+
+/// The same file, but that every register has a width and an offset such as append takes.
+pub fn sound_instructions() -> Vec<u8> {
+    let mut rng = Rng::new(SEED);
+    instructions_changed(|instructions| put_all(instructions, &mut rng, sound))
+}
+
+/// What is appended: an instruction with three registers, the most that there can be. Append asks each of them for its
+/// width and its offset, and takes them.
+pub fn appended() -> Vec<u8> {
+    const REGISTERS: usize = 3;
+    let mut rng = Rng::new(SEED);
+    loop {
+        let mut instruction = some_instructions(1, &mut rng);
+        if instruction.fields_of(Field::RegisterId).len() == REGISTERS {
+            put_all(&mut instruction, &mut rng, sound);
+            return instruction.bytes;
+        }
+    }
 }
 
 /// 100,000 instructions in one block, some 8 MB. The last is a nop, so that the block is open and takes an append.

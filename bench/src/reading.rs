@@ -2,7 +2,7 @@
 //! what from_vec made. Every opening is at rates, and so works out the routine's sum.
 
 use crate::clock::{best_of_both, heading, print, time};
-use crate::inputs::{in_order, instructions, RATES};
+use crate::inputs::{in_order, instructions, sound_instructions, RATES};
 use oracle::blocks::{Order, ORDERS};
 use oracle::charge::charge;
 use std::time::Duration;
@@ -35,6 +35,7 @@ pub fn routine_of_instructions() -> Input {
 fn inputs(most_blocks: usize) -> Vec<Input> {
     let mut inputs = vec![
         routine_of_instructions(),
+        Input { name: "the same, all registers sound", blocks: 4_000, file: sound_instructions() },
         Input { name: "100,000 empty blocks, rising", blocks: 100_000, file: in_order(100_000, Order::Rising) },
         Input { name: "100,000 empty blocks, shuffled", blocks: 100_000, file: in_order(100_000, Order::Shuffled) },
     ];
@@ -72,8 +73,7 @@ fn library_opens(file: &[u8], book: &mut Book<&mut [u8]>) -> Duration {
     took
 }
 
-/// The first input as the Rust writes it: the pad 0, and every flag 0 or 1. Such a file is opened without the walk that
-/// brings them to that form.
+/// The first input as the Rust writes it: the pad 0, and every flag 0 or 1.
 fn in_written_form() -> Input {
     let routine = Routine::from_vec(&instructions()).expect("the measured files are accepted");
     let file = routine.into_bytes().expect("what was read is written");
