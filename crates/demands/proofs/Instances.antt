@@ -4,12 +4,13 @@ use native.Mathlib.Omega.{arith}
 use Rattle.fields.specs.Parse.{bind, le, uint, int, part, many, span, pad, flag}
 use Rattle.fields.specs.Bytes.{put}
 use Rattle.fields.specs.Outcome.{after, refusal-of, refuse-if, refuse-unless, what-is-read, attempt}
-use Rattle.fields.specs.Lists.{choose, same, has, every, last-of, but-last, last-is}
+use Rattle.fields.specs.Lists.{choose, same, has, any, every, last-of, but-last, last-is}
 use Rattle.op.specs.Ops.{names, counts, index-of}
 use Rattle.op.specs.Text.{lead, next-state, text}
 use Rattle.pod.specs.Blocks.{repeats}
 use Rattle.pod.specs.Layout as layout
 use Rattle.pod.specs.Sound as sd
+use Rattle.pod.specs.Descs as dc
 use Rattle.pod.specs.Written as w
 use Rattle.machine.specs.Trailer as tr
 use Rattle.machine.specs.Edits as e
@@ -28,7 +29,7 @@ unfolding refusal-of refuse-if refuse-unless what-is-read attempt bind choose le
     m.machine-undo m.machine-call m.machine-step m.machine-run tr.trailer-bytes tr.trailer j.read-size j.entry j.is-fresh j.or-spoiled j.whole
     j.undo-create j.undo-remove j.without-last j.undo-append j.undo-entry j.undone put b.in-image b.opened b.opening b.open-book b.held
     b.edit-book b.restored b.undo-book b.call-book b.step b.run c.group c.total c.cents c.subtracted c.added c.carried every
-    sd.is-slice sd.sound-operand sd.appended
+    sd.is-slice sd.sound-operand sd.appended any dc.operand-desc dc.places dc.instruction-desc dc.desc-instruction dc.writing dc.written-to
 instances =
     record {
       smallest-read = refl;
@@ -95,6 +96,14 @@ instances =
       foreign-first = refl;
       asked-in-turn = refl;
       sound-appended = refl;
+      third-asked = refl;
+      any-immediate = refl;
+      crooked-kept = refl;
+      crooked-written = refl;
+      append-alone = refl;
+      conventions-told = refl;
+      blocks-told = refl;
+      routines-told = refl;
       crooked-refused = refl;
       gone-on = refl;
       library-crooked-refused = refl;

@@ -8,13 +8,15 @@ use lib.ListN.{length, take, getD, replicate}
 use lib.IntN.{ℤ, pos, negsuc}
 use Rattle.fields.specs.Parse.{ok, no, span}
 use Rattle.fields.specs.Bytes.{zeros}
+use Rattle.fields.specs.Lists.{has}
 use Rattle.fields.specs.Outcome.{Outcome, refused, accepted, refusal-of}
 use Rattle.op.specs.Ops.{number}
-use Rattle.pod.specs.Values.{Instruction, RoutineConvention, Routine}
+use Rattle.pod.specs.Values.{Instruction, RoutineConvention, BasicBlock, Routine}
 use Rattle.pod.specs.Blocks.{vips}
 use Rattle.pod.specs.Layout.{instruction, read-file}
-use Rattle.pod.specs.Sound.{is-slice}
+use Rattle.pod.specs.Sound.{is-slice, convention-sound, block-sound, routine-sound}
 use Rattle.pod.specs.Written.{bytes, operand-bytes, instruction-bytes, routine-bytes}
+use Rattle.pod.specs.Descs.{instruction-desc, write-instruction}
 use Rattle.pod.specs.declared.RegisterDesc.{RegisterDesc}
 use Rattle.pod.specs.declared.Operand.{Operand}
 use Rattle.pod.specs.declared.Operand.the-variants.{Imm, Reg}
@@ -23,6 +25,7 @@ use Rattle.machine.specs.Machine.{Call, edit, undo, Answer, start, machine-run}
 use Rattle.machine.specs.Book.{Book, State, held, open-book, step, run}
 use Rattle.machine.specs.Charge.{Rates, Fit-rates, group, rate-of, sum, cents}
 use Rattle.machine.specs.Look.{look-charge}
+use Rattle.demands.specs.Demand1.{opening-refusals, writer-refusals, call-refusals}
 use Rattle.demands.specs.Demand3.{with-sum}
 
 -- a header: its marks, machine and pad
@@ -215,9 +218,45 @@ crooked = neg-of (pos 80) (pos 0)
 abbrev pub up-to-offset : List ℕ
 up-to-offset = take 39 (instruction-bytes crooked)
 
--- a file with it
+-- a block of it, and a file with that block
+abbrev pub crooked-block : BasicBlock
+crooked-block = with-instructions (crooked ∷ []) (empty-block 5)
+
 abbrev pub crooked-file : List ℕ
-crooked-file = routine-bytes (with-blocks (with-instructions (crooked ∷ []) (empty-block 5) ∷ []) smallest-routine)
+crooked-file = routine-bytes (with-blocks (crooked-block ∷ []) smallest-routine)
+
+-- a register of width 0; a convention with these lists and frame register; and a routine with these conventions and blocks
+abbrev pub thin : RegisterDesc
+thin = record { flags = 0; «combined_id» = 0; «bit_count» = pos 0; «bit_offset» = pos 0 }
+
+abbrev pub convention-of : List RegisterDesc → List RegisterDesc → List RegisterDesc → RegisterDesc → RoutineConvention
+convention-of volatile param retval frame =
+    record {
+      volatile-registers = volatile;
+      param-registers = param;
+      retval-registers = retval;
+      frame-register = frame;
+      shadow-space = 0;
+      purge-stack = false;
+    }
+
+abbrev pub sound-convention : RoutineConvention
+sound-convention = convention-of (any-register ∷ []) [] [] any-register
+
+abbrev pub routine-of : RoutineConvention → RoutineConvention → List RoutineConvention → List BasicBlock → Routine
+routine-of own sub special blocks =
+    record {
+      arch-id = 2;
+      vip = 0;
+      routine-convention = own;
+      subroutine-convention = sub;
+      spec-subroutine-conventions = special;
+      explored-blocks = blocks;
+    }
+
+-- what the calls of a list are refused on the book of that file
+abbrev pub refused-on : List Call → List ℕ
+refused-on cs = map refusal-of (run cs (open-book crooked-file (replicate 250 9) (replicate 250 9) six-rates .1) .0)
 
 -- a mov of two operands, given by their bytes, as far as they go
 abbrev pub mov-of : List ℕ → List ℕ
@@ -341,6 +380,30 @@ pub record Instances : Type 0 where
       ≡ 19 ∷ 6 ∷ 19 ∷ []
   -- A sound register is appended
   pub sound-appended : map (λ (x : ℤ × ℤ). refused-to 5 (instruction-bytes (neg-of (x .0) (x .1)))) ((pos 1, pos 63) ∷ (pos 64, pos 0) ∷ []) ≡ 0 ∷ 0 ∷ []
+  -- The third operand is asked too; an immediate of any width is not
+  pub third-asked : refused-to 5 (instruction-bytes (plain 26 (slice-of (pos 1) (pos 0) ∷ slice-of (pos 1) (pos 0) ∷ slice-of (pos 1) (pos 64) ∷ []))) ≡ 19
+  pub any-immediate :
+      map (λ w. refused-to 5 (instruction-bytes (plain 38 (Imm (record { value = 1; «bit_count» = w }) ∷ [])))) (0 ∷ 65 ∷ (2 ^ 32 - 1) ∷ []) ≡ 0 ∷ 0 ∷ 0 ∷ []
+  -- On the book of that file a nop is appended behind it and taken back, and its block removed and taken back. The writer writes it
+  pub crooked-kept : refused-on (append-to-5 a-nop ∷ undo ∷ edit (remove 5) ∷ undo ∷ []) ≡ 0 ∷ 0 ∷ 0 ∷ 0 ∷ []
+  pub crooked-written : refusal-of (write-instruction (zeros 60) (instruction-desc crooked) .0) ≡ 0
+  -- 19 is append's alone
+  pub append-alone :
+      map (has 19) (call-refusals (edit (create 5)) ∷ call-refusals (edit (remove 5)) ∷ call-refusals undo ∷ opening-refusals ∷ writer-refusals ∷ [])
+      ≡ false ∷ false ∷ false ∷ false ∷ false ∷ []
+  -- It is told of a convention by each of its lists and its frame register, of a block by its instructions, and of a routine by its four parts
+  pub conventions-told :
+      map convention-sound
+      (convention-of [] [] [] any-register ∷ convention-of (any-register ∷ thin ∷ []) [] [] any-register ∷ convention-of [] (thin ∷ []) [] any-register
+      ∷ convention-of [] [] (thin ∷ []) any-register ∷ convention-of [] [] [] thin ∷ [])
+      ≡ true ∷ false ∷ false ∷ false ∷ false ∷ []
+  pub blocks-told : map (λ is. block-sound (with-instructions is (empty-block 5))) ((a-nop ∷ neg-of (pos 64) (pos 0) ∷ []) ∷ (a-nop ∷ crooked ∷ []) ∷ []) ≡ true ∷ false ∷ []
+  pub routines-told :
+      map routine-sound
+      (routine-of sound-convention sound-convention (sound-convention ∷ []) (empty-block 5 ∷ []) ∷ routine-of no-convention sound-convention [] []
+      ∷ routine-of sound-convention no-convention [] [] ∷ routine-of sound-convention sound-convention (sound-convention ∷ no-convention ∷ []) []
+      ∷ routine-of sound-convention sound-convention [] (empty-block 6 ∷ crooked-block ∷ []) ∷ [])
+      ≡ true ∷ false ∷ false ∷ false ∷ false ∷ []
   -- On the 114 bytes, image 222 and journal 116, create 5 and append it: 19. Create 6: length 186, used 40
   pub crooked-refused : answer-to appends-crooked ≡ refused 19
   pub gone-on : answer-to goes-on ≡ answered 186 40
