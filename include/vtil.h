@@ -492,10 +492,10 @@ vtil_answer vtil_remove_block(vtil_book book, uint8_t *image, size_t image_len, 
  * and looked at as any other, and vtil_undo brings back a removed block that has them.
  *
  * Refusals, in this order: 10, 13; 1, 2, 5, 6, 7, 8 or 19, whichever field of the
- * instruction fails first (1: its bytes end too early; 19: a crooked register fails at
- * its offset, whatever follows there, or if nothing does); 17 when bytes are left
- * after the instruction; 15 when no block has this vip; 18 when the block is closed;
- * 11, 12; 13 when the book's sum would pass 2^64 - 1 with that rate.
+ * instruction fails first (1: its bytes end too early; 19: a crooked register fails as
+ * soon as its offset has been read, whatever is wrong behind it); 17 when bytes are
+ * left after the instruction; 15 when no block has this vip; 18 when the block is
+ * closed; 11, 12; 13 when the book's sum would pass 2^64 - 1 with that rate.
  */
 vtil_answer vtil_append(vtil_book book, uint8_t *image, size_t image_len, uint8_t *journal, size_t journal_len,
                         uint64_t vip, const uint8_t *instruction, size_t instruction_len);
