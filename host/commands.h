@@ -22,7 +22,7 @@ static inline enum status worse(enum status a, enum status b)
 /* What a subcommand was asked: as many files as it takes, and its options. */
 struct request {
     int count;
-    char **files;
+    char **files;       /* of `send` the second one is the folder */
     const char *out;    /* -o; NULL where it was not given */
     const char *script; /* -s; NULL where it was not given */
     const char *rates;  /* --rates; NULL where it was not given */
@@ -36,6 +36,7 @@ enum status normalize_command(const struct request *request);
 enum status same_command(const struct request *request);
 enum status edit_command(const struct request *request);
 enum status charge_command(const struct request *request);
+enum status send_command(const struct request *request);
 
 /* Prints a file's name with control characters as \xNN, so that a line stays one line. */
 void print_name(FILE *to, const char *name);

@@ -71,6 +71,13 @@ static const struct command commands[] = {
      "  --json     print the same as JSON, for programs\n"
      "Exit status: 0 the charge was printed; 1 the file was refused.\n",
      "jrv", "r", 1, 1, charge_command},
+    {"send", "FILE DIR", "write each block of the routine, one after the other, to a file of its own in the folder DIR",
+     "Each file has the bytes of one block in written form, and is named by the place of the block,\n"
+     "counted from 0, and its vip, such as 000003-0x40.block. How many were sent is said at the end.\n"
+     "DIR is there already, and no file in it has a name that ends in .block: none is overwritten.\n"
+     "Where a file can't be written, those before it stay, and no more are sent.\n"
+     "Exit status: 0 every block was sent; 1 FILE was refused, and nothing was written.\n",
+     "", "", 2, 2, send_command},
 };
 
 #define COMMANDS (sizeof commands / sizeof commands[0])
@@ -257,7 +264,7 @@ static enum status run_request(const struct command *command, const struct reque
     if (request->count == 0)
         return bad_usage(command, "no file given to ", command->name);
     if (request->count < command->least)
-        return bad_usage(command, "too few files given to ", command->name);
+        return bad_usage(command, command->run == send_command ? "no folder given to " : "too few files given to ", command->name);
     if (request->count > command->most)
         return bad_usage(command, "too many files given to ", command->name);
     if (strchr(command->needed, 'o') != NULL && request->out == NULL)
@@ -270,6 +277,8 @@ static enum status run_request(const struct command *command, const struct reque
         return bad_usage(command, "--json and --verbose can't both be given to ", command->name);
     if (request->script != NULL && strcmp(request->script, "-") == 0 && strcmp(request->files[0], "-") == 0)
         return bad_usage(command, "FILE and SCRIPT can't both be standard input (-) for ", command->name);
+    if (command->run == send_command && strcmp(request->files[1], "-") == 0)
+        return bad_usage(command, "DIR can't be standard output (-) for ", command->name);
     return command->run(request);
 }
 

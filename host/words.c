@@ -22,6 +22,8 @@ static const char *const words[] = {
     [VTIL_LEFTOVER] = "leftover: bytes after the appended instruction",
     [VTIL_CLOSED_BLOCK] = "closed block: its last instruction is js, jmp, vexit or vxcall",
     [VTIL_CROOKED_REGISTER] = "crooked register: width under 1, offset under 0, or their sum over 64",
+    [VTIL_WALK_OPEN] = "walk open: it was started, and neither ended nor abandoned",
+    [VTIL_NO_WALK] = "no walk: none was started, or it has ended or was abandoned",
 };
 
 const char *refusal_words(int64_t number)

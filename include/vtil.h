@@ -60,7 +60,9 @@ enum vtil_refusal {
     VTIL_NOTHING_TO_TAKE_BACK = 16, /* nothing to take back */
     VTIL_LEFTOVER = 17,             /* leftover: bytes after the appended instruction */
     VTIL_CLOSED_BLOCK = 18,         /* closed block: its last instruction is js, jmp, vexit or vxcall */
-    VTIL_CROOKED_REGISTER = 19      /* crooked register: width under 1, offset under 0, or their sum over 64 */
+    VTIL_CROOKED_REGISTER = 19,     /* crooked register: width under 1, offset under 0, or their sum over 64 */
+    VTIL_WALK_OPEN = 20,            /* walk open: it was started, and neither ended nor abandoned */
+    VTIL_NO_WALK = 21               /* no walk: none was started, or it has ended or was abandoned */
 };
 
 /* ==== Checking a file ============================================================ */
@@ -247,8 +249,9 @@ typedef struct {
  *   journal  lent memory that holds what vtil_undo needs. It may have length 0:
  *            then the routine can be looked at, but every edit is refused.
  *   book     two lengths, how many bytes of the image are the written form and how
- *            many bytes of the journal are used; and for the charge the rates that it
- *            was opened at, and the running sum.
+ *            many bytes of the journal are used; for the charge the rates that it was
+ *            opened at, and the running sum; and the place of a walk that is open
+ *            ("Sending block by block", below).
  *
  * Keep the three together: hand to each call the book that the call before it
  * answered, with the same image and journal at the same lengths, unchanged in
@@ -262,13 +265,14 @@ typedef struct {
  *
  * A book is spoiled, and every call on it is refused 13, when `written` is over
  * the image's length, `used` is over the journal's length, the first `written`
- * bytes of the image are not exactly one routine in written form, or a byte after
- * them is not 0. What the journal holds is tested by vtil_undo alone.
+ * bytes of the image are not exactly one routine in written form, a byte after
+ * them is not 0, or a walk is open and its place, `walk` - 1, is over the number of
+ * blocks. What the journal holds is tested by vtil_undo alone.
  *
  * The rates of a book are those that it was opened at: no call changes them. Its sum
  * is that of all instructions at these rates. vtil_open works it out; from then on
  * vtil_append adds the rate of the instruction, vtil_remove_block subtracts the sum of
- * the block, and vtil_undo takes either back, without a walk over the routine for it.
+ * the block, and vtil_undo takes either back, without a pass over the routine for it.
  * So the charge is there after every call. In whole cents, rounded up once, it is
  *
  *     sum / 100 + (sum % 100 != 0)
@@ -290,7 +294,7 @@ typedef struct {
  *   call do not overlap. Nothing is kept after the call.
  *   A refused call changes no byte of image and journal. Where it answers a book,
  *   it is the one that was handed in (vtil_open and vtil_run: a book of zeros, the
- *   rates and the sum too).
+ *   rates, the sum and the walk too).
  * Of every call here but vtil_run and vtil_run_on, which make several of the others:
  *   Image and journal have at most 16,777,216 bytes each (VTIL_MOST_LENT); a longer
  *   one is refused 10 before anything else.
@@ -302,6 +306,7 @@ typedef struct {
     uint64_t used;    /* bytes of the journal that are used */
     vtil_rates rates; /* those of the opening */
     uint64_t sum;     /* of all instructions at these rates, in hundredths of a cent */
+    uint64_t walk;    /* 0 where no walk is open; else 1 and the place of the block to be handed out next */
 } vtil_book;
 
 typedef struct {
@@ -316,8 +321,9 @@ typedef struct {
  *   rates  the book's, from now on. Any numbers; all 0 where no charge is wanted.
  *
  * Answers the book of the routine; its written length is what vtil_check answers
- * for the same file, nothing of the journal is used, and its sum is that of the
- * file's instructions, less than 2^52 at any rates. The file may be let go.
+ * for the same file, nothing of the journal is used, its sum is that of the file's
+ * instructions, less than 2^52 at any rates, and no walk is open. The file may be let
+ * go.
  *
  * Refusals, in this order: 10; 1 to 9, as vtil_check; 11 when the written form is
  * longer than the image. The journal is not a reason: any length up to the limit
@@ -349,8 +355,8 @@ vtil_written vtil_write_instruction(vtil_instruction_desc value, uint8_t *image,
 
 /*
  * Looking. Each call answers a part of the routine, named by places that count
- * from 0. Image and journal are only read. In a refused answer every field but
- * the refusal is 0, also those of a struct within it.
+ * from 0. Image and journal are only read. A walk may be open. In a refused answer
+ * every field but the refusal is 0, also those of a struct within it.
  *
  * As every call on a book each of these reads the whole image first. To look at all
  * of a routine, read it by offset, above: a loop over these costs a pass over the
@@ -423,8 +429,8 @@ vtil_register_look vtil_convention_register(vtil_book book, const uint8_t *image
 /*
  * vtil_charge answers the charge of a routine in whole cents, worked afresh at the rates
  * that are handed in here. The rates and the sum of the book are not looked at. Image
- * and journal are only read; as every call on a book this one reads the whole image
- * first, and then once more.
+ * and journal are only read, and a walk may be open; as every call on a book this one
+ * reads the whole image first, and then once more.
  *
  * No sum wraps: what an image can hold comes to less than 2^52 hundredths of a cent.
  * How many instructions of group g there are is the charge at rate 100 for group g
@@ -449,6 +455,10 @@ vtil_charge_look vtil_charge(vtil_book book, const uint8_t *image, size_t image_
  * 13 as any call on a book; its own refusals come next; then come 11, when the new
  * written form is longer than the image, and 12, when the entry does not fit what is
  * left of the journal; and last, where the sum changes, 13 of the sum.
+ *
+ * While a walk is open vtil_create_block and vtil_append go on as ever, and leave the
+ * walk at its place. vtil_remove_block and vtil_undo would move blocks across that
+ * place or take them away, and are refused 20.
  */
 
 /*
@@ -466,8 +476,8 @@ vtil_answer vtil_create_block(vtil_book book, uint8_t *image, size_t image_len, 
  * place. The journal needs the block's size and 20 bytes more. The sum of the block
  * at the book's rates is subtracted.
  *
- * Refusals, in this order: 10, 13; 15 when no block has this vip; 12; 13 when the
- * book's sum is smaller than the block's.
+ * Refusals, in this order: 10, 13; 20 when a walk is open; 15 when no block has this
+ * vip; 12; 13 when the book's sum is smaller than the block's.
  */
 vtil_answer vtil_remove_block(vtil_book book, uint8_t *image, size_t image_len, uint8_t *journal, size_t journal_len,
                               uint64_t vip);
@@ -507,20 +517,110 @@ vtil_answer vtil_append(vtil_book book, uint8_t *image, size_t image_len, uint8_
  * that comes back is added, the rate of an instruction that goes is subtracted, both
  * at the book's rates; where a created block goes the sum stays, whatever it is.
  *
- * Refusals, in this order: 10, 13; 16 when nothing of the journal is used; 13 when
- * its used part does not end in an entry that fits the image; 13 when the book's sum
- * is smaller than what is to be subtracted, or would pass 2^64 - 1 with what is to be
- * added. Neither happens to a book from vtil_open that was handed on as it was
- * answered, and whose image and journal nobody else wrote or cut.
+ * Refusals, in this order: 10, 13; 20 when a walk is open; 16 when nothing of the
+ * journal is used; 13 when its used part does not end in an entry that fits the image;
+ * 13 when the book's sum is smaller than what is to be subtracted, or would pass
+ * 2^64 - 1 with what is to be added. Neither of these two happens to a book from
+ * vtil_open that was handed on as it was answered, and whose image and journal nobody
+ * else wrote or cut.
  */
 vtil_answer vtil_undo(vtil_book book, uint8_t *image, size_t image_len, uint8_t *journal, size_t journal_len);
 
+/* ==== Sending block by block ====================================================== */
+
+/*
+ * A walk hands out the blocks of an open routine one by one, first place first, while
+ * authors go on working. Start it, and take the next block until the length is 0: that
+ * is the end, which closes the walk. To send them all:
+ *
+ *     vtil_answer started = vtil_walk_start(book, image, image_len, journal, journal_len);
+ *     if (started.refusal != 0)
+ *         return started.refusal;
+ *     book = started.book;
+ *     for (;;) {
+ *         vtil_walk_answer next = vtil_walk_next(book, image, image_len, journal, journal_len);
+ *         if (next.refusal != 0)
+ *             return next.refusal;
+ *         book = next.book;
+ *         if (next.length == 0)
+ *             break;
+ *         send(image + next.offset, next.length);
+ *     }
+ *
+ * The bytes that are handed out are those of the block in the image, in written form;
+ * vtil_read_block reads them at the offset. They stand there until the next edit: an
+ * append makes its block longer and moves every block after it. So send or copy them
+ * first.
+ *
+ * Between two turns of this loop create and append are allowed. Each is handed the
+ * book that the walk answered, and the walk goes on with the book that it answers.
+ *   A new block comes last, so it is sent too; also one that is created when the last
+ *   block has been handed out and the end has not been said.
+ *   An instruction that is appended to a block still to come is sent with it. One that
+ *   is appended to a block already handed out is not sent: the block is not handed out
+ *   again.
+ *   vtil_remove_block and vtil_undo are refused 20 until the walk is closed.
+ * So a walk that has come to its end has handed out every block that stands then, each
+ * once and in order, as it stood when it was handed out.
+ *
+ * A walk is closed by its end or by vtil_walk_abandon. The next one begins with the
+ * first block again and sends all of them again.
+ *
+ * Where the walk stands is in the book, in `walk`, and nowhere else: no byte of image
+ * and journal tells of it, and undo does not take it back. These calls only read image
+ * and journal, and leave all of the book but `walk`. A refused one leaves that too.
+ *
+ * As every call on a book each of these reads the whole image first, so a walk costs a
+ * pass over the image for each block. Where nobody edits meanwhile, read the blocks by
+ * offset, above, which takes one pass for all.
+ */
+
+/*
+ * vtil_walk_start opens a walk, which hands out the first block next. A routine without
+ * blocks can be walked too: its first next is the end.
+ *
+ * Refusals, in this order: 10, 13; 20 when a walk is open.
+ */
+vtil_answer vtil_walk_start(vtil_book book, const uint8_t *image, size_t image_len, const uint8_t *journal,
+                            size_t journal_len);
+
+/* The end, which closes the walk, is refusal 0 and length 0: a block has 36 bytes at least. */
+typedef struct {
+    uint64_t refusal; /* 0: accepted */
+    vtil_book book;   /* to be handed to the next call */
+    uint64_t offset;  /* where the block begins in the image; 0 at the end, and when refused */
+    uint64_t length;  /* how many bytes it has there; 0 at the end, and when refused */
+} vtil_walk_answer;
+
+/*
+ * vtil_walk_next answers where the next block stands in the image, and how long it is.
+ * After the last block it answers the end; the answer that hands out the last block
+ * does not say so.
+ *
+ * Refusals, in this order: 10, 13; 21 when no walk is open.
+ */
+vtil_walk_answer vtil_walk_next(vtil_book book, const uint8_t *image, size_t image_len, const uint8_t *journal,
+                                size_t journal_len);
+
+/*
+ * vtil_walk_abandon closes a walk wherever it stands.
+ *
+ * Refusals, in this order: 10, 13; 21 when no walk is open.
+ */
+vtil_answer vtil_walk_abandon(vtil_book book, const uint8_t *image, size_t image_len, const uint8_t *journal,
+                              size_t journal_len);
+
+/* ==== Lists of calls ============================================================== */
+
 /* The kinds of calls in a list. The numbers are fixed. */
 enum vtil_call {
-    VTIL_CREATE = 0, /* vtil_create_block */
-    VTIL_REMOVE = 1, /* vtil_remove_block */
-    VTIL_APPEND = 2, /* vtil_append */
-    VTIL_UNDO = 3    /* vtil_undo */
+    VTIL_CREATE = 0,      /* vtil_create_block */
+    VTIL_REMOVE = 1,      /* vtil_remove_block */
+    VTIL_APPEND = 2,      /* vtil_append */
+    VTIL_UNDO = 3,        /* vtil_undo */
+    VTIL_WALK_START = 4,  /* vtil_walk_start */
+    VTIL_WALK_NEXT = 5,   /* vtil_walk_next */
+    VTIL_WALK_ABANDON = 6 /* vtil_walk_abandon */
 };
 
 /*
@@ -533,7 +633,7 @@ enum vtil_call {
  *   words_len  the number of words, not of bytes: four times the number of calls.
  *   bytes      the instructions to append, as vtil_append takes them.
  *
- * Words that are not four for each call, a kind over 3, or a part that does not
+ * Words that are not four for each call, a kind over 6, or a part that does not
  * begin at or before its end within `bytes` are no list of calls. They are refused
  * 15 before all else.
  *
@@ -543,11 +643,17 @@ enum vtil_call {
  * call answered. So where `refusal` is 0, image and journal hold what the accepted
  * calls of the list did, whatever `last` says. A refused run makes no call and
  * changes no byte of image and journal.
+ *
+ * A list may start a walk, go on with one and close it. What vtil_walk_next answers
+ * is told of the last call alone: of the others only where they leave the walk. So to
+ * send blocks, let each list end in its VTIL_WALK_NEXT.
  */
 typedef struct {
     uint64_t refusal; /* of the words (15) or of the opening: then nothing was changed. 0: the calls were made */
     uint64_t last;    /* the refusal of the last call; 0 where it was accepted, the list is empty or the run is refused */
     vtil_book book;   /* after the list, to be handed to the next call */
+    uint64_t offset;  /* what vtil_walk_next answered, where the last call is one; else 0 */
+    uint64_t length;  /* the same */
 } vtil_run_answer;
 
 /*

@@ -11,7 +11,10 @@
 
 /* Values ------------------------------------------------------------------------------------- */
 
-/* Beside the values stands where each list's first element was read: `.._at`. It counts only right after reading. */
+/*
+ * Beside the values stands where each list's first element was read, `.._at`, and where a block was, `at` and `end`. This
+ * counts only right after reading.
+ */
 struct convention {
     uint64_t counts[3], registers_at[3]; /* volatile, param, retval */
     vtil_register_desc *registers[3];
@@ -21,6 +24,7 @@ struct convention {
 };
 
 struct block {
+    uint64_t at, end;
     uint64_t vip;
     int64_t sp_offset;
     uint32_t sp_index, last_temporary;
@@ -284,6 +288,7 @@ static struct convention read_convention(struct reader *r)
 static struct block read_block(struct reader *r)
 {
     struct block block;
+    block.at = r->at;
     block.vip = number(r, 8);
     block.sp_offset = (int64_t)number(r, 8);
     block.sp_index = (uint32_t)number(r, 4);
@@ -302,6 +307,7 @@ static struct block read_block(struct reader *r)
         for (uint64_t i = 0; i < count && fine(r); i++)
             vips[i] = number(r, 8);
     }
+    block.end = r->at;
     return block;
 }
 
@@ -636,7 +642,7 @@ static bool too_large(const struct ref_book *book)
 }
 
 /* An answer of this refusal, 0 for none, and the book as it is. */
-static vtil_answer answer(const struct ref_book *book, uint64_t refusal)
+static vtil_answer opening(const struct ref_book *book, uint64_t refusal)
 {
     return (vtil_answer){refusal, book->numbers};
 }
@@ -647,19 +653,19 @@ vtil_answer ref_open(struct ref_book *book, const uint8_t *file, size_t len, vti
     forget();
     book->numbers = (vtil_book){0};
     if (too_large(book))
-        return answer(book, 10);
+        return opening(book, 10);
     struct routine routine = read_routine(&r);
     if (!fine(&r))
-        return answer(book, r.refusal);
+        return opening(book, r.refusal);
     if (routine_size(&routine) > book->image_len)
-        return answer(book, 11);
+        return opening(book, 11);
     fill_image(book->image, book->image_len, &routine);
     if (book->journal_len > 0)
         memset(book->journal, 0, book->journal_len);
     book->numbers.written = routine_size(&routine);
     book->numbers.rates = rates;
     book->numbers.sum = routine_sum(&routine, rates);
-    return answer(book, 0);
+    return opening(book, 0);
 }
 
 static bool all_zero(const uint8_t *bytes, size_t len)
@@ -689,6 +695,8 @@ static uint64_t held(const struct ref_book *book, struct routine *out)
     struct reader r = {.bytes = book->image, .len = written};
     *out = read_routine(&r);
     if (!fine(&r) || !is_written(book->image, written, out))
+        return 13;
+    if (book->numbers.walk != 0 && book->numbers.walk - 1 > out->blocks)
         return 13;
     return all_zero(book->image + written, book->image_len - written) ? 0 : 13;
 }
@@ -951,6 +959,42 @@ static uint64_t edit_within(const struct routine *routine, const struct ref_call
     return 0;
 }
 
+/* Walks: what a call does to one, for a book and for the machine ------------------------------------------ */
+
+/* What is refused because a walk is open, or because none is. */
+static uint64_t walk_refusal(uint64_t walk, enum vtil_call kind)
+{
+    switch (kind) {
+    case VTIL_REMOVE:
+    case VTIL_UNDO:
+    case VTIL_WALK_START: return walk != 0 ? 20 : 0;
+    case VTIL_WALK_NEXT:
+    case VTIL_WALK_ABANDON: return walk == 0 ? 21 : 0;
+    default: return 0;
+    }
+}
+
+static bool is_walk_call(enum vtil_call kind)
+{
+    return kind == VTIL_WALK_START || kind == VTIL_WALK_NEXT || kind == VTIL_WALK_ABANDON;
+}
+
+/*
+ * Moves a walk over so many blocks as the call does, where it is not refused. Answers the place of the block that it hands
+ * out; where it hands out none, how many there are.
+ */
+static uint64_t walk_on(enum vtil_call kind, uint64_t blocks, uint64_t *walk)
+{
+    uint64_t place = kind == VTIL_WALK_NEXT ? *walk - 1 : blocks;
+    if (kind == VTIL_WALK_START)
+        *walk = 1;
+    else if (place == blocks)
+        *walk = 0;
+    else
+        *walk += 1;
+    return place;
+}
+
 /* Undo on a book: taking back the journal's last entry ------------------------------------------------ */
 
 struct trailer {
@@ -1046,6 +1090,12 @@ static bool take_back(const struct ref_book *book, const struct routine *routine
 
 /* Calls on a book --------------------------------------------------------------------------------------- */
 
+/* An answer of this refusal, 0 for none, and the book as it is. */
+static vtil_walk_answer answer(const struct ref_book *book, uint64_t refusal)
+{
+    return (vtil_walk_answer){.refusal = refusal, .book = book->numbers};
+}
+
 /* What the book's sum becomes, at the book's rates. False: it is smaller than what goes, or too large with what comes. */
 static bool next_sum(const vtil_book *numbers, const struct edited *after, uint64_t *sum)
 {
@@ -1057,7 +1107,7 @@ static bool next_sum(const vtil_book *numbers, const struct edited *after, uint6
     return true;
 }
 
-static vtil_answer stored(struct ref_book *book, const struct routine *routine, uint64_t used, uint64_t sum)
+static vtil_walk_answer stored(struct ref_book *book, const struct routine *routine, uint64_t used, uint64_t sum)
 {
     fill_image(book->image, book->image_len, routine);
     book->numbers.written = routine_size(routine);
@@ -1066,7 +1116,7 @@ static vtil_answer stored(struct ref_book *book, const struct routine *routine, 
     return answer(book, 0);
 }
 
-static vtil_answer undo(struct ref_book *book, const struct routine *routine)
+static vtil_walk_answer undo(struct ref_book *book, const struct routine *routine)
 {
     struct edited back = {0};
     uint64_t sum;
@@ -1079,25 +1129,46 @@ static vtil_answer undo(struct ref_book *book, const struct routine *routine)
     return stored(book, &back.routine, used, sum);
 }
 
-vtil_answer ref_step(struct ref_book *book, const struct ref_call *call)
+/* A block that is handed out stands in the image where it was read. */
+static vtil_walk_answer walk(struct ref_book *book, const struct routine *routine, enum vtil_call kind)
 {
-    struct routine routine;
+    uint64_t place = walk_on(kind, routine->blocks, &book->numbers.walk);
+    vtil_walk_answer walked = answer(book, 0);
+    if (place == routine->blocks)
+        return walked;
+    walked.offset = routine->block[place].at;
+    walked.length = routine->block[place].end - routine->block[place].at;
+    return walked;
+}
+
+static vtil_walk_answer edit_book(struct ref_book *book, const struct routine *routine, const struct ref_call *call)
+{
     struct edited after = {0};
     uint64_t sum;
-    forget();
-    uint64_t refusal = held(book, &routine);
-    if (refusal != 0)
-        return answer(book, refusal);
-    if (call->kind == VTIL_UNDO)
-        return undo(book, &routine);
     size_t used = (size_t)book->numbers.used;
-    refusal = edit_within(&routine, call, book->image_len, used, book->journal_len, &after);
+    uint64_t refusal = edit_within(routine, call, book->image_len, used, book->journal_len, &after);
     if (refusal == 0 && !next_sum(&book->numbers, &after, &sum))
         refusal = 13;
     if (refusal != 0)
         return answer(book, refusal);
     memcpy(book->journal + used, after.entry, after.cost);
     return stored(book, &after.routine, used + after.cost, sum);
+}
+
+vtil_walk_answer ref_step(struct ref_book *book, const struct ref_call *call)
+{
+    struct routine routine;
+    forget();
+    uint64_t refusal = held(book, &routine);
+    if (refusal == 0)
+        refusal = walk_refusal(book->numbers.walk, call->kind);
+    if (refusal != 0)
+        return answer(book, refusal);
+    if (call->kind == VTIL_UNDO)
+        return undo(book, &routine);
+    if (is_walk_call(call->kind))
+        return walk(book, &routine, call->kind);
+    return edit_book(book, &routine, call);
 }
 
 /* Lists of calls ------------------------------------------------------------------------------------------- */
@@ -1108,28 +1179,30 @@ bool ref_is_list(const struct ref_list *list)
         return false;
     for (size_t i = 0; i < list->words_len; i += 4) {
         uint64_t kind = list->words[i], begin = list->words[i + 2], end = list->words[i + 3];
-        if (kind > VTIL_UNDO || begin > end || end > list->bytes_len)
+        if (kind > VTIL_WALK_ABANDON || begin > end || end > list->bytes_len)
             return false;
     }
     return true;
 }
 
-static vtil_run_answer run_answer(const struct ref_book *book, uint64_t refusal, uint64_t last)
+/* A run that is refused, or has made no call. */
+static vtil_run_answer run_answer(const struct ref_book *book, uint64_t refusal)
 {
-    return (vtil_run_answer){.refusal = refusal, .last = last, .book = book->numbers};
+    return (vtil_run_answer){.refusal = refusal, .book = book->numbers};
 }
 
 vtil_run_answer ref_run_on(struct ref_book *book, const struct ref_list *list)
 {
-    uint64_t last = 0;
     if (!ref_is_list(list))
-        return run_answer(book, 15, 0);
+        return run_answer(book, 15);
+    vtil_run_answer run = run_answer(book, 0);
     for (size_t i = 0; i < list->words_len; i += 4) {
         const uint64_t *words = list->words + i;
         struct ref_call call = {(enum vtil_call)words[0], words[1], list->bytes + words[2], (size_t)(words[3] - words[2])};
-        last = ref_step(book, &call).refusal;
+        vtil_walk_answer last = ref_step(book, &call);
+        run = (vtil_run_answer){0, last.refusal, last.book, last.offset, last.length};
     }
-    return run_answer(book, 0, last);
+    return run;
 }
 
 vtil_run_answer ref_run(struct ref_book *book, const uint8_t *file, size_t len, const struct ref_list *list,
@@ -1137,9 +1210,9 @@ vtil_run_answer ref_run(struct ref_book *book, const uint8_t *file, size_t len, 
 {
     book->numbers = (vtil_book){0};
     if (!ref_is_list(list))
-        return run_answer(book, 15, 0);
+        return run_answer(book, 15);
     uint64_t refusal = ref_open(book, file, len, rates).refusal;
-    return refusal != 0 ? run_answer(book, refusal, 0) : ref_run_on(book, list);
+    return refusal != 0 ? run_answer(book, refusal) : ref_run_on(book, list);
 }
 
 /* The routine machine -------------------------------------------------------------------------------------- */
@@ -1159,6 +1232,7 @@ struct ref_machine {
     size_t image_len, journal_len;
     vtil_rates rates;
     struct form now;
+    uint64_t walk;         /* as a book has it */
     struct earlier *stack; /* document 01's pile */
     size_t count;
 };
@@ -1185,7 +1259,7 @@ struct ref_machine *ref_machine_start(const uint8_t *file, size_t len, size_t im
     struct ref_machine *machine = checked(malloc(sizeof *machine));
     forget();
     struct routine routine = read_routine(&r);
-    *machine = (struct ref_machine){image_len, journal_len, rates, form_of(&routine), NULL, 0};
+    *machine = (struct ref_machine){image_len, journal_len, rates, form_of(&routine), 0, NULL, 0};
     return machine;
 }
 
@@ -1204,14 +1278,15 @@ static struct routine now(const struct ref_machine *machine)
     return read_routine(&r);
 }
 
-static vtil_answer machine_answer(const struct ref_machine *machine, uint64_t refusal)
+static vtil_walk_answer machine_answer(const struct ref_machine *machine, uint64_t refusal)
 {
     struct routine routine = now(machine);
     uint64_t sum = routine_sum(&routine, machine->rates);
-    return (vtil_answer){refusal, {machine->now.len, used(machine), machine->rates, sum}};
+    vtil_book book = {machine->now.len, used(machine), machine->rates, sum, machine->walk};
+    return (vtil_walk_answer){.refusal = refusal, .book = book};
 }
 
-static vtil_answer machine_undo(struct ref_machine *machine)
+static vtil_walk_answer machine_undo(struct ref_machine *machine)
 {
     if (machine->count == 0)
         return machine_answer(machine, 16);
@@ -1222,20 +1297,45 @@ static vtil_answer machine_undo(struct ref_machine *machine)
     return machine_answer(machine, 0);
 }
 
-vtil_answer ref_machine_step(struct ref_machine *machine, const struct ref_call *call)
+/* A block that is handed out begins where the same routine with no block from its place on would end. */
+static vtil_walk_answer machine_walk(struct ref_machine *machine, const struct routine *routine, enum vtil_call kind)
+{
+    uint64_t place = walk_on(kind, routine->blocks, &machine->walk);
+    vtil_walk_answer walked = machine_answer(machine, 0);
+    if (place == routine->blocks)
+        return walked;
+    struct routine before = *routine;
+    before.blocks = place;
+    walked.offset = routine_size(&before);
+    walked.length = block_size(&routine->block[place]);
+    return walked;
+}
+
+static vtil_walk_answer machine_edit(struct ref_machine *machine, const struct routine *routine,
+                                     const struct ref_call *call)
 {
     struct edited after = {0};
-    forget();
-    if (call->kind == VTIL_UNDO)
-        return machine_undo(machine);
-    struct routine routine = now(machine);
-    uint64_t refusal = edit_within(&routine, call, machine->image_len, used(machine), machine->journal_len, &after);
+    uint64_t refusal = edit_within(routine, call, machine->image_len, used(machine), machine->journal_len, &after);
     if (refusal != 0)
         return machine_answer(machine, refusal);
     machine->stack = checked(realloc(machine->stack, (machine->count + 1) * sizeof *machine->stack));
     machine->stack[machine->count++] = (struct earlier){machine->now, entry_of(&after)};
     machine->now = form_of(&after.routine);
     return machine_answer(machine, 0);
+}
+
+vtil_walk_answer ref_machine_step(struct ref_machine *machine, const struct ref_call *call)
+{
+    forget();
+    struct routine routine = now(machine);
+    uint64_t refusal = walk_refusal(machine->walk, call->kind);
+    if (refusal != 0)
+        return machine_answer(machine, refusal);
+    if (call->kind == VTIL_UNDO)
+        return machine_undo(machine);
+    if (is_walk_call(call->kind))
+        return machine_walk(machine, &routine, call->kind);
+    return machine_edit(machine, &routine, call);
 }
 
 uint64_t ref_machine_cents(const struct ref_machine *machine, vtil_rates rates)

@@ -64,9 +64,12 @@ struct ref_call {
     size_t len;
 };
 
-/* These change image, journal and numbers as the library's calls have to. */
+/*
+ * These change image, journal and numbers as the library's calls have to. A step answers as vtil_walk_next does, whatever
+ * its call is: offset and length are 0 but where a next hands out a block.
+ */
 vtil_answer ref_open(struct ref_book *book, const uint8_t *file, size_t len, vtil_rates rates);
-vtil_answer ref_step(struct ref_book *book, const struct ref_call *call);
+vtil_walk_answer ref_step(struct ref_book *book, const struct ref_call *call);
 
 /* A list of calls, encoded in words and bytes. */
 struct ref_list {
@@ -95,17 +98,19 @@ uint64_t ref_sum(const struct ref_book *book, vtil_rates rates);
 /* The routine machine --------------------------------------------------------------- */
 
 /*
- * A routine, and a stack of earlier ones (document 01's pile), each with the journal
- * entry of the edit that came after it, whose length is the edit's cost. It is fed the
- * file, the calls, the lent lengths and the rates, never a book. It carries no sum: the
- * sum of each answer is worked afresh on the routine that it then has.
+ * A routine, where a walk over its blocks stands, and a stack of earlier routines
+ * (document 01's pile), each with the journal entry of the edit that came after it,
+ * whose length is the edit's cost. It is fed the file, the calls, the lent lengths and
+ * the rates, never a book. It carries no sum: the sum of each answer is worked afresh on
+ * the routine that it then has. Where a block that is handed out stands, it works out
+ * from the sizes of what is written before it.
  */
 struct ref_machine;
 
 /* The file has to be accepted, and to fit an image of this length. ref_machine_free is owed. */
 struct ref_machine *ref_machine_start(const uint8_t *file, size_t len, size_t image_len, size_t journal_len,
                                       vtil_rates rates);
-vtil_answer ref_machine_step(struct ref_machine *machine, const struct ref_call *call);
+vtil_walk_answer ref_machine_step(struct ref_machine *machine, const struct ref_call *call);
 void ref_machine_free(struct ref_machine *machine);
 
 /* The charge of the machine's routine, in whole cents. */

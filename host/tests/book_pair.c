@@ -61,6 +61,7 @@ void hold_book(vtil_book got, vtil_book want)
     for (int i = 0; i < 6; i++)
         hold("the book's rate", (size_t)i, got.rates.rate[i], want.rates.rate[i]);
     hold("the book's sum", image.len, (int64_t)got.sum, (int64_t)want.sum);
+    hold("the book's walk", image.len, (int64_t)got.walk, (int64_t)want.walk);
 }
 
 void hold_answer(vtil_answer got, vtil_answer want)
@@ -68,6 +69,13 @@ void hold_answer(vtil_answer got, vtil_answer want)
     group.answers[want.refusal]++;
     hold("refusal", image.len, (int64_t)got.refusal, (int64_t)want.refusal);
     hold_book(got.book, want.book);
+}
+
+void hold_step(vtil_walk_answer got, vtil_walk_answer want)
+{
+    hold_answer((vtil_answer){got.refusal, got.book}, (vtil_answer){want.refusal, want.book});
+    hold("offset", image.len, (int64_t)got.offset, (int64_t)want.offset);
+    hold("length", image.len, (int64_t)got.length, (int64_t)want.length);
 }
 
 void hold_bytes(void)
@@ -197,7 +205,7 @@ static uint64_t any_sum(void)
 vtil_book any_book(uint64_t written, uint64_t used)
 {
     vtil_rates rates = any_rates();
-    return (vtil_book){written, used, rates, any_sum()};
+    return (vtil_book){written, used, rates, any_sum(), below(2)};
 }
 
 vtil_charge_look charge_both(vtil_book numbers, vtil_rates rates)

@@ -38,8 +38,9 @@ void copy_twin(void);
 /* Every field of the book. */
 void hold_book(vtil_book got, vtil_book want);
 
-/* The refusal, which is counted as due, and the book. */
+/* The refusal, which is counted as due, and the book; and of a call that may hand out a block, which one. */
 void hold_answer(vtil_answer got, vtil_answer want);
+void hold_step(vtil_walk_answer got, vtil_walk_answer want);
 
 /* Image and journal are what the reference's are. */
 void hold_bytes(void);
@@ -53,7 +54,10 @@ void look_once(vtil_book numbers);
 /* Each is 0, a small one, any one or the largest. */
 vtil_rates any_rates(void);
 
-/* A book made by hand of these two numbers, with any rates and a sum that need not fit them. */
+/*
+ * A book made by hand of these two numbers, with any rates and a sum that need not fit them; a walk is open, at the first
+ * place, or not.
+ */
 vtil_book any_book(uint64_t written, uint64_t used);
 
 /* The charge at these rates; holds the refusal, the cents and the bytes. Answers what was due. */

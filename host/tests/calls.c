@@ -19,29 +19,35 @@ void set_up_calls(void)
 
 /* One call in both ------------------------------------------------------------------------ */
 
-static vtil_answer library_call(vtil_book numbers, const struct ref_call *call)
+#define EDITED numbers, image.writable, image.len, journal.writable, journal.len
+#define WALKED numbers, image.readable, image.len, journal.readable, journal.len
+
+static vtil_walk_answer no_block(vtil_answer answer)
+{
+    return (vtil_walk_answer){.refusal = answer.refusal, .book = answer.book};
+}
+
+static vtil_walk_answer library_call(vtil_book numbers, const struct ref_call *call)
 {
     struct lent bytes = lend(&instruction_room, call->len, below(2) == 0);
     memcpy(bytes.plain, call->bytes, call->len);
     switch (call->kind) {
-    case VTIL_CREATE:
-        return vtil_create_block(numbers, image.writable, image.len, journal.writable, journal.len, call->vip);
-    case VTIL_REMOVE:
-        return vtil_remove_block(numbers, image.writable, image.len, journal.writable, journal.len, call->vip);
-    case VTIL_APPEND:
-        return vtil_append(numbers, image.writable, image.len, journal.writable, journal.len, call->vip, bytes.readable,
-                           bytes.len);
-    default:
-        return vtil_undo(numbers, image.writable, image.len, journal.writable, journal.len);
+    case VTIL_CREATE: return no_block(vtil_create_block(EDITED, call->vip));
+    case VTIL_REMOVE: return no_block(vtil_remove_block(EDITED, call->vip));
+    case VTIL_APPEND: return no_block(vtil_append(EDITED, call->vip, bytes.readable, bytes.len));
+    case VTIL_UNDO: return no_block(vtil_undo(EDITED));
+    case VTIL_WALK_START: return no_block(vtil_walk_start(WALKED));
+    case VTIL_WALK_NEXT: return vtil_walk_next(WALKED);
+    default: return no_block(vtil_walk_abandon(WALKED));
     }
 }
 
-vtil_answer call_both(const struct ref_call *call)
+vtil_walk_answer call_both(const struct ref_call *call)
 {
     vtil_book before = twin.numbers;
-    vtil_answer want = ref_step(&twin, call);
+    vtil_walk_answer want = ref_step(&twin, call);
     next_case();
-    hold_answer(library_call(before, call), want);
+    hold_step(library_call(before, call), want);
     hold_bytes();
     return want;
 }
@@ -60,11 +66,19 @@ uint64_t some_vip(void)
     return below(6);
 }
 
+/* The more often one stands here, the more often it comes. */
+enum vtil_call any_kind(void)
+{
+    static const enum vtil_call kinds[] = {
+        VTIL_CREATE, VTIL_CREATE, VTIL_CREATE, VTIL_REMOVE, VTIL_REMOVE,     VTIL_APPEND,    VTIL_APPEND,    VTIL_APPEND,
+        VTIL_APPEND, VTIL_APPEND, VTIL_UNDO,   VTIL_UNDO,   VTIL_WALK_START, VTIL_WALK_NEXT, VTIL_WALK_NEXT, VTIL_WALK_ABANDON,
+    };
+    return kinds[below(sizeof kinds / sizeof kinds[0])];
+}
+
 struct ref_call any_call(struct bytes *made)
 {
-    static const enum vtil_call kinds[] = {VTIL_CREATE, VTIL_CREATE, VTIL_REMOVE, VTIL_APPEND,
-                                           VTIL_APPEND, VTIL_APPEND, VTIL_UNDO,   VTIL_UNDO};
-    enum vtil_call kind = kinds[below(8)];
+    enum vtil_call kind = any_kind();
     struct ref_call call = call_of(kind, some_vip());
     if (kind == VTIL_CREATE && below(3) != 0)
         call.vip = below(UINT64_MAX);
@@ -74,6 +88,13 @@ struct ref_call any_call(struct bytes *made)
     call.bytes = made->at;
     call.len = made->len;
     return call;
+}
+
+void close_walk(void)
+{
+    struct ref_call abandon = call_of(VTIL_WALK_ABANDON, 0);
+    if (twin.numbers.walk != 0)
+        hold("abandoned", image.len, (int64_t)call_both(&abandon).refusal, 0);
 }
 
 /* Lists in one call ---------------------------------------------------------------------------- */
@@ -123,11 +144,10 @@ vtil_run_answer library_run_on(vtil_book numbers)
 
 vtil_run_answer due_of_calls(const struct ref_call *calls, size_t count)
 {
-    vtil_run_answer due = {0, 0, twin.numbers};
+    vtil_run_answer due = {.book = twin.numbers};
     for (size_t i = 0; i < count; i++) {
-        vtil_answer answer = ref_step(&twin, &calls[i]);
-        due.last = answer.refusal;
-        due.book = answer.book;
+        vtil_walk_answer last = ref_step(&twin, &calls[i]);
+        due = (vtil_run_answer){0, last.refusal, last.book, last.offset, last.length};
     }
     return due;
 }
@@ -139,6 +159,8 @@ void hold_run(vtil_run_answer got, vtil_run_answer want)
     hold("refusal", image.len, (int64_t)got.refusal, (int64_t)want.refusal);
     hold("the last call's refusal", image.len, (int64_t)got.last, (int64_t)want.last);
     hold_book(got.book, want.book);
+    hold("the last call's offset", image.len, (int64_t)got.offset, (int64_t)want.offset);
+    hold("the last call's length", image.len, (int64_t)got.length, (int64_t)want.length);
     hold_bytes();
 }
 
@@ -148,7 +170,7 @@ vtil_run_answer run_list(const struct bytes *file, const struct ref_call *calls,
     lend_file(file);
     lend_book(image.len, journal.len);
     vtil_answer opened = ref_open(&twin, file->at, file->len, rates);
-    vtil_run_answer want = {opened.refusal, 0, opened.book};
+    vtil_run_answer want = {.refusal = opened.refusal, .book = opened.book};
     if (opened.refusal == 0)
         want = due_of_calls(calls, count);
     hold_run(library_run(rates), want);

@@ -1,7 +1,7 @@
 /*
- * Calls on a book pair, each on both books: create, remove, append and undo one by one,
- * and lists of them by vtil_run and vtil_run_on. What is lent to them lies between guard
- * pages as well.
+ * Calls on a book pair, each on both books: create, remove, append, undo and those of a
+ * walk one by one, and lists of them by vtil_run and vtil_run_on. What is lent to them
+ * lies between guard pages as well.
  */
 #ifndef CALLS_H
 #define CALLS_H
@@ -24,11 +24,16 @@ struct ref_call call_of(enum vtil_call kind, uint64_t vip);
 /* A vip that some block of the book has, or one of a few others. */
 uint64_t some_vip(void);
 
+enum vtil_call any_kind(void);
+
 /* Any call; the bytes of an append are put into `made`, which has to stay as long as the call is used. */
 struct ref_call any_call(struct bytes *made);
 
+/* Abandons a walk on both books, where one is open. */
+void close_walk(void);
+
 /* The same call on both books; holds the answers and what is left behind. Answers what was due. */
-vtil_answer call_both(const struct ref_call *call);
+vtil_walk_answer call_both(const struct ref_call *call);
 
 /* These lend a list of calls and a file. Then library_run and library_run_on run the list in the library's book alone. */
 void lend_list(const uint64_t *words, size_t count, const uint8_t *bytes, size_t len);

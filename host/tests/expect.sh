@@ -66,6 +66,21 @@ little_memory() {
     (ulimit -v 65536 && exec "$routine" "$@")
 }
 
+# as_nobody [OPTION..] COMMAND..: by another user, where root may do that; the options are setpriv's.
+as_nobody() {
+    setpriv --reuid 65534 --regid 65534 "$@"
+}
+
+# build_failing: makes $scratch/failing.so of failing.c, for with_failing.
+build_failing() {
+    "${CC:-cc}" -shared -fPIC -O2 -Wall -Wextra -Werror host/tests/failing.c -o "$scratch/failing.so"
+}
+
+# with_failing FAILING COMMAND..: runs `routine COMMAND..`, in which the calls fail that failing.c names.
+with_failing() {
+    FAILING=$1 LD_PRELOAD=$scratch/failing.so "$routine" "${@:2}"
+}
+
 # unnamed_keys COMMAND..: the keys in what `routine COMMAND.. --json` prints that the manual's section on the command does not
 # name; or that there are none.
 unnamed_keys() {

@@ -1,6 +1,7 @@
 /*
- * For output.sh: loaded before libc (LD_PRELOAD), it makes calls of the command fail
- * that don't fail on the disk of a test. The variable FAILING says which:
+ * For the tests of what the command writes: loaded before libc (LD_PRELOAD), it makes
+ * calls of the command fail that don't fail on the disk of a test. The variable FAILING
+ * says which:
  *
  *   folder      fsync of a folder
  *   no syncing  fsync of a folder, as on a file system that can't do that
@@ -8,6 +9,8 @@
  *   owner       every fchown that gives a file another owner, as for a user who isn't root
  *   fchown      every fchown
  *   fsetxattr   every fsetxattr
+ *   full N      every write to a regular file after the Nth, of which half goes through,
+ *               as on a disk that gets full
  *   signal N    no call, but signal N comes when the new file is filled
  */
 #define _GNU_SOURCE
@@ -33,17 +36,41 @@ static int failed(int reason)
     return -1;
 }
 
-static void send_signal(void)
+/* The number after the word, where that is what FAILING says; else 0. */
+static int number_of(const char *word)
 {
     const char *failing = getenv("FAILING");
-    if (failing != NULL && strncmp(failing, "signal ", 7) == 0)
-        raise(atoi(failing + 7));
+    size_t len = strlen(word);
+    return failing != NULL && strncmp(failing, word, len) == 0 ? atoi(failing + len) : 0;
+}
+
+static void send_signal(void)
+{
+    int number = number_of("signal ");
+    if (number != 0)
+        raise(number);
+}
+
+static bool is_regular(int fd)
+{
+    struct stat about;
+    return fstat(fd, &about) == 0 && S_ISREG(about.st_mode);
+}
+
+ssize_t write(int fd, const void *bytes, size_t len)
+{
+    static int writes;
+    int full = number_of("full ");
+    if (full != 0 && is_regular(fd))
+        writes++;
+    if (full != 0 && writes > full)
+        return failed(ENOSPC);
+    return syscall(SYS_write, fd, bytes, full != 0 && writes == full ? len / 2 : len);
 }
 
 int fsync(int fd)
 {
-    struct stat about;
-    if (fstat(fd, &about) == 0 && S_ISREG(about.st_mode))
+    if (is_regular(fd))
         send_signal();
     else if (fails("folder"))
         return failed(EIO);

@@ -128,7 +128,7 @@ static void hold_open(const struct bytes *file, uint8_t *at, size_t image_len, u
     next_case();
     vtil_answer got = vtil_open(file->at, file->len, at, image_len, to, journal_len, rates);
     hold("refusal", image_len, (int64_t)got.refusal, (int64_t)want);
-    hold_book(got.book, want == 0 ? (vtil_book){written_size(file), 0, rates, 0} : (vtil_book){0});
+    hold_book(got.book, want == 0 ? (vtil_book){written_size(file), 0, rates, 0, 0} : (vtil_book){0});
 }
 
 static void no_bytes(const struct room *room)

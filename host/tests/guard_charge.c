@@ -280,8 +280,10 @@ static void each_way(void)
     due_spoiled("nothing written", (vtil_book){0});
     due_spoiled("one byte less written", (vtil_book){.written = written - 1});
     due_spoiled("one byte more written", (vtil_book){.written = written + 1});
-    twin.numbers = (vtil_book){.written = written, .used = 20};
-    due("all of the journal used", all_at(100), 2);
+    due_spoiled("a walk's place over the one block", (vtil_book){.written = written, .walk = 3});
+    due_spoiled("a walk's place far over it", (vtil_book){.written = written, .walk = UINT64_MAX});
+    twin.numbers = (vtil_book){.written = written, .used = 20, .walk = 2};
+    due("all of the journal used, and a walk before its end", all_at(100), 2);
     due_spoiled_at("wrong mark", 0, 'v');
     due_spoiled_at("unknown machine", 4, 3);
     due_spoiled_at("pad not 0", 5, 1);

@@ -1,6 +1,7 @@
 /*
- * guard_edits FILE..: create, remove, append, undo, run and run_on, between guard pages,
- * against the reference: its calls on a book, and the routine machine.
+ * guard_edits FILE..: create, remove, append, undo, run and run_on, and among them the
+ * calls of a walk, between guard pages, against the reference: its calls on a book, and
+ * the routine machine.
  */
 #include <stdbool.h>
 #include <stdlib.h>
@@ -33,7 +34,7 @@ static uint64_t near(uint64_t middle)
 static void due(enum vtil_call kind, uint64_t vip, uint64_t refusal, uint64_t written, uint64_t used)
 {
     struct ref_call call = call_of(kind, vip);
-    vtil_answer answer = call_both(&call);
+    vtil_walk_answer answer = call_both(&call);
     hold("document 01's refusal", (size_t)vip, (int64_t)answer.refusal, (int64_t)refusal);
     hold("document 01's length", (size_t)vip, (int64_t)answer.book.written, (int64_t)written);
     hold("document 01's used", (size_t)vip, (int64_t)answer.book.used, (int64_t)used);
@@ -101,14 +102,16 @@ static void hold_machine_charge(const struct ref_machine *machine, vtil_book num
 }
 
 /* The machine sees the file, the calls and the lengths; its answers and what it says of image and journal are the library's. */
-static void hold_machine(struct ref_machine *machine, const struct ref_call *call, vtil_answer library)
+static void hold_machine(struct ref_machine *machine, const struct ref_call *call, vtil_walk_answer library)
 {
     static uint8_t due_image[BYTES_MAX], due_journal[BYTES_MAX];
-    vtil_answer due = ref_machine_step(machine, call);
+    vtil_walk_answer due = ref_machine_step(machine, call);
     ref_machine_image(machine, due_image);
     ref_machine_journal(machine, due_journal);
     hold("the machine's refusal", image.len, (int64_t)library.refusal, (int64_t)due.refusal);
     hold_book(library.book, due.book);
+    hold("the machine's offset", image.len, (int64_t)library.offset, (int64_t)due.offset);
+    hold("the machine's length", image.len, (int64_t)library.length, (int64_t)due.length);
     hold("the machine's image", image.len, memcmp(image.plain, due_image, image.len) == 0, 1);
     hold("the machine's journal", journal.len, memcmp(journal.plain, due_journal, journal.len) == 0, 1);
     hold_machine_charge(machine, library.book);
@@ -118,6 +121,7 @@ static void hold_machine(struct ref_machine *machine, const struct ref_call *cal
 static void take_all_back(const uint8_t *opened, vtil_book book)
 {
     struct ref_call undo = call_of(VTIL_UNDO, 0);
+    close_walk();
     while (call_both(&undo).refusal == 0)
         continue;
     hold_book(twin.numbers, book);
@@ -150,7 +154,7 @@ static void one_list(const struct bytes *file)
     struct ref_machine *machine = ref_machine_start(file->at, file->len, image.len, journal.len, book.rates);
     for (size_t i = 0; i < CALLS; i++) {
         make_call(i);
-        vtil_answer answer = call_both(&calls[i]);
+        vtil_walk_answer answer = call_both(&calls[i]);
         hold_machine(machine, &calls[i], answer);
         if (below(16) == 0)
             look_once(answer.book);
@@ -162,7 +166,7 @@ static void one_list(const struct bytes *file)
 
 static void lists(void)
 {
-    static const int answers[] = {0, 1, 2, 5, 6, 7, 8, 11, 12, 14, 15, 16, 17, 18, 19, -1};
+    static const int answers[] = {0, 1, 2, 5, 6, 7, 8, 11, 12, 14, 15, 16, 17, 18, 19, 20, 21, -1};
     static struct bytes b;
     begin("long lists of calls at tight lengths, against the machine, and the same by vtil_run and vtil_run_on");
     seed(7);
@@ -181,7 +185,7 @@ static void lists(void)
 /* An undo that a cut image has no room for is refused 13; all else is as it is at lengths that stay. */
 static void changed_lengths(void)
 {
-    static const int answers[] = {0, 11, 12, 13, 14, 15, 16, 18, 19, -1};
+    static const int answers[] = {0, 11, 12, 13, 14, 15, 16, 18, 19, 20, 21, -1};
     static struct bytes b;
     begin("lists of calls between which image and journal are lengthened or cut");
     seed(12);
@@ -191,7 +195,7 @@ static void changed_lengths(void)
         open_both(&b);
         for (size_t left = CALLS; left > 0; left--) {
             make_call(0);
-            vtil_answer answer = call_both(&calls[0]);
+            vtil_walk_answer answer = call_both(&calls[0]);
             if (answer.refusal == 13)
                 hold("only an undo is refused 13", image.len, calls[0].kind, VTIL_UNDO);
             if (below(3) == 0)
@@ -244,14 +248,14 @@ static void hold_no_list(const uint64_t *words, size_t count)
         lend_list(words, count, four_bytes, sizeof four_bytes);
         smallest.len -= (size_t)cut;
         lend_file(&smallest);
-        hold_run(library_run(any_rates()), (vtil_run_answer){VTIL_NO_SUCH_BLOCK, 0, {0}});
+        hold_run(library_run(any_rates()), (vtil_run_answer){.refusal = VTIL_NO_SUCH_BLOCK});
     }
     make_smallest(&smallest);
     open_both(&smallest);
     call_both(&create);
     lend_list(words, count, four_bytes, sizeof four_bytes);
-    hold_run(library_run_on(twin.numbers), (vtil_run_answer){VTIL_NO_SUCH_BLOCK, 0, twin.numbers});
-    hold_run(library_run_on(spoiled), (vtil_run_answer){VTIL_NO_SUCH_BLOCK, 0, spoiled});
+    hold_run(library_run_on(twin.numbers), (vtil_run_answer){.refusal = VTIL_NO_SUCH_BLOCK, .book = twin.numbers});
+    hold_run(library_run_on(spoiled), (vtil_run_answer){.refusal = VTIL_NO_SUCH_BLOCK, .book = spoiled});
 }
 
 /* A list of one call, whose words need not be those that lend_calls makes. */
@@ -275,10 +279,11 @@ static void hold_one_call(const uint64_t *words, const struct ref_call *call)
 static void odd_words(void)
 {
     static const uint64_t two_calls[8] = {VTIL_CREATE, 5, 0, 0, VTIL_UNDO, 0, 0, 0};
-    uint64_t odd[EXTREMES];
+    uint64_t odd[EXTREMES], kinds[EXTREMES];
     begin("words that are no list of calls are refused 15 by vtil_run and vtil_run_on, and nothing changes");
     seed(13);
     extremes(4, odd);
+    extremes(VTIL_WALK_ABANDON, kinds);
     for (int i = 0; i < EXTREMES; i++) {
         for (int j = 0; j < EXTREMES; j++) {
             /* the second call's part, after a call that would be made */
@@ -290,8 +295,8 @@ static void odd_words(void)
             words[4] = VTIL_CREATE;
             hold_no_list(words + 4, 4);
         }
-        uint64_t words[8] = {VTIL_CREATE, 5, 0, 0, odd[i], 6, 0, 0};
-        if (odd[i] > 3) {
+        uint64_t words[8] = {VTIL_CREATE, 5, 0, 0, kinds[i], 6, 0, 0};
+        if (kinds[i] > VTIL_WALK_ABANDON) {
             hold_no_list(words + 4, 4);
             hold_no_list(words, 8);
         }
@@ -302,13 +307,17 @@ static void odd_words(void)
     struct ref_call undo = call_of(VTIL_UNDO, 5), remove = call_of(VTIL_REMOVE, 5);
     hold_one_call((const uint64_t[]){VTIL_UNDO, 5, 4, 4}, &undo);
     hold_one_call((const uint64_t[]){VTIL_REMOVE, 5, 0, 4}, &remove);
+    for (int kind = VTIL_WALK_START; kind <= VTIL_WALK_ABANDON; kind++) {
+        struct ref_call walk = call_of((enum vtil_call)kind, 5);
+        hold_one_call((const uint64_t[]){(uint64_t)kind, 5, 1, 4}, &walk);
+    }
     end();
 }
 
 /* Words of all sorts, of which some are lists: what they are, and what their calls do, is what the reference says. */
 static void random_words(void)
 {
-    static const int answers[] = {0, 1, 11, 12, 14, 15, 16, 17, 18, 19, -1};
+    static const int answers[] = {0, 1, 11, 12, 14, 15, 16, 17, 18, 19, 20, 21, -1};
     static struct bytes b, bytes;
     uint64_t words[24]; /* whole calls are made, of which the last may be cut */
     begin("random words, by vtil_run and then others by vtil_run_on");
@@ -323,7 +332,7 @@ static void random_words(void)
         for (int on = 0; on < 2; on++) {
             size_t count = below(8) == 0 ? below(24) : 4 * below(6);
             for (size_t at = 0; at < count; at += 4) {
-                words[at] = below(32) == 0 ? near(3) : below(4);
+                words[at] = below(32) == 0 ? near(VTIL_WALK_ABANDON) : any_kind();
                 words[at + 1] = some_vip();
                 words[at + 2] = below(16) == 0 ? near(0) : 0;
                 words[at + 3] = below(16) == 0 ? near(bytes.len) : bytes.len;
@@ -366,7 +375,7 @@ static void call_each(vtil_book numbers)
     memcpy(kept_journal, twin.journal, journal.len);
     twin.numbers = numbers;
     uint64_t there = some_vip();
-    for (int kind = VTIL_CREATE; kind <= VTIL_UNDO; kind++) {
+    for (int kind = VTIL_CREATE; kind <= VTIL_WALK_ABANDON; kind++) {
         struct ref_call call = call_of((enum vtil_call)kind, kind == VTIL_CREATE ? 0x1234567 : there);
         if (kind == VTIL_APPEND)
             make_instruction_call(&call);
@@ -378,7 +387,7 @@ static void call_each(vtil_book numbers)
         copy_twin();
     }
     twin.numbers = numbers;
-    run_list_on(calls, 4);
+    run_list_on(calls, VTIL_WALK_ABANDON + 1);
     memcpy(twin.image, kept_image, image.len);
     memcpy(twin.journal, kept_journal, journal.len);
     copy_twin();
@@ -466,6 +475,7 @@ static void one_journal(const struct bytes *file)
         make_call(0);
         call_both(&calls[0]);
     }
+    close_walk(); /* an undo that is refused 20 reads no journal */
     for (uint64_t left = 1 + below(2); left > 0; left--)
         damage_entry();
     copy_twin();
@@ -483,6 +493,7 @@ static void stale_entry(const struct bytes *file)
     memcpy(entries, twin.journal, journal.len);
     make_call(0);
     call_both(&calls[0]);
+    close_walk();
     memcpy(twin.journal, entries, journal.len);
     twin.numbers.used = below(2) ? twin.numbers.used : used;
     copy_twin();
@@ -539,12 +550,13 @@ static void hold_answer_of_run(vtil_run_answer got, uint64_t refusal, uint64_t l
     hold("refusal", 0, (int64_t)got.refusal, (int64_t)refusal);
     hold("the last call's refusal", 0, (int64_t)got.last, (int64_t)last);
     hold_book(got.book, book);
+    hold("no block is handed out", 0, got.offset == 0 && got.length == 0, 1);
 }
 
 /* The calls of a list test the book, an empty list does not, and what is no list comes first. */
 static void hold_run_on(uint8_t *at, size_t image_len, uint8_t *to, size_t journal_len, vtil_book book, uint64_t want)
 {
-    const uint64_t words[8] = {VTIL_CREATE, 5, 0, 0, VTIL_UNDO, 0, 0, 0};
+    const uint64_t words[8] = {VTIL_CREATE, 5, 0, 0, VTIL_WALK_NEXT, 0, 0, 0};
     hold_answer_of_run(vtil_run_on(book, at, image_len, to, journal_len, words, 8, NULL, 0), 0, want, book);
     hold_answer_of_run(vtil_run_on(book, at, image_len, to, journal_len, words, 0, NULL, 0), 0, 0, book);
     hold_answer_of_run(vtil_run_on(book, at, image_len, to, journal_len, words, 7, NULL, 0), 15, 0, book);
@@ -552,17 +564,22 @@ static void hold_run_on(uint8_t *at, size_t image_len, uint8_t *to, size_t journ
 
 static void hold_each(uint8_t *at, size_t image_len, uint8_t *to, size_t journal_len, vtil_book book, uint64_t want)
 {
+    const vtil_walk_answer next = vtil_walk_next(book, at, image_len, to, journal_len);
     const vtil_answer got[] = {
         vtil_create_block(book, at, image_len, to, journal_len, 5),
         vtil_remove_block(book, at, image_len, to, journal_len, 5),
         vtil_append(book, at, image_len, to, journal_len, 5, NULL, 0),
         vtil_undo(book, at, image_len, to, journal_len),
+        vtil_walk_start(book, at, image_len, to, journal_len),
+        {next.refusal, next.book},
+        vtil_walk_abandon(book, at, image_len, to, journal_len),
     };
-    for (int i = 0; i < 4; i++) {
+    for (size_t i = 0; i < sizeof got / sizeof got[0]; i++) {
         next_case();
-        hold("refusal", (size_t)i, (int64_t)got[i].refusal, (int64_t)want);
+        hold("refusal", i, (int64_t)got[i].refusal, (int64_t)want);
         hold_book(got[i].book, book);
     }
+    hold("no block is handed out", 0, next.offset == 0 && next.length == 0, 1);
     hold_run_on(at, image_len, to, journal_len, book, want);
 }
 
@@ -593,7 +610,7 @@ static void hold_one(const char *what, vtil_answer got, uint64_t refusal, uint64
 {
     next_case();
     hold(what, 0, (int64_t)got.refusal, (int64_t)refusal);
-    hold_book(got.book, (vtil_book){written, used, some_rates, 0});
+    hold_book(got.book, (vtil_book){written, used, some_rates, 0, 0});
 }
 
 /* As many empty blocks as an image at the limit has room for; the reference would take too long, but the answers are plain. */

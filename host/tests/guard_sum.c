@@ -97,7 +97,7 @@ static vtil_rates tried(int which)
 
 static void hold_sum(const char *what, vtil_rates rates, uint64_t sum)
 {
-    vtil_book book = {twin.numbers.written, twin.numbers.used, rates, sum};
+    vtil_book book = {twin.numbers.written, twin.numbers.used, rates, sum, twin.numbers.walk};
     hold_book(twin.numbers, book);
     hold(what, image.len, (int64_t)twin.numbers.sum, (int64_t)sum);
 }
@@ -190,9 +190,9 @@ static void refused_openings(const struct room *room)
             refused_in(&samples[i], 0, rates);
             lend_list(no_list, 4, samples[i].at, 0);
             lend_file(&samples[i]);
-            hold_run(library_run(rates), (vtil_run_answer){VTIL_NO_SUCH_BLOCK, 0, {0}});
+            hold_run(library_run(rates), (vtil_run_answer){.refusal = VTIL_NO_SUCH_BLOCK});
             vtil_book wild = any_book(size < 0 ? 0 : (uint64_t)size, 0);
-            hold_run(library_run_on(wild), (vtil_run_answer){VTIL_NO_SUCH_BLOCK, 0, wild});
+            hold_run(library_run_on(wild), (vtil_run_answer){.refusal = VTIL_NO_SUCH_BLOCK, .book = wild});
         }
         const struct bytes *first = &samples[0];
         next_case();
@@ -579,7 +579,7 @@ static void looks(void)
             middle = every;
             middle_count = OPERATIONS;
             open_removed();
-            vtil_book book = {twin.numbers.written, twin.numbers.used, tried(which), sums[i]};
+            vtil_book book = {twin.numbers.written, twin.numbers.used, tried(which), sums[i], 0};
             look_once(book);
             uint64_t sum = sum_of(0, far_apart) + sum_of(1, far_apart);
             hold("the charge worked afresh", i, (int64_t)charge_both(book, far_apart).cents, (int64_t)cents(sum));
@@ -698,7 +698,7 @@ static void make_file(struct bytes *b)
  * After every call the sum that is carried is the machine's, which is worked afresh on its routine; it is worked afresh on
  * the bytes of the image, too; and its cents are the charge.
  */
-static void hold_afresh(vtil_answer answer, vtil_answer machine)
+static void hold_afresh(vtil_walk_answer answer, vtil_walk_answer machine)
 {
     vtil_rates rates = machine.book.rates;
     hold("the machine's refusal", image.len, (int64_t)answer.refusal, (int64_t)machine.refusal);
@@ -718,11 +718,12 @@ static void one_list(const struct bytes *from)
     struct ref_machine *machine = ref_machine_start(from->at, from->len, image.len, journal.len, rates);
     for (size_t i = 0; i < CALLS; i++) {
         calls[i] = any_call(&instructions[i]);
-        vtil_answer answer = call_both(&calls[i]);
+        vtil_walk_answer answer = call_both(&calls[i]);
         hold_afresh(answer, ref_machine_step(machine, &calls[i]));
     }
     ref_machine_free(machine);
     vtil_book last = twin.numbers;
+    close_walk();
     while (twin.numbers.used > 0)
         undo_due("all is taken back", 0);
     hold_book(twin.numbers, opened);
@@ -734,7 +735,7 @@ static void one_list(const struct bytes *from)
 
 static void lists(void)
 {
-    static const int answers[] = {0, 1, 2, 5, 6, 7, 8, 11, 12, 14, 15, 16, 17, 18, 19, -1};
+    static const int answers[] = {0, 1, 2, 5, 6, 7, 8, 11, 12, 14, 15, 16, 17, 18, 19, 20, 21, -1};
     static struct bytes b;
     begin("lists of calls: after each the machine's sum, worked afresh, and its cents; the same by vtil_run and vtil_run_on");
     seed(41);
@@ -760,7 +761,7 @@ static uint64_t wild_sum(void)
 }
 
 /* On a book made by hand an accepted call changes the sum by what the routine's sum changes by, at the book's rates. */
-static void hold_change(vtil_book before, uint64_t afresh_before, vtil_answer answer)
+static void hold_change(vtil_book before, uint64_t afresh_before, vtil_walk_answer answer)
 {
     uint64_t afresh = ref_sum(&twin, before.rates);
     if (answer.refusal != 0) {
@@ -791,7 +792,7 @@ static void one_wild_list(const struct bytes *from)
 /* Nobody writes image or journal here, so 13 is always the sum's. */
 static void wild_lists(void)
 {
-    static const int answers[] = {0, 11, 12, 13, 14, 15, 16, 18, 19, -1};
+    static const int answers[] = {0, 11, 12, 13, 14, 15, 16, 18, 19, 20, 21, -1};
     static struct bytes b;
     begin("lists of calls on books whose rates and sum are made by hand, between calls too, and by vtil_run_on");
     seed(42);
@@ -838,7 +839,7 @@ static void fullest(void)
     struct room large = make_room(VTIL_MOST_LENT), other = make_room(VTIL_MOST_LENT);
     struct lent at = lend(&large, VTIL_MOST_LENT, true), to = lend(&other, VTIL_MOST_LENT, true);
     uint8_t *routine = make_fullest(nops, len);
-    vtil_book full = {len, 0, rates, most}, empty = {FRONT, used, rates, 0};
+    vtil_book full = {len, 0, rates, most, 0}, empty = {FRONT, used, rates, 0, 0};
 
     begin("as many nops as an image of 16,777,216 bytes holds, at the largest rate: opened, removed and restored");
     hold("524,283 nops at 4,294,967,295", 0, (int64_t)(nops * (uint64_t)UINT32_MAX), (int64_t)most);

@@ -23,7 +23,7 @@ number_asserts() {
     sed -nE 's/^([a-z-]+) = ([0-9]+)$/\1 \2/p' crates/fields/specs/Refusals.antt | tr 'a-z-' 'A-Z_' |
         while read -r word number; do printf 'static_assert(VTIL_%s == %d, "%s");\n' "$word" "$number" "$word"; done
     number=0
-    for word in CREATE REMOVE APPEND UNDO; do
+    for word in CREATE REMOVE APPEND UNDO WALK_START WALK_NEXT WALK_ABANDON; do
         printf 'static_assert(VTIL_%s == %d, "%s");\n' "$word" "$number" "$word"
         number=$((number + 1))
     done
@@ -35,8 +35,9 @@ size_asserts() {
     while read -r type size; do
         printf 'static_assert(sizeof(vtil_%s) == %d, "%s");\n' "$type" "$size" "$type"
     done <<'END'
-book 48
-answer 56
+book 56
+answer 64
+walk_answer 80
 immediate_desc 16
 register_desc 24
 operand_desc 48
@@ -56,7 +57,7 @@ register_look 32
 rates 24
 charge_look 16
 written 16
-run_answer 64
+run_answer 88
 END
 }
 
@@ -70,6 +71,7 @@ write_sources() {
     awk '/^```c$/ { inside = 1; next } /^```$/ { inside = 0 } inside' README.md >"$scratch/example.c"
     loop_source >"$scratch/loop.c"
     cents_source >"$scratch/cents.c"
+    walk_source >"$scratch/walk.c"
 }
 
 # The header's loop over all instructions as it stands, in a program that prints the vip of each and ends with the refusal.
@@ -147,6 +149,46 @@ header_cents() {
     "$CC" -std=c11 "${strict[@]}" "$scratch/cents.c" -o "$scratch/cents" && "$scratch/cents"
 }
 
+# The header's walk over all blocks as it stands, in a program that opens a file and writes what is sent to standard output.
+walk_source() {
+    cat <<'END'
+#include "vtil.h"
+#include <stdio.h>
+
+static void send(const uint8_t *bytes, size_t length)
+{
+    fwrite(bytes, 1, length, stdout);
+}
+
+static uint64_t walk(vtil_book book, uint8_t *image, size_t image_len, uint8_t *journal, size_t journal_len)
+{
+END
+    sed -n '/^ \*     vtil_answer started = /,/^ \*     }$/s/^ \* //p' include/vtil.h
+    cat <<'END'
+    return book.walk;
+}
+
+int main(void)
+{
+    static uint8_t file[65536], image[65536], journal[1];
+    vtil_rates rates = {{0}};
+    size_t len = fread(file, 1, sizeof file, stdin);
+    vtil_book book = vtil_open(file, len, image, sizeof image, journal, sizeof journal, rates).book;
+    return (int)walk(book, image, sizeof image, journal, sizeof journal);
+}
+END
+}
+
+# The blocks stand at the end of the file, which is in written form. A file that is refused has a book of zeros, which is too.
+header_walk() {
+    local status=0
+    "$CC" -std=c11 "${strict[@]}" "$scratch/walk.c" "$archive" -o "$scratch/walk" || return 1
+    "$scratch/walk" <samples/blocks.vtil >"$scratch/sent" || return 1
+    [ "$(stat -c %s "$scratch/sent")" = 786 ] && cmp "$scratch/sent" <(tail -c 786 samples/blocks.vtil) || return 1
+    "$scratch/walk" <samples/wrong-mark.vtil >"$scratch/sent" || status=$?
+    [ "$status" = 13 ] && ! [ -s "$scratch/sent" ]
+}
+
 readme_example() {
     "$CC" -std=c11 "${strict[@]}" "$scratch/example.c" "$archive" -o "$scratch/example" || return 1
     [ "$("$scratch/example" <samples/trailing.vtil)" = "a routine of 150 bytes" ] || return 1
@@ -177,6 +219,7 @@ fi
 try "declares the functions that the archive defines" same_functions
 try "the header's loop over all instructions" header_loop
 try "the header's cents of a sum" header_cents
+try "the header's walk over all blocks" header_walk
 try "the README's example" readme_example
 try "the README's example cuts no file" readme_example_long
 finish

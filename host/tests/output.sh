@@ -4,7 +4,6 @@
 set -u
 script="output"
 . host/tests/expect.sh
-CC=${CC:-cc}
 to=$scratch/to
 odd=$samples/odd-flags.vtil
 written=$scratch/written
@@ -33,7 +32,7 @@ replaced() {
 
 # with FAILING: runs normalize on $to/a with failing.c loaded.
 with() {
-    FAILING=$1 LD_PRELOAD=$scratch/failing.so "$routine" normalize "$odd" -o "$to/a"
+    with_failing "$1" normalize "$odd" -o "$to/a"
 }
 
 # Symbolic links ---------------------------------------------------------------------
@@ -121,9 +120,6 @@ other_groups() {
 }
 
 # For real: nobody replaces files of root's and his own in a folder that all can write.
-as_nobody() {
-    setpriv --reuid 65534 --regid 65534 "$@"
-}
 other_users() {
     local public=$scratch/public
     mkdir -m 755 "$public"
@@ -249,7 +245,7 @@ links_to_nothing
 named_standard_output
 other_users
 special_bits
-if "$CC" -shared -fPIC -O2 -Wall -Wextra -Werror host/tests/failing.c -o "$scratch/failing.so"; then
+if build_failing; then
     other_groups
     no_modes
     lists

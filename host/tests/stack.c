@@ -252,22 +252,51 @@ static void undo(void)
     take(vtil_undo(LENT));
 }
 
+static void walk_start(void)
+{
+    MARK_TOP();
+    take(vtil_walk_start(LENT));
+}
+
+static void walk_next(void)
+{
+    MARK_TOP();
+    vtil_walk_answer answer = vtil_walk_next(LENT);
+    take((vtil_answer){answer.refusal, answer.book});
+}
+
+/* Every block before it is passed. */
+static void walk_to_last(void)
+{
+    book.walk = 1 + LAST;
+    walk_next();
+}
+
+static void walk_abandon(void)
+{
+    MARK_TOP();
+    take(vtil_walk_abandon(LENT));
+}
+
 static void take_run(vtil_run_answer answer)
 {
     refusal = answer.refusal != 0 ? answer.refusal : answer.last;
     book = answer.book;
 }
 
-#define CALLS 4
+#define CALLS 7
 static uint64_t words[4 * CALLS];
 
 static void make_list(void)
 {
     const uint64_t list[4 * CALLS] = {
-        VTIL_CREATE, NEW,       0, 0,
-        VTIL_APPEND, NEW,       0, nop.len,
-        VTIL_REMOVE, vip_of(1), 0, 0,
-        VTIL_UNDO,   0,         0, 0,
+        VTIL_CREATE,       NEW,       0, 0,
+        VTIL_APPEND,       NEW,       0, nop.len,
+        VTIL_REMOVE,       vip_of(1), 0, 0,
+        VTIL_UNDO,         0,         0, 0,
+        VTIL_WALK_START,   0,         0, 0,
+        VTIL_WALK_NEXT,    0,         0, 0,
+        VTIL_WALK_ABANDON, 0,         0, 0,
     };
     memcpy(words, list, sizeof list);
 }
@@ -356,6 +385,12 @@ int main(void)
     measure("vtil_undo, a remove of an empty block", undo);
     measure("vtil_remove_block", remove_last);
     measure("vtil_undo, a remove", undo);
+    measure("vtil_walk_start", walk_start);
+    measure("vtil_walk_next", walk_next);
+    measure("vtil_walk_abandon", walk_abandon);
+    measure("vtil_walk_start, again", walk_start);
+    measure("vtil_walk_next, the last block", walk_to_last);
+    measure("vtil_walk_next, the end", walk_next);
     measure("vtil_run_on", run_list_on);
     measure("vtil_run", run_list);
     return finish();

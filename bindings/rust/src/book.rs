@@ -4,9 +4,14 @@ use crate::look::{Block, Convention, Links, Overview, Registers};
 use crate::read::{self, RoutineRef};
 use crate::refusal::{accepted, Refusal};
 use crate::value::{Instruction, Register, Vip};
+use crate::walk;
+use std::ops::Range;
 
 /// What the last call of a list answers. Those before it were made too, whatever it says.
-pub type Last = Result<(), Refusal>;
+///
+/// Where it is a [`Call::WalkNext`] that hands out a block, the range is where that block lies in the image; else there
+/// is none.
+pub type Last = Result<Option<Range<usize>>, Refusal>;
 
 /// An open routine in an image and a journal whose lengths stay as they are: memory that the caller lends
 /// (`Book<&mut [u8]>`) or hands over (`Book<Vec<u8>>`). The image holds the routine's written form and then zeros,
@@ -25,9 +30,11 @@ pub type Last = Result<(), Refusal>;
 ///
 /// What the routine costs at the rates that it was opened at is kept with every edit: [`Book::sum`] and
 /// [`Book::cents`] read it off, without a look at the image.
+///
+/// [`Book::walk`] hands out the routine block by block, and the routine can be edited meanwhile.
 #[derive(Clone, Debug)]
 pub struct Book<M> {
-    numbers: Numbers,
+    pub(crate) numbers: Numbers,
     pub(crate) image: M,
     pub(crate) journal: M,
 }
@@ -269,7 +276,7 @@ impl<M: AsMut<[u8]>> Book<M> {
         Ok(book)
     }
 
-    /// Opens another routine, or the same at other rates, in the same image and journal.
+    /// Opens another routine, or the same at other rates, in the same image and journal. No walk is open after it.
     ///
     /// Refusals: as [`Book::open`]. Image and journal are then as they were, but all numbers are 0, rates and sum
     /// too: no routine is open, and every other call is refused 13.
@@ -300,8 +307,8 @@ impl<M: AsMut<[u8]>> Book<M> {
 
     /// Removes a block; the last one takes its place. The journal needs the block's size and 20 bytes more.
     ///
-    /// Refusals: 15, no block has this vip; 12, the journal is full; 13, the sum of a resumed book is less than what
-    /// the block costs.
+    /// Refusals: 20, a walk is open; 15, no block has this vip; 12, the journal is full; 13, the sum of a resumed book
+    /// is less than what the block costs.
     pub fn remove_block(&mut self, vip: Vip) -> Result<(), Refusal> {
         // SAFETY: as in `reopen`.
         self.call(|book, image, journal| unsafe {
@@ -340,8 +347,8 @@ impl<M: AsMut<[u8]>> Book<M> {
 
     /// Takes back the last edit that was not taken back yet.
     ///
-    /// Refusals: 16, there is none; 13, the journal of a resumed book does not end in an edit of this image, or its
-    /// sum is less than what goes or would pass 2^64 - 1 by what comes back.
+    /// Refusals: 20, a walk is open; 16, there is none; 13, the journal of a resumed book does not end in an edit of
+    /// this image, or its sum is less than what goes or would pass 2^64 - 1 by what comes back.
     pub fn undo(&mut self) -> Result<(), Refusal> {
         // SAFETY: as in `reopen`.
         self.call(|book, image, journal| unsafe {
@@ -410,6 +417,6 @@ impl<M: AsMut<[u8]>> Book<M> {
         let answer = run(self.numbers, self.image.as_mut(), self.journal.as_mut());
         self.numbers = answer.book;
         accepted(answer.refusal)?;
-        Ok(accepted(answer.last))
+        Ok(accepted(answer.last).map(|()| walk::part(answer.offset, answer.length)))
     }
 }

@@ -20,10 +20,10 @@ pub struct Rates(pub [u32; 6]);
 /// What a book says beside its image and journal, and is kept with them: how many bytes of them count, and what the
 /// routine costs. Of a book that was opened they are true, and stay so with every call.
 ///
-/// Any numbers can be handed to [`Book::resume`](crate::Book::resume), and no call trusts them. Whether `written` and
-/// `used` fit image and journal is tested by each, which else refuses 13. `rates` and `sum` are not compared with the
-/// routine, since that takes a walk over it: an edit or an undo changes the sum by what the instructions cost that
-/// come or go, and is refused 13, after all its other refusals, where the sum is less than what is to be subtracted
+/// Any numbers can be handed to [`Book::resume`](crate::Book::resume), and no call trusts them. Whether `written`,
+/// `used` and `walk` fit image and journal is tested by each, which else refuses 13. `rates` and `sum` are not compared
+/// with the routine, since that takes a pass over it: an edit or an undo changes the sum by what the instructions cost
+/// that come or go, and is refused 13, after all its other refusals, where the sum is less than what is to be subtracted
 /// or would pass 2^64 - 1.
 #[repr(C)]
 #[derive(Clone, Copy, Debug, Default, PartialEq, Eq)]
@@ -36,6 +36,9 @@ pub struct Numbers {
     pub rates: Rates,
     /// What the routine's instructions cost at these rates, in hundredths of a cent.
     pub sum: u64,
+    /// 0 where no walk is open; else 1 more than the place, from 0, of the block that it hands out next. That place is
+    /// at most the number of blocks, where it is the end that is due.
+    pub walk: u64,
 }
 
 impl Numbers {
@@ -53,10 +56,20 @@ pub struct Answer {
 }
 
 #[repr(C)]
+pub struct WalkAnswer {
+    pub refusal: u64,
+    pub book: Numbers,
+    pub offset: u64,
+    pub length: u64,
+}
+
+#[repr(C)]
 pub struct RunAnswer {
     pub refusal: u64,
     pub last: u64,
     pub book: Numbers,
+    pub offset: u64,
+    pub length: u64,
 }
 
 #[repr(C)]
@@ -229,13 +242,17 @@ pub const CREATE: u64 = 0;
 pub const REMOVE: u64 = 1;
 pub const APPEND: u64 = 2;
 pub const UNDO: u64 = 3;
+pub const WALK_START: u64 = 4;
+pub const WALK_NEXT: u64 = 5;
+pub const WALK_ABANDON: u64 = 6;
 
 // The sizes that host/tests/header.sh holds the header to.
 const _: () = {
     assert!(size_of::<Rates>() == 24);
-    assert!(size_of::<Numbers>() == 48);
-    assert!(size_of::<Answer>() == 56);
-    assert!(size_of::<RunAnswer>() == 64);
+    assert!(size_of::<Numbers>() == 56);
+    assert!(size_of::<Answer>() == 64);
+    assert!(size_of::<WalkAnswer>() == 80);
+    assert!(size_of::<RunAnswer>() == 88);
     assert!(size_of::<ImmediateDesc>() == 16);
     assert!(size_of::<RegisterDesc>() == 24);
     assert!(size_of::<OperandDesc>() == 48);
@@ -361,6 +378,27 @@ extern "C" {
         instruction_len: usize,
     ) -> Answer;
     pub fn vtil_undo(book: Numbers, image: *mut u8, image_len: usize, journal: *mut u8, journal_len: usize) -> Answer;
+    pub fn vtil_walk_start(
+        book: Numbers,
+        image: *const u8,
+        image_len: usize,
+        journal: *const u8,
+        journal_len: usize,
+    ) -> Answer;
+    pub fn vtil_walk_next(
+        book: Numbers,
+        image: *const u8,
+        image_len: usize,
+        journal: *const u8,
+        journal_len: usize,
+    ) -> WalkAnswer;
+    pub fn vtil_walk_abandon(
+        book: Numbers,
+        image: *const u8,
+        image_len: usize,
+        journal: *const u8,
+        journal_len: usize,
+    ) -> Answer;
     pub fn vtil_run(
         file: *const u8,
         file_len: usize,

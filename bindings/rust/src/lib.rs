@@ -55,6 +55,7 @@ mod read;
 mod refusal;
 mod routine;
 mod value;
+mod walk;
 
 pub use book::{Book, Last};
 pub use c::{Numbers, Rates};
@@ -64,6 +65,7 @@ pub use read::{read, read_at, BlockRef, ConventionRef, InstructionRef, Part, Par
 pub use refusal::Refusal;
 pub use routine::Routine;
 pub use value::{operation, Immediate, Instruction, Operand, Register, Vip, LONGEST_INSTRUCTION, OPERATIONS};
+pub use walk::{Rest, Sent, Walk};
 
 /// The examples of the crate's page are run with its tests.
 #[cfg(doctest)]

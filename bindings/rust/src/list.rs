@@ -9,6 +9,9 @@ pub enum Call<'a> {
     /// The instruction is as a file holds it.
     Append(Vip, &'a [u8]),
     Undo,
+    WalkStart,
+    WalkNext,
+    WalkAbandon,
 }
 
 /// A list of calls as the library takes it: four words for each call, and the instructions of all of them.
@@ -31,6 +34,9 @@ impl Encoded {
             Call::Remove(vip) => (c::REMOVE, vip, &[]),
             Call::Append(vip, bytes) => (c::APPEND, vip, bytes),
             Call::Undo => (c::UNDO, Vip(0), &[]),
+            Call::WalkStart => (c::WALK_START, Vip(0), &[]),
+            Call::WalkNext => (c::WALK_NEXT, Vip(0), &[]),
+            Call::WalkAbandon => (c::WALK_ABANDON, Vip(0), &[]),
         };
         let begin = self.bytes.len();
         self.bytes.extend(bytes);

@@ -23,6 +23,8 @@ pub enum Refusal {
     Leftover = 17,
     ClosedBlock = 18,
     CrookedRegister = 19,
+    WalkOpen = 20,
+    NoWalk = 21,
 }
 
 use Refusal::*;
@@ -47,6 +49,8 @@ const ALL: &[Refusal] = &[
     Leftover,
     ClosedBlock,
     CrookedRegister,
+    WalkOpen,
+    NoWalk,
 ];
 
 impl Refusal {
@@ -82,6 +86,8 @@ impl Refusal {
             Leftover => "leftover: bytes after the appended instruction",
             ClosedBlock => "closed block: its last instruction is js, jmp, vexit or vxcall",
             CrookedRegister => "crooked register: width under 1, offset under 0, or their sum over 64",
+            WalkOpen => "walk open: it was started, and neither ended nor abandoned",
+            NoWalk => "no walk: none was started, or it has ended or was abandoned",
         }
     }
 }

@@ -4,6 +4,7 @@ use crate::look::{Block, Convention, Links, Overview, Registers};
 use crate::read::RoutineRef;
 use crate::refusal::Refusal;
 use crate::value::{Instruction, Register, Vip};
+use crate::walk::{Sent, Walk};
 use crate::MOST_LENT;
 
 /// An open routine: a [`Book`] that owns its image and journal. Both grow as they have to, up to [`MOST_LENT`] bytes
@@ -18,6 +19,15 @@ use crate::MOST_LENT;
 #[derive(Clone, Debug)]
 pub struct Routine {
     book: Book<Vec<u8>>,
+}
+
+/// More room for an edit that was refused for want of it. False where that was not why, or there can be no more.
+fn more_room(book: &mut Book<Vec<u8>>, refusal: Refusal) -> bool {
+    match refusal {
+        Refusal::ImageFull => grow(&mut book.image),
+        Refusal::JournalFull => grow(&mut book.journal),
+        _ => false,
+    }
 }
 
 /// Twice the room; false where there can be no more.
@@ -56,13 +66,7 @@ impl Routine {
 
     /// Runs an edit, with more room where it lacks some.
     fn edit(&mut self, call: impl Fn(&mut Book<Vec<u8>>) -> Result<(), Refusal>) -> Result<(), Refusal> {
-        loop {
-            match call(&mut self.book) {
-                Err(Refusal::ImageFull) if grow(&mut self.book.image) => {}
-                Err(Refusal::JournalFull) if grow(&mut self.book.journal) => {}
-                answer => return answer,
-            }
-        }
+        self.book.with_room(more_room, call)
     }
 
     /// Adds an empty block after the last one.
@@ -74,7 +78,7 @@ impl Routine {
 
     /// Removes a block; the last one takes its place.
     ///
-    /// Refusals: 15, no block has this vip; 12 at the limit.
+    /// Refusals: 20, a walk is open; 15, no block has this vip; 12 at the limit.
     pub fn remove_block(&mut self, vip: Vip) -> Result<(), Refusal> {
         self.edit(|book| book.remove_block(vip))
     }
@@ -95,9 +99,38 @@ impl Routine {
 
     /// Takes back the last edit that was not taken back yet.
     ///
-    /// Refusals: 16, there is none.
+    /// Refusals: 20, a walk is open; 16, there is none.
     pub fn undo(&mut self) -> Result<(), Refusal> {
         self.edit(Book::undo)
+    }
+
+    /// Starts a walk and lends the routine to it, as [`Book::walk`] does: a loop over all blocks, with edits in between
+    /// where there are any. Image and journal grow as they have to.
+    ///
+    /// Refusals: 20, a walk is open.
+    pub fn walk(&mut self) -> Result<Walk<'_, Vec<u8>>, Refusal> {
+        self.book.walk_with_room(more_room)
+    }
+
+    /// Starts a walk, as [`Book::walk_start`] does. Refusals: 20, a walk is open.
+    pub fn walk_start(&mut self) -> Result<(), Refusal> {
+        self.book.walk_start()
+    }
+
+    /// The next block of the walk that is open, as [`Book::walk_next`] answers it: none at the end, and then the walk is
+    /// closed. Refusals: 21, no walk is open.
+    pub fn walk_next(&mut self) -> Result<Option<Sent<'_>>, Refusal> {
+        self.book.walk_next()
+    }
+
+    /// Closes the walk that is open. Refusals: 21, no walk is open.
+    pub fn walk_abandon(&mut self) -> Result<(), Refusal> {
+        self.book.walk_abandon()
+    }
+
+    /// The place of the block that the open walk hands out next, from 0; none where no walk is open.
+    pub fn walk_place(&self) -> Option<u64> {
+        self.book.walk_place()
     }
 
     /// The routine as a whole. It costs a pass over the image.

@@ -27,7 +27,7 @@ const RATES: Rates = Rates([1, 20, 300, 4_000, 50_000, 600_000]);
 
 /// Of a routine without instructions.
 fn numbers(written: usize, used: usize) -> Numbers {
-    Numbers { written: written as u64, used: used as u64, rates: RATES, sum: 0 }
+    Numbers { written: written as u64, used: used as u64, rates: RATES, sum: 0, walk: 0 }
 }
 
 /// Bytes that no call leaves by accident.
@@ -190,22 +190,22 @@ fn a_crooked_register_is_refused_in_its_order() {
 fn a_list_meets_a_closed_block() {
     let (file, nop, jmp) = (sample("minimal"), nop().to_bytes().unwrap(), jmp().to_bytes().unwrap());
     let calls = [
-        (Call::Create(Vip(1)), Ok(())),
-        (Call::Append(Vip(1), &nop), Ok(())),
-        (Call::Append(Vip(1), &jmp), Ok(())),
+        (Call::Create(Vip(1)), Ok(None)),
+        (Call::Append(Vip(1), &nop), Ok(None)),
+        (Call::Append(Vip(1), &jmp), Ok(None)),
         (Call::Append(Vip(1), &nop), Err(Refusal::ClosedBlock)),
         (Call::Append(Vip(1), &jmp), Err(Refusal::ClosedBlock)),
-        (Call::Undo, Ok(())),
-        (Call::Append(Vip(1), &nop), Ok(())),
-        (Call::Append(Vip(1), &jmp), Ok(())),
+        (Call::Undo, Ok(None)),
+        (Call::Append(Vip(1), &nop), Ok(None)),
+        (Call::Append(Vip(1), &jmp), Ok(None)),
         (Call::Append(Vip(1), &nop), Err(Refusal::ClosedBlock)),
     ];
     let list: Vec<Call> = calls.iter().map(|(call, _)| *call).collect();
     let mut one_by_one = Book::open(&file, image_before(400), journal_before(200), RATES).unwrap();
     for (place, (call, due)) in calls.iter().enumerate() {
-        assert_eq!(one_by_one.run_on(&[*call]), *due, "call {place}");
+        assert_eq!(&one_by_one.run_on(&[*call]), due, "call {place}");
         let mut whole = Book::resume(Numbers::default(), image_before(400), journal_before(200));
-        assert_eq!(whole.run(&file, &list[..=place], RATES), Ok(*due), "up to call {place}");
+        assert_eq!(whole.run(&file, &list[..=place], RATES), Ok(due.clone()), "up to call {place}");
         assert_eq!(whole.numbers(), one_by_one.numbers());
         assert_eq!((whole.image(), whole.journal()), (one_by_one.image(), one_by_one.journal()));
     }
@@ -300,9 +300,9 @@ fn a_list_is_run() {
     assert_eq!(book.numbers(), one_by_one.numbers());
     assert_eq!((book.image(), book.journal()), (one_by_one.image(), one_by_one.journal()));
 
-    assert_eq!(book.run(&file, &calls[..5], RATES), Ok(Ok(())));
+    assert_eq!(book.run(&file, &calls[..5], RATES), Ok(Ok(None)));
     assert_eq!(book.run(&file, &calls[..3], RATES), Ok(Err(Refusal::ShortFile)));
-    assert_eq!((book.run(&file, &[], RATES), book.numbers()), (Ok(Ok(())), numbers(MINIMAL, 0)));
+    assert_eq!((book.run(&file, &[], RATES), book.numbers()), (Ok(Ok(None)), numbers(MINIMAL, 0)));
     assert_eq!(book.run(&[], &calls, RATES), Err(Refusal::ShortFile));
     assert_eq!((book.numbers(), book.image()[..MINIMAL].to_vec()), (Numbers::default(), file));
 }
@@ -318,13 +318,13 @@ fn a_list_is_run_on_a_book() {
     for parted in 0..calls.len() {
         let mut book = open();
         let first = book.run_on(&calls[..parted]);
-        assert_eq!(first, if parted == 3 { Err(Refusal::ShortFile) } else { Ok(()) }, "{parted}");
+        assert_eq!(first, if parted == 3 { Err(Refusal::ShortFile) } else { Ok(None) }, "{parted}");
         assert_eq!(book.run_on(&calls[parted..]), Err(Refusal::NoSuchBlock), "{parted}");
         assert_eq!(book.numbers(), whole.numbers(), "{parted}");
         assert_eq!((book.image(), book.journal()), (whole.image(), whole.journal()), "{parted}");
     }
     let before = whole.clone();
-    assert_eq!((whole.run_on(&[]), whole.numbers()), (Ok(()), before.numbers()));
+    assert_eq!((whole.run_on(&[]), whole.numbers()), (Ok(None), before.numbers()));
     assert_eq!((whole.image(), whole.journal()), (before.image(), before.journal()));
 
     let mut spoiled = Book::resume(numbers(MINIMAL - 1, 0), file.clone(), journal_before(20));

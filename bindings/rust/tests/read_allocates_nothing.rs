@@ -1,4 +1,4 @@
-//! Every part of a routine is read without a single allocation.
+//! Every part of a routine is read, and handed out by a walk, without a single allocation.
 
 use std::alloc::{GlobalAlloc, Layout, System};
 use std::cell::Cell;
@@ -61,11 +61,14 @@ fn count(routine: RoutineRef) -> [usize; 4] {
 fn nothing_is_allocated() {
     let path = format!("{}/../../samples/blocks.vtil", env!("CARGO_MANIFEST_DIR"));
     let file = std::fs::read(&path).unwrap_or_else(|error| panic!("{path}: {error}"));
-    let opened = Routine::open(&file, Rates::default()).unwrap();
+    let mut opened = Routine::open(&file, Rates::default()).unwrap();
     let mut counted = [[0; 4]; 2];
     let allocations = allocations_of(|| counted = [count(read(&file).unwrap()), count(opened.read())]);
     assert_eq!((counted[0], allocations), (counted[1], 0));
     assert!(counted[0].iter().all(|&count| count > 0), "{counted:?}");
+    let mut handed_out = 0;
+    let allocations = allocations_of(|| handed_out = opened.walk().unwrap().rest().count());
+    assert_eq!((handed_out, allocations), (3, 0));
     // The count does count: an instruction of its own has its operands on the heap.
     let mut instructions = read(&file).unwrap().explored_blocks().flat_map(|block| block.instructions());
     let mov = instructions.next().unwrap();

@@ -48,13 +48,13 @@ fn samples_are_accepted_or_refused() {
 
 #[test]
 fn refusals_have_numbers_and_words() {
-    for number in 1..=19 {
+    for number in 1..=21 {
         let refusal = Refusal::from_number(number).unwrap();
         assert_eq!(refusal.number(), number);
         assert_eq!(refusal.to_string(), format!("refused {number}: {}", refusal.words()));
     }
     assert_eq!(Refusal::from_number(0), None);
-    assert_eq!(Refusal::from_number(20), None);
+    assert_eq!(Refusal::from_number(22), None);
 }
 
 #[test]

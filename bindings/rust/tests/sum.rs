@@ -76,7 +76,7 @@ fn refused(book: &Owned, sum: u64, call: Call, due: Refusal) {
 /// sum.
 fn done(book: &Owned, sum: u64, call: Call, due: u64) {
     let (mut copy, mut own) = (with_sum(book, sum), book.clone());
-    assert_eq!((copy.run_on(&[call]), own.run_on(&[call])), (Ok(()), Ok(())), "{call:?} at {sum}");
+    assert_eq!((copy.run_on(&[call]), own.run_on(&[call])), (Ok(None), Ok(None)), "{call:?} at {sum}");
     assert_eq!(copy.numbers(), Numbers { sum: due, ..own.numbers() }, "{call:?} at {sum}");
     assert_eq!((copy.image(), copy.journal()), (own.image(), own.journal()), "{call:?}");
 }
@@ -219,7 +219,7 @@ fn a_refused_opening_answers_zeros() {
         assert!(book.run(&sample(name), &calls, LARGEST).is_err());
         assert_eq!(book.numbers(), Numbers::default(), "{name}");
     }
-    let before = Numbers { written: 1, used: 1, rates: RATES, sum: u64::MAX };
+    let before = Numbers { written: 1, used: 1, rates: RATES, sum: u64::MAX, walk: 1 };
     for (image, journal, due) in [(1133, 0, Refusal::ImageFull), (1134, MOST_LENT + 1, Refusal::LendingTooLarge)] {
         let mut book = Book::resume(before, vec![0; image], vec![0; journal]);
         assert_eq!((book.reopen(&sample("blocks"), LARGEST), book.numbers()), (Err(due), Numbers::default()));
@@ -233,7 +233,7 @@ fn the_same_routine_at_other_rates() {
     let mut book = opened("blocks", RATES);
     book.reopen(&sample("blocks"), MIXED).unwrap();
     hold(&book, MIXED, "reopened");
-    assert_eq!(book.run(&sample("blocks"), &[], RATES), Ok(Ok(())));
+    assert_eq!(book.run(&sample("blocks"), &[], RATES), Ok(Ok(None)));
     hold(&book, RATES, "opened by a list without calls");
 }
 
@@ -359,15 +359,15 @@ fn a_list_goes_on_after_a_sum_that_cannot_be() {
         [Call::Create(Vip(7)), Call::Remove(Vip(0x1010)), Call::Append(Vip(7), &nop), Call::Remove(Vip(0x1010))];
     let mut book = with_sum(&opened("blocks", RATES), 600_000);
     for (call, due, sum) in [
-        (calls[0], Ok(()), 600_000),
+        (calls[0], Ok(None), 600_000),
         (calls[1], Err(Refusal::SpoiledBook), 600_000),
-        (calls[2], Ok(()), 1_200_000),
-        (calls[3], Ok(()), 1_200_000 - 650_020),
+        (calls[2], Ok(None), 1_200_000),
+        (calls[3], Ok(None), 1_200_000 - 650_020),
     ] {
         assert_eq!((book.run_on(&[call]), book.sum()), (due, sum), "{call:?}");
     }
     let mut at_once = with_sum(&opened("blocks", RATES), 600_000);
-    assert_eq!((at_once.run_on(&calls), at_once.numbers()), (Ok(()), book.numbers()));
+    assert_eq!((at_once.run_on(&calls), at_once.numbers()), (Ok(None), book.numbers()));
     assert_eq!((at_once.image(), at_once.journal()), (book.image(), book.journal()));
 }
 

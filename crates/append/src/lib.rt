@@ -134,5 +134,5 @@ pub fn append(
         size as u32,
         journal::APPEND,
     );
-    book::accept(grown, spent, book.rates, sum + more)
+    book::accept(grown, spent, book.rates, sum + more, book.walk)
 }

@@ -1,19 +1,24 @@
 -- What the structs that answer a call say: by the refusal's number, which is 0 of an accepted call alone.
 -- Assumes nothing.
-use mathlib.Core.Path.{_≡_, refl, sym, ap}
+use mathlib.Core.Path.{_≡_, refl, sym, ap, ap₂, _∙_}
 use mathlib.Core.Bool.{Bool, true, false}
 use mathlib.Core.List.{List}
 use Prim.Native.Nat.{ℕ, _≤_, _<_}
 use native.Mathlib.Omega.{arith}
-use lib.Dec.{leb}
-use borrow.Author.Tests.{ne-eqb, leb-true}
+use lib.Dec.{leb, eqb}
+use borrow.Author.Tests.{ne-eqb, eqb-true, leb-true}
 use Rattle.fields.specs.Lists.{choose}
 use Rattle.fields.specs.Outcome.{Outcome, refused, accepted, after, _>>_, refuse-unless}
 use Rattle.fields.proofs.Only.{Only}
 use Rattle.machine.specs.Edits.{Lengths, admit}
+use Rattle.machine.specs.Walk.{no-part}
+use Rattle.machine.specs.Machine as machine
+use Rattle.machine.specs.Book.{State, book-answers}
+use Rattle.machine.specs.CallList.{Told, told}
 use Rattle.machine.proofs.Calls.{not-admitted-11, not-admitted-12, admitted}
 use Rattle.book.specs.Says.{state, outcome, leaving, refusal-of}
 use Rattle.book.specs.declared.Book.{Book}
+use Rattle.book.specs.declared.Answer.{Answer}
 
 pub refuses : (e : ℕ) (b : Book) (image journal : List ℕ) → 0 < e → outcome (record { refusal = e; book = b }) image journal ≡ (refused e, state image journal b)
 unfolding choose
@@ -22,6 +27,17 @@ refuses e b image journal h = rw (ne-eqb e 0 (λ z. omega arith))
 pub accepts : (b : Book) (image journal : List ℕ) → outcome (record { refusal = 0; book = b }) image journal ≡ leaving (state image journal b)
 unfolding choose
 accepts b image journal i = leaving (state image journal b)
+
+-- what an answer says that hands nothing out
+pub hands-nothing : (a : Answer) (image journal : List ℕ) {x : machine.Answer × State} → outcome a image journal ≡ x
+    → _≡_ {A = Told × State} (record { refusal = a .refusal; part = no-part }, state image journal (a .book)) (told (x .0), x .1)
+unfolding choose told
+hands-nothing a image journal {x} e = ap₂ (λ t s. (t, s)) (go (eqb (a .refusal) 0) refl ∙ ap (λ y. told (y .0)) e) (ap (λ y. y .1) e)
+  where
+    go : (t : Bool) → eqb (a .refusal) 0 ≡ t
+        → record { refusal = a .refusal; part = no-part } ≡ told (choose t (accepted (book-answers (state image journal (a .book)) .0)) (refused (a .refusal)))
+    go true q = ap (λ n. record { refusal = n; part = no-part }) (eqb-true (a .refusal) 0 q)
+    go false q = refl
 
 -- a refusal that is told is the outcome's
 pub refused-by : {A : Type 0} (o : Outcome A) {k : ℕ} → k ≡ refusal-of o → (k ≡ 0 → ⊥) → o ≡ refused k

@@ -29,6 +29,6 @@ module _ (s : State) (r : Routine) {q : Outcome (Routine × ℕ)} where
     pub restored-to : {m : ℕ} → carried (s .book .rates) r r′ (s .book .sum) ≡ accepted m
         → (w u : ℕ) (image journal : List ℕ) → w ≡ size r′ → u ≡ s .book .used - n → image ≡ in-image (length (s .image)) r′
         → journal ≡ put (s .book .used - n) (zeros n) (s .journal)
-        → leaving (record { image = image; journal = journal; book = record { written = w; used = u; rates = s .book .rates; sum = m } }) ≡ taking-back s r q
+        → leaving (record { image = image; journal = journal; book = record { written = w; used = u; rates = s .book .rates; sum = m; walk = s .book .walk } }) ≡ taking-back s r q
     unfolding restored attempt after
     restored-to c w u image journal ew eu ei ej = rw (e, c, ew, eu, ei, ej)

@@ -10,11 +10,13 @@ use Rattle.pod.specs.Values.{Routine}
 use Rattle.machine.specs.Machine as machine
 use Rattle.machine.specs.Book as machine-book
 use Rattle.machine.specs.Book.{State, book-answers, restored}
+use Rattle.machine.specs.CallList.{Told}
 use Rattle.book.specs.declared.Book.{Book}
 use Rattle.book.specs.declared.Answer.{Answer}
+use Rattle.book.specs.declared.WalkAnswer.{WalkAnswer}
 
 abbrev pub book-of : Book → machine-book.Book
-book-of b = record { written = b .written; used = b .used; rates = b .rates .rate; sum = b .sum }
+book-of b = record { written = b .written; used = b .used; rates = b .rates .rate; sum = b .sum; walk = b .walk }
 
 -- the state that a call finds
 abbrev pub state : List ℕ → List ℕ → Book → State
@@ -33,3 +35,11 @@ abbrev pub outcome : Answer → List ℕ → List ℕ → machine.Answer × Stat
 outcome a image journal =
     let s = state image journal (a .book) in
     (choose (eqb (a .refusal) 0) (accepted (book-answers s .0)) (refused (a .refusal)), s)
+
+-- what next answers beside its book, and the state that it leaves
+abbrev pub walk-outcome : WalkAnswer → List ℕ → List ℕ → Told × State
+walk-outcome a image journal = (record { refusal = a .refusal; part = record { offset = a .offset; len = a .len } }, state image journal (a .book))
+
+-- of an accepted one that hands out a part and leaves the state s
+abbrev pub handing : ℕ → ℕ → State → Told × State
+handing offset len s = (record { refusal = 0; part = record { offset = offset; len = len } }, s)

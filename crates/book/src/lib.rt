@@ -5,9 +5,10 @@ ghost use mathlib.Core.List.{List};
 ghost use Prim.Native.Nat.{ℕ, _+_, _<_, _^_};
 ghost use lib.Dec.{ltb};
 ghost use Rattle.fields.specs.Outcome.{refused};
-ghost use Rattle.machine.specs.Book.{unopened};
+ghost use Rattle.machine.specs.Book.{unopened, with-walk};
 ghost use Rattle.machine.specs.Edits as edits;
-ghost use Rattle.book.specs.Says.{state, outcome, leaving, refusal-of};
+ghost use Rattle.machine.specs.Walk.{no-part};
+ghost use Rattle.book.specs.Says.{state, outcome, leaving, refusal-of, walk-outcome, handing};
 
 // The rates of the six groups of operations, in hundredths of a cent per instruction.
 #[repr(C)]
@@ -16,13 +17,14 @@ pub struct Rates {
 }
 
 // Document 01's book: the written length of the routine in the image, and the journal bytes used. And document 02's, d: the rates, fixed at opening, and
-// the running sum in hundredths of a cent.
+// the running sum in hundredths of a cent; and f: the walk, 0 where none is open, else 1 + the place of the block that next hands out.
 #[repr(C)]
 pub struct Book {
     pub written: u64,
     pub used: u64,
     pub rates: Rates,
     pub sum: u64,
+    pub walk: u64,
 }
 
 // What opening, an edit or an undo answers: refusal 0 with the new book, or a refusal's number with the book as handed in (of an opening: a book
@@ -31,6 +33,15 @@ pub struct Book {
 pub struct Answer {
     pub refusal: u64,
     pub book: Book,
+}
+
+// What next answers beside: the part of the image that it hands out, by its offset and length. At the end, and where it is refused, both are 0.
+#[repr(C)]
+pub struct WalkAnswer {
+    pub refusal: u64,
+    pub book: Book,
+    pub offset: u64,
+    pub len: u64,
 }
 
 // The refusals that calls on a book give beside those of reading, as the numbers that an answer holds.
@@ -54,6 +65,10 @@ pub const CLOSED_BLOCK: u64 = fields::CLOSED_BLOCK as u64;
 
 pub const CROOKED_REGISTER: u64 = fields::CROOKED_REGISTER as u64;
 
+pub const WALK_OPEN: u64 = fields::WALK_OPEN as u64;
+
+pub const NO_WALK: u64 = fields::NO_WALK as u64;
+
 // A refused call answers its number, and the book as it was handed in.
 pub fn refuse(book: Book, refusal: u64) -> Answer
     ensures { λ r. ⌜ ((image journal : List ℕ) → 0 < refusal → outcome r image journal ≡ (refused refusal, state image journal book)) ⌝ }
@@ -61,7 +76,7 @@ pub fn refuse(book: Book, refusal: u64) -> Answer
     Answer { refusal, book }
 }
 
-// A refused opening answers its number, and a book of zeros, rates and sum too.
+// A refused opening answers its number, and a book of zeros, rates, sum and walk too.
 pub fn refuse_opening(refusal: u64) -> Answer
     ensures { λ r. ⌜ ((image journal : List ℕ) → 0 < refusal → outcome r image journal ≡ (refused refusal, unopened image journal)) ⌝ }
 {
@@ -72,14 +87,15 @@ pub fn refuse_opening(refusal: u64) -> Answer
             used: 0,
             rates: Rates { rate: [0; 6] },
             sum: 0,
+            walk: 0,
         },
     }
 }
 
-// An accepted call answers the book of what is written and used after it, the rates and the sum.
-pub fn accept(written: usize, used: usize, rates: Rates, sum: u64) -> Answer
+// An accepted opening, edit or undo answers the book of what is written and used after it, the rates, the sum and the walk.
+pub fn accept(written: usize, used: usize, rates: Rates, sum: u64, walk: u64) -> Answer
     ensures { λ r. ⌜ ((image journal : List ℕ) → outcome r image journal
-        ≡ leaving (record { image = image; journal = journal; book = record { written = written; used = used; rates = rates .rate; sum = sum } })) ⌝ }
+        ≡ leaving (record { image = image; journal = journal; book = record { written = written; used = used; rates = rates .rate; sum = sum; walk = walk } })) ⌝ }
 {
     Answer {
         refusal: 0,
@@ -88,7 +104,69 @@ pub fn accept(written: usize, used: usize, rates: Rates, sum: u64) -> Answer
             used: used as u64,
             rates,
             sum,
+            walk,
         },
+    }
+}
+
+// The same book with another walk: what start, next and abandon leave.
+fn with_walk(book: Book, walk: u64) -> Book
+    ensures { λ r. ⌜ ((image journal : List ℕ) → state image journal r ≡ with-walk walk (state image journal book)) ⌝ }
+{
+    let rates = book.rates;
+    Book {
+        written: book.written,
+        used: book.used,
+        rates,
+        sum: book.sum,
+        walk,
+    }
+}
+
+// An accepted start or abandon answers the book with another walk.
+pub fn accept_walk(book: Book, walk: u64) -> Answer
+    ensures { λ r. ⌜ ((image journal : List ℕ) → outcome r image journal ≡ leaving (with-walk walk (state image journal book))) ⌝ }
+{
+    Answer {
+        refusal: 0,
+        book: with_walk(book, walk),
+    }
+}
+
+// An accepted next answers the part that it hands out, and the book with another walk.
+pub fn hand_out(book: Book, walk: u64, offset: usize, len: usize) -> WalkAnswer
+    ensures { λ r. ⌜ ((image journal : List ℕ) → walk-outcome r image journal ≡ handing offset len (with-walk walk (state image journal book))) ⌝ }
+{
+    WalkAnswer {
+        refusal: 0,
+        book: with_walk(book, walk),
+        offset: offset as u64,
+        len: len as u64,
+    }
+}
+
+// What stands before the first call of a list: the book, and no call that was refused or handed out a part.
+pub fn nothing_yet(book: Book) -> WalkAnswer
+    ensures { λ r. ⌜ ((image journal : List ℕ) → walk-outcome r image journal ≡ handing 0 0 (state image journal book)) ⌝ }
+{
+    WalkAnswer {
+        refusal: 0,
+        book,
+        offset: 0,
+        len: 0,
+    }
+}
+
+// What is answered without handing out a part: a refused next, and every other call of a list.
+pub fn hand_nothing(answer: Answer) -> WalkAnswer
+    ensures { λ r. ⌜ ((image journal : List ℕ) → walk-outcome r image journal ≡ (record { refusal = answer .refusal; part = no-part }, state image journal (answer .book))) ⌝ }
+{
+    let book = answer.book;
+    WalkAnswer {
+        refusal: answer.refusal,
+        book,
+        offset: 0,
+        len: 0,
     }
 }
 

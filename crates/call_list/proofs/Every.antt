@@ -13,7 +13,8 @@ use borrow.Author.Tests.{le-leb, leb-true}
 use Rattle.fields.specs.Lists.{Each, choose}
 use Rattle.fields.specs.Bytes.{Bytes}
 use Rattle.machine.specs.Edits.{create, remove, append}
-use Rattle.machine.specs.Machine.{Call, edit, undo, Sendable}
+use Rattle.machine.specs.Walk.{walk-start, walk-next, walk-abandon}
+use Rattle.machine.specs.Machine.{Call, edit, undo, walking, Sendable}
 use Rattle.machine.specs.CallList.{is-call-list, call-of, between, calls}
 use Rattle.call_list.specs.Runs.{Encoded}
 use Rattle.call_list.proofs.Words.{both}
@@ -38,7 +39,7 @@ longer (kind ∷ []) t s h = let z : _≡_ {A = ℕ} 0 1 = cc in absurd (omega a
 longer (kind ∷ vip ∷ []) t s h = let z : _≡_ {A = ℕ} 0 1 = cc in absurd (omega arith)
 longer (kind ∷ vip ∷ begin ∷ []) t s h = let z : _≡_ {A = ℕ} 0 1 = cc in absurd (omega arith)
 longer (kind ∷ vip ∷ begin ∷ end ∷ words) t s h =
-    let a = both (leb kind 3) _ h in
+    let a = both (leb kind 6) _ h in
     let b = both (leb begin end) _ (a .1) in
     let c = both (leb end (length t)) _ (b .1) in
     let o : begin ≤ end = leb-true begin end (b .0) in
@@ -54,7 +55,7 @@ bytes-append (x ∷ t) s a b (suc i) = bytes-append t s (λ k. a (suc k)) b i
 
 -- one call more, before the others
 module _ (c : Call) (cs : List Call) (d : Encoded cs) where
-  before : (kind vip : ℕ) (bytes : List ℕ) → call-of kind vip bytes ≡ c → kind ≤ 3 → vip < 2 ^ 64 → Bytes bytes → Encoded (c ∷ cs)
+  before : (kind vip : ℕ) (bytes : List ℕ) → call-of kind vip bytes ≡ c → kind ≤ 6 → vip < 2 ^ 64 → Bytes bytes → Encoded (c ∷ cs)
   unfolding is-call-list calls
   before kind vip bytes e k v b =
       let t = d .bytes in
@@ -66,7 +67,7 @@ module _ (c : Call) (cs : List Call) (d : Encoded cs) where
         words = kind ∷ vip ∷ length t ∷ (length t + length bytes) ∷ d .words;
         bytes = t ++ bytes;
         encodes =
-            rw (le-leb kind 3 k, le-leb (length t) (length t + length bytes) o, le-leb (length t + length bytes) (length (t ++ bytes)) i, r .0);
+            rw (le-leb kind 6 k, le-leb (length t) (length t + length bytes) o, le-leb (length t + length bytes) (length (t ++ bytes)) i, r .0);
         is = ap₂ (λ x y. call-of kind vip x ∷ y) (between-new t bytes) (r .1 ∙ d .is) ∙ ap (λ x. x ∷ cs) e;
         octets = bytes-append t bytes (d .octets) b;
         fit = fits;
@@ -89,3 +90,6 @@ every (edit (create v) ∷ cs) f = before (edit (create v)) cs (every cs (f .1))
 every (edit (remove v) ∷ cs) f = before (edit (remove v)) cs (every cs (f .1)) 1 v [] refl (omega arith) (f .0) none
 every (edit (append v s) ∷ cs) f = before (edit (append v s)) cs (every cs (f .1)) 2 v s refl (omega arith) (f .0 .0) (f .0 .1)
 every (undo ∷ cs) f = before undo cs (every cs (f .1)) 3 0 [] refl (omega arith) (omega arith) none
+every (walking walk-start ∷ cs) f = before (walking walk-start) cs (every cs (f .1)) 4 0 [] refl (omega arith) (omega arith) none
+every (walking walk-next ∷ cs) f = before (walking walk-next) cs (every cs (f .1)) 5 0 [] refl (omega arith) (omega arith) none
+every (walking walk-abandon ∷ cs) f = before (walking walk-abandon) cs (every cs (f .1)) 6 0 [] refl (omega arith) (omega arith) none

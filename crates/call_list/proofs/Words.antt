@@ -61,21 +61,21 @@ module _ (words bytes : List ℕ) where
         let z : drop (at + 3) words ≡ end ∷ drop (at + 4) words = one (at + 3) (omega arith) ∙ ap (λ n. end ∷ drop n words) c in
         cc
 
-    pub tests : is-call-list (drop at words) bytes ≡ leb kind 3 && (leb begin end && (leb end (length bytes) && is-call-list (drop (at + 4) words) bytes))
+    pub tests : is-call-list (drop at words) bytes ≡ leb kind 6 && (leb begin end && (leb end (length bytes) && is-call-list (drop (at + 4) words) bytes))
     unfolding is-call-list
     tests = rw four
 
-    pub wrong-kind : 3 < kind → is-call-list (drop at words) bytes ≡ false
-    wrong-kind k = rw (tests, lt-leb kind 3 k)
+    pub wrong-kind : 6 < kind → is-call-list (drop at words) bytes ≡ false
+    wrong-kind k = rw (tests, lt-leb kind 6 k)
 
-    pub wrong-order : kind ≤ 3 → end < begin → is-call-list (drop at words) bytes ≡ false
-    wrong-order k o = rw (tests, le-leb kind 3 k, lt-leb begin end o)
+    pub wrong-order : kind ≤ 6 → end < begin → is-call-list (drop at words) bytes ≡ false
+    wrong-order k o = rw (tests, le-leb kind 6 k, lt-leb begin end o)
 
-    pub outside : kind ≤ 3 → begin ≤ end → length bytes < end → is-call-list (drop at words) bytes ≡ false
-    outside k o i = rw (tests, le-leb kind 3 k, le-leb begin end o, lt-leb end (length bytes) i)
+    pub outside : kind ≤ 6 → begin ≤ end → length bytes < end → is-call-list (drop at words) bytes ≡ false
+    outside k o i = rw (tests, le-leb kind 6 k, le-leb begin end o, lt-leb end (length bytes) i)
 
-    pub well : kind ≤ 3 → begin ≤ end → end ≤ length bytes → is-call-list (drop at words) bytes ≡ is-call-list (drop (at + 4) words) bytes
-    well k o i = rw (tests, le-leb kind 3 k, le-leb begin end o, le-leb end (length bytes) i)
+    pub well : kind ≤ 6 → begin ≤ end → end ≤ length bytes → is-call-list (drop at words) bytes ≡ is-call-list (drop (at + 4) words) bytes
+    well k o i = rw (tests, le-leb kind 6 k, le-leb begin end o, le-leb end (length bytes) i)
 
     pub calls-are : calls (drop at words) bytes ≡ call-at words bytes at ∷ calls (drop (at + 4) words) bytes
     unfolding calls
@@ -93,7 +93,7 @@ module _ (words bytes : List ℕ) where
 
     passed : (leb (getD words (at + 2) 0) (getD words (at + 3) 0) ≡ true)
         × (leb (getD words (at + 3) 0) (length bytes) && is-call-list (drop (at + 4) words) bytes) ≡ true
-    passed = both (leb (getD words (at + 2) 0) (getD words (at + 3) 0)) _ (both (leb (getD words at 0) 3) _ (sym (tests at whole) ∙ s) .1)
+    passed = both (leb (getD words (at + 2) 0) (getD words (at + 3) 0)) _ (both (leb (getD words at 0) 6) _ (sym (tests at whole) ∙ s) .1)
 
     left : (leb (getD words (at + 3) 0) (length bytes) ≡ true) × (is-call-list (drop (at + 4) words) bytes ≡ true)
     left = both (leb (getD words (at + 3) 0) (length bytes)) _ (passed .1)

@@ -3,23 +3,23 @@ use Prim.Native.Nat.{ℕ}
 use mathlib.Core.List.{List}
 use Rattle.fields.specs.Outcome.{Outcome, refused, accepted, refusal-of}
 use Rattle.machine.specs.Book.{State}
+use Rattle.machine.specs.CallList.{Told, nothing-told}
 use Rattle.book.specs.Says.{state}
-use Rattle.call_list.specs.declared.Ran.{Ran}
 use Rattle.call_list.specs.declared.RunAnswer.{RunAnswer}
 
--- the last call's refusal, and the state after a list
-abbrev pub after-calls : Ran → List ℕ → List ℕ → ℕ × State
-after-calls r image journal = (r .last, state image journal (r .book))
+-- a run's answer: the refusal, what the last call's answer says, and the state
+abbrev pub run-outcome : RunAnswer → List ℕ → List ℕ → ℕ × Told × State
+run-outcome r image journal = (
+  r .refusal,
+  record { refusal = r .last; part = record { offset = r .offset; len = r .len } },
+  state image journal (r .book),
+)
 
--- a run's answer: the refusal, the last call's refusal, and the state
-abbrev pub run-outcome : RunAnswer → List ℕ → List ℕ → ℕ × ℕ × State
-run-outcome r image journal = (r .refusal, r .last, state image journal (r .book))
-
--- the last call's refusal of a run; 0 of one that was refused
-unfoldable pub last-in : Outcome ℕ → ℕ
-last-in (accepted k) = k
-last-in (refused e) = 0
+-- what is said of the last call of a run; of one that was refused, nothing
+unfoldable pub last-in : Outcome Told → Told
+last-in (accepted t) = t
+last-in (refused e) = nothing-told
 
 -- the same of what the definitions say
-abbrev pub told : Outcome ℕ × State → ℕ × ℕ × State
-told x = (refusal-of (x .0), last-in (x .0), x .1)
+abbrev pub run-told : Outcome Told × State → ℕ × Told × State
+run-told x = (refusal-of (x .0), last-in (x .0), x .1)

@@ -2,51 +2,54 @@
 use book::Answer;
 use book::Book;
 use book::Rates;
+use book::WalkAnswer;
 use pod::Vip;
 ghost use mathlib.Core.Path.{_≡_};
-ghost use Rattle.machine.specs.Book.{step};
-ghost use Rattle.book.specs.Says.{state, outcome};
+ghost use Rattle.book.specs.Says.{state, walk-outcome};
 ghost use mathlib.Core.Bool.{true};
-ghost use Rattle.machine.specs.CallList.{is-call-list, call-of, call-at, Sits, calls, ran, run-on};
-ghost use Rattle.call_list.specs.Says.{after-calls, run-outcome, told};
+ghost use mathlib.Core.List.{List};
+ghost use Prim.Native.Nat.{ℕ};
+ghost use Rattle.machine.specs.CallList.{is-call-list, call-of, call-at, Sits, calls, told-step, nothing-told, ran, run-on};
+ghost use Rattle.call_list.specs.Says.{run-outcome, run-told};
 ghost use Rattle.call_list.specs.Runs.{Runs};
 
 // What a run over a list answers: `refusal` of the words or the opening, after which nothing is changed; else 0, and `last`, the refusal of the last
-// call, or 0 where it was accepted or the list is empty. The book is the one after the list.
+// call, or 0 where it was accepted or the list is empty. The book is the one after the list. Offset and length are those that the last call handed out, where it
+// is an accepted next, else 0.
 #[repr(C)]
 pub struct RunAnswer {
     pub refusal: u64,
     pub last: u64,
     pub book: Book,
-}
-
-// What the calls of a list left: the last one's refusal, and the book.
-struct Ran {
-    last: u64,
-    book: Book,
+    pub offset: u64,
+    pub len: u64,
 }
 
 // A run that was refused before its first call.
 fn not_run(answer: Answer) -> RunAnswer
-    ensures { λ r. ⌜ (r .refusal ≡ answer .refusal) × (r .last ≡ 0) × (r .book ≡ answer .book) ⌝ }
+    ensures { λ r. ⌜ ((image journal : List ℕ) → run-outcome r image journal ≡ (answer .refusal, nothing-told, state image journal (answer .book))) ⌝ }
 {
     let book = answer.book;
     RunAnswer {
         refusal: answer.refusal,
         last: 0,
         book,
+        offset: 0,
+        len: 0,
     }
 }
 
-// A run that went through its list.
-fn done(ran: Ran) -> RunAnswer
-    ensures { λ r. ⌜ (r .refusal ≡ 0) × (r .last ≡ ran .last) × (r .book ≡ ran .book) ⌝ }
+// A run that went through its list, of which the last call answered so.
+fn done(last: WalkAnswer) -> RunAnswer
+    ensures { λ r. ⌜ ((image journal : List ℕ) → run-outcome r image journal ≡ (0, walk-outcome last image journal .0, walk-outcome last image journal .1)) ⌝ }
 {
-    let book = ran.book;
+    let book = last.book;
     RunAnswer {
         refusal: 0,
-        last: ran.last,
+        last: last.refusal,
         book,
+        offset: last.offset,
+        len: last.len,
     }
 }
 
@@ -61,7 +64,7 @@ fn is_call_list(words: &[u64], bytes: &[u8]) -> bool
         if n - i < 4 {
             return false;
         }
-        if 3 < words[i] {
+        if 6 < words[i] {
             return false;
         }
         if words[i + 3] < words[i + 2] {
@@ -75,7 +78,7 @@ fn is_call_list(words: &[u64], bytes: &[u8]) -> bool
     true
 }
 
-// One call, by its kind.
+// One call, by its kind. Only next hands out a part of the image.
 fn call(
     book: Book,
     image: &mut [u8],
@@ -83,19 +86,28 @@ fn call(
     kind: u64,
     vip: Vip,
     bytes: &[u8],
-) -> Answer
-    ensures { λ r. ⌜ outcome r (now (image .exit)) (now (journal .exit)) ≡ step (call-of kind (vip .0) (now (bytes .entry))) (state (now (image .entry)) (now (journal .entry)) book) ⌝ }
+) -> WalkAnswer
+    ensures { λ r. ⌜ walk-outcome r (now (image .exit)) (now (journal .exit)) ≡ told-step (call-of kind (vip .0) (now (bytes .entry))) (state (now (image .entry)) (now (journal .entry)) book) ⌝ }
 {
     if kind == 0 {
-        return calls::create_block(book, image, journal, vip);
+        return book::hand_nothing(calls::create_block(book, image, journal, vip));
     }
     if kind == 1 {
-        return calls::remove_block(book, image, journal, vip);
+        return book::hand_nothing(calls::remove_block(book, image, journal, vip));
     }
     if kind == 2 {
-        return calls::append(book, image, journal, vip, bytes);
+        return book::hand_nothing(calls::append(book, image, journal, vip, bytes));
     }
-    calls::undo(book, image, journal)
+    if kind == 3 {
+        return book::hand_nothing(calls::undo(book, image, journal));
+    }
+    if kind == 4 {
+        return book::hand_nothing(walk::start(book, image, journal));
+    }
+    if kind == 5 {
+        return walk::next(book, image, journal);
+    }
+    book::hand_nothing(walk::abandon(book, image, journal))
 }
 
 // The call whose four words begin at `at`.
@@ -106,9 +118,9 @@ fn call_at(
     words: &[u64],
     bytes: &[u8],
     at: usize,
-) -> Answer
+) -> WalkAnswer
     requires { ⌜ Sits (now words) (now bytes) at ⌝ }
-    ensures { λ r. ⌜ outcome r (now (image .exit)) (now (journal .exit)) ≡ step (call-at (now (words .entry)) (now (bytes .entry)) at) (state (now (image .entry)) (now (journal .entry)) book) ⌝ }
+    ensures { λ r. ⌜ walk-outcome r (now (image .exit)) (now (journal .exit)) ≡ told-step (call-at (now (words .entry)) (now (bytes .entry)) at) (state (now (image .entry)) (now (journal .entry)) book) ⌝ }
 {
     let kind = words[at];
     let vip = Vip(words[at + 1]);
@@ -117,23 +129,27 @@ fn call_at(
     call(book, image, journal, kind, vip, &bytes[begin..end])
 }
 
-// The calls of a list on a book, each with the book that the one before it answered. The last call's refusal tells of any call of a list: it is that of
+// The calls of a list on a book, each with the book that the one before it answered. What the last call answers tells of any call of a list: it is that of
 // the list that ends there. Every call inspects image and book anew; no other work grows with the list's length.
-fn run_calls(book: Book, image: &mut [u8], journal: &mut [u8], words: &[u64], bytes: &[u8]) -> Ran
+fn run_calls(
+    book: Book,
+    image: &mut [u8],
+    journal: &mut [u8],
+    words: &[u64],
+    bytes: &[u8],
+) -> WalkAnswer
     requires { ⌜ is-call-list (now words) (now bytes) ≡ true ⌝ }
-    ensures { λ r. ⌜ after-calls r (now (image .exit)) (now (journal .exit)) ≡ ran 0 (calls (now (words .entry)) (now (bytes .entry))) (state (now (image .entry)) (now (journal .entry)) book) ⌝ }
+    ensures { λ r. ⌜ walk-outcome r (now (image .exit)) (now (journal .exit)) ≡ ran nothing-told (calls (now (words .entry)) (now (bytes .entry))) (state (now (image .entry)) (now (journal .entry)) book) ⌝ }
 {
     let n = words.len();
-    let mut last: u64 = 0;
-    let mut held = book;
+    let mut last = book::nothing_yet(book);
     let mut at = 0;
     while at < n {
-        let answer = call_at(held, image, journal, words, bytes, at);
-        last = answer.refusal;
-        held = answer.book;
+        let held = last.book;
+        last = call_at(held, image, journal, words, bytes, at);
         at += 4;
     }
-    Ran { last, book: held }
+    last
 }
 
 // Opens a file at rates and runs a list of calls.
@@ -166,7 +182,7 @@ pub fn run_on(
     words: &[u64],
     bytes: &[u8],
 ) -> RunAnswer
-    ensures { λ r. ⌜ run-outcome r (now (image .exit)) (now (journal .exit)) ≡ told (run-on (now (words .entry)) (now (bytes .entry)) (state (now (image .entry)) (now (journal .entry)) book)) ⌝ }
+    ensures { λ r. ⌜ run-outcome r (now (image .exit)) (now (journal .exit)) ≡ run-told (run-on (now (words .entry)) (now (bytes .entry)) (state (now (image .entry)) (now (journal .entry)) book)) ⌝ }
 {
     if !is_call_list(words, bytes) {
         return not_run(book::refuse(book, book::NO_SUCH_BLOCK));

@@ -20,11 +20,11 @@ pub fn create_block(book: Book, image: &mut [u8], journal: &mut [u8], vip: Vip) 
     create::create_block(book, image, journal, vip)
 }
 
-// The block with the vip goes, and the last block takes its place: 15 where it is absent, then 12, and 13 for the sum.
+// The block with the vip goes, and the last block takes its place: 20 where a walk is open, 15 where it is absent, then 12, and 13 for the sum.
 pub fn remove_block(book: Book, image: &mut [u8], journal: &mut [u8], vip: Vip) -> Answer
     ensures { λ r. ⌜ outcome r (now (image .exit)) (now (journal .exit)) ≡ step (edit (remove (vip .0))) (state (now (image .entry)) (now (journal .entry)) book) ⌝ }
 {
-    let refusal = image::inspect(book, image, journal);
+    let refusal = image::inspect_unwalked(book, image, journal);
     if refusal != 0 {
         return book::refuse(book, refusal);
     }
@@ -49,12 +49,12 @@ pub fn append(
     append::append(book, image, journal, vip, instruction)
 }
 
-// The last accepted edit that stands is taken back: 16 where none does, 13 where the journal's last entry does not fit the image, and 13
-// for the sum.
+// The last accepted edit that stands is taken back: 20 where a walk is open, 16 where no edit stands, 13 where the journal's last entry does not fit the
+// image, and 13 for the sum.
 pub fn undo(book: Book, image: &mut [u8], journal: &mut [u8]) -> Answer
     ensures { λ r. ⌜ outcome r (now (image .exit)) (now (journal .exit)) ≡ step undo (state (now (image .entry)) (now (journal .entry)) book) ⌝ }
 {
-    let refusal = image::inspect(book, image, journal);
+    let refusal = image::inspect_unwalked(book, image, journal);
     if refusal != 0 {
         return book::refuse(book, refusal);
     }

@@ -48,5 +48,5 @@ pub fn create_block(book: Book, image: &mut [u8], journal: &mut [u8], vip: Vip) 
     }
     add_block(image, written, vip);
     journal::put_trailer(journal, used, vip, count, 0, journal::CREATE);
-    book::accept(grown, spent, book.rates, book.sum)
+    book::accept(grown, spent, book.rates, book.sum, book.walk)
 }

@@ -17,8 +17,9 @@ use Rattle.pod.specs.Layout.{register, instruction, convention, block, read-fil
 use Rattle.pod.specs.Descs.{writing, written-to, write-instruction}
 use Rattle.pod.specs.declared.InstructionDesc.{InstructionDesc}
 use Rattle.machine.specs.Edits.{size, Edit, create, remove, append, place, edited}
-use Rattle.machine.specs.Machine.{Call, edit, undo}
-use Rattle.machine.specs.Book.{State, unopened, opening, open-book, held, call-book, step}
+use Rattle.machine.specs.Walk.{Walk, walk-start, walk-next, walk-abandon}
+use Rattle.machine.specs.Machine.{Call, edit, undo, walking, permit}
+use Rattle.machine.specs.Book.{State, unopened, opening, open-book, held, walk-book, call-book, step}
 use Rattle.machine.specs.CallList.{run-on, open-and-run}
 use Rattle.machine.specs.Look.{element, look-block, look-instruction, vip-list, look-vip, conventions, look-convention, register-list, look-register, look-charge}
 use Rattle.machine.specs.Charge.{Rates}
@@ -28,7 +29,8 @@ use Rattle.machine.proofs.Lists.{found}
 use Rattle.demands.specs.Demand1.{instruction-refusals, register-refusals, file-refusals, opening-refusals, look-refusals, charge-refusals, writer-refusals, call-refusals, Numbered, Refuses, Demand-1}
 use Rattle.demands.proofs.Refusals.{Reading, a-vip, a-register, a-convention, an-instruction, an-appended, a-block, a-routine}
 use Rattle.fields.proofs.Only.{Only, accepts, next, next-is, unless, when, attempts}
-use Rattle.demands.proofs.Only.{created-only, removed-only, appended-only, edit-book-only, undo-book-only, opening-only, element-only, vips-only, registers-only}
+use Rattle.demands.proofs.Only.{created-only, removed-only, appended-only, create-free, append-free, remove-free, undo-free, start-free, next-free, abandon-free}
+use Rattle.demands.proofs.Only.{edit-book-only, undo-book-only, opening-only, element-only, vips-only, registers-only}
 
 -- the refusals that a list of numbers has
 abbrev In : List ℕ → ℕ → Type 0
@@ -44,11 +46,19 @@ attempted s x h = record { number = numbered (attempts s x h); unaltered = λ e 
 module _ (s : State) where
   -- an edit, by its own refusals, and by when its routine may be too large
   edit-calls : (e : Edit) → In (call-refusals (edit e)) 10 → In (call-refusals (edit e)) 13 → In (call-refusals (edit e)) 12
+      → Only (In (call-refusals (edit e))) (permit (edit e) (s .book .walk))
       → ((r : Routine) → Only (In (call-refusals (edit e))) (edited e r))
       → ((r r′ : Routine) → held s ≡ accepted r → edited e r ≡ accepted r′ → length (s .image) < size r′ → In (call-refusals (edit e)) 11)
       → Refuses (call-refusals (edit e)) s (step (edit e) s)
   unfolding step call-book
-  edit-calls e p₁₀ p₁₃ p₁₂ h f = attempted s _ (next-is (held s) _ (held-only p₁₃ p₁₀ s) λ r q. edit-book-only p₁₂ p₁₃ e s r (h r) (λ r′ x. f r r′ q x))
+  edit-calls e p₁₀ p₁₃ p₁₂ w h f =
+      attempted s _ (next-is (held s) _ (held-only p₁₃ p₁₀ s) λ r q. next _ _ w λ u. edit-book-only p₁₂ p₁₃ e s r (h r) (λ r′ x. f r r′ q x))
+
+  -- a call of a walk
+  walk-calls : (w : Walk) → In (call-refusals (walking w)) 10 → In (call-refusals (walking w)) 13 → Only (In (call-refusals (walking w))) (permit (walking w) (s .book .walk))
+      → Refuses (call-refusals (walking w)) s (step (walking w) s)
+  unfolding step call-book walk-book
+  walk-calls w p₁₀ p₁₃ h = attempted s _ (next (held s) _ (held-only p₁₃ p₁₀ s) λ r. next _ _ h λ u. accepts _)
 
   -- a removal leaves less than the image held
   removal-fits : (v : ℕ) (r r′ : Routine) → held s ≡ accepted r → edited (remove v) r ≡ accepted r′ → length (s .image) < size r′ → ⊥
@@ -58,11 +68,14 @@ module _ (s : State) where
 
   calls : (c : Call) → Refuses (call-refusals c) s (step c s)
   unfolding has choose step call-book
-  calls (edit (create v)) = edit-calls (create v) refl refl refl (created-only refl v) (λ r r′ q x l. refl)
-  calls (edit (remove v)) = edit-calls (remove v) refl refl refl (removed-only refl v) (λ r r′ q x l. absurd (removal-fits v r r′ q x l))
+  calls (edit (create v)) = edit-calls (create v) refl refl refl (create-free _ v) (created-only refl v) (λ r r′ q x l. refl)
+  calls (edit (remove v)) = edit-calls (remove v) refl refl refl (remove-free _ refl v) (removed-only refl v) (λ r r′ q x l. absurd (removal-fits v r r′ q x l))
   calls (edit (append v t)) =
-      edit-calls (append v t) refl refl refl (appended-only refl refl refl v t (an-appended t refl refl refl refl refl refl refl 0)) (λ r r′ q x l. refl)
-  calls undo = attempted s _ (next (held s) _ (held-only refl refl s) λ r. undo-book-only refl refl s r)
+      edit-calls (append v t) refl refl refl (append-free _ v t) (appended-only refl refl refl v t (an-appended t refl refl refl refl refl refl refl 0)) (λ r r′ q x l. refl)
+  calls undo = attempted s _ (next (held s) _ (held-only refl refl s) λ r. next _ _ (undo-free _ refl) λ u. undo-book-only refl refl s r)
+  calls (walking walk-start) = walk-calls walk-start refl refl (start-free _ refl)
+  calls (walking walk-next) = walk-calls walk-next refl refl (next-free _ refl)
+  calls (walking walk-abandon) = walk-calls walk-abandon refl refl (abandon-free _ refl)
 
 file-numbered : (file : List ℕ) → Reading (In file-refusals) (read-file file)
 unfolding has choose

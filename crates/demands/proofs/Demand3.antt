@@ -7,24 +7,25 @@ use mathlib.Core.List.{List, [], _∷_, _++_}
 use Prim.Native.Nat.{ℕ, _≤_}
 use native.Mathlib.Omega.{arith}
 use lib.ListN.{length, take}
-use Rattle.fields.specs.Outcome.{Outcome, refused, accepted}
+use Rattle.fields.specs.Outcome.{Outcome, refused, accepted, _>>_}
 use Rattle.fields.specs.Lists.{Each}
 use Rattle.pod.specs.Written.{routine-bytes}
 use Rattle.laws.proofs.Layouts.{routine-layout, injective}
 use Rattle.machine.specs.Edits.{size, Edit, create, remove, append, edited, Lengths, lengths}
-use Rattle.machine.specs.Machine.{Call, edit, undo, Sendable, Machine, start, used-by, machine-call, machine-step, machine-run}
+use Rattle.machine.specs.Walk.{closed}
+use Rattle.machine.specs.Machine.{Call, edit, undo, walking, permit, Sendable, Machine, start, used-by, machine-walk, machine-call, machine-step, machine-run}
 use Rattle.machine.specs.Charge.{sum}
-use Rattle.machine.specs.Book.{in-image, held, run}
+use Rattle.machine.specs.Book.{in-image, with-walk, held, run}
 use Rattle.demands.specs.Demand3.{Opening, fresh, after-calls, machine-runs, machine-after, next-answer, written-bytes, is-accepted}
 use Rattle.demands.specs.Demand3.{edits-standing, Unspoiled, Follows, Told-apart, Standing-edit, Taken-back, Demand-3}
 use Rattle.machine.proofs.Held.{take-image}
 use Rattle.machine.proofs.Simulation.{Sim, linked-used, holds-it, run-sim}
 use Rattle.demands.proofs.Openings.{small, journal-small, fresh-sim}
 use Rattle.demands.proofs.Refusals.{an-appended}
-use Rattle.fields.proofs.Only.{Only, attempts}
-use Rattle.demands.proofs.Only.{created-only, removed-only, appended-only, machine-edit-only, machine-undo-only}
+use Rattle.fields.proofs.Only.{Only, accepts, next, attempts}
+use Rattle.demands.proofs.Only.{created-only, removed-only, appended-only, permit-only, machine-edit-only, machine-undo-only}
 use Rattle.demands.proofs.OneCall.{keeps-sum, sum-last}
-use Rattle.demands.proofs.Stacks.{each-append, run-append, Along, run-along, top-stands, returns}
+use Rattle.demands.proofs.Stacks.{each-append, run-append, Along, run-along, undo-closed, top-stands, returns}
 
 -- the machine answers neither 10 nor 13
 abbrev Sound-refusal : ℕ → Type 0
@@ -43,9 +44,13 @@ edited-unspoiled (append v s) m =
 
 module _ (lent : Lengths) where
   call-unspoiled : (c : Call) (m : Machine) → Only Sound-refusal (machine-call lent c m)
-  unfolding machine-call
+  unfolding machine-call machine-walk
   call-unspoiled (edit e) m = machine-edit-only (λ q. omega arith, λ q. omega arith) (λ q. omega arith, λ q. omega arith) lent e m (edited-unspoiled e m)
-  call-unspoiled undo m = machine-undo-only (λ q. omega arith, λ q. omega arith) (m .stack)
+  call-unspoiled undo m = machine-undo-only (λ q. omega arith, λ q. omega arith) (m .walk) (m .stack)
+  call-unspoiled (walking w) m = accepts _
+
+  permitted-unspoiled : (c : Call) (m : Machine) → Only Sound-refusal (permit c (m .walk) >> machine-call lent c m)
+  permitted-unspoiled c m = next _ _ (permit-only (m .walk) (λ q. omega arith, λ q. omega arith) (λ q. omega arith, λ q. omega arith) c) λ u. call-unspoiled c m
 
   unspoiled : {A : Type 0} (q : Outcome A) → Only Sound-refusal q → Unspoiled q
   unspoiled (accepted a) h = tt
@@ -54,13 +59,13 @@ module _ (lent : Lengths) where
   run-unspoiled : (cs : List Call) (m : Machine) → Each Unspoiled (machine-run lent cs m .0)
   unfolding machine-run machine-step
   run-unspoiled [] m = tt
-  run-unspoiled (c ∷ cs) m = (unspoiled _ (attempts m (machine-call lent c m) (call-unspoiled c m)), run-unspoiled cs (machine-step lent c m .1))
+  run-unspoiled (c ∷ cs) m = (unspoiled _ (attempts m (permit c (m .walk) >> machine-call lent c m) (permitted-unspoiled c m)), run-unspoiled cs (machine-step lent c m .1))
 
 module _ (o : Opening) (cs : List Call) (f : Each Sendable cs) where
   abbrev lent : Lengths
   lent = lengths (o .image) (o .journal)
 
-  simulated : (run cs (fresh o) .0 ≡ machine-runs o cs .0) × Sim lent (o .rates) (machine-after o cs) (after-calls o cs)
+  pub simulated : (run cs (fresh o) .0 ≡ machine-runs o cs .0) × Sim lent (o .rates) (machine-after o cs) (after-calls o cs)
   simulated = run-sim lent (small o) (journal-small o) (o .rates) (o .rates-fit) cs (start (o .routine)) (fresh o) f (fresh-sim o)
 
   pub follows : Follows o cs
@@ -73,7 +78,9 @@ module _ (o : Opening) (cs : List Call) (f : Each Sendable cs) where
         used = ap (λ x. x .book .used) (s .is) ∙ sym (linked-used (lent .image) (machine-after o cs .now) (machine-after o cs .stack) (s .j) (s .link));
         rates = ap (λ x. x .book .rates) (s .is);
         sum-afresh = ap (λ x. x .book .sum) (s .is);
-        holds = ap held (s .is) ∙ holds-it lent (small o) (journal-small o) (o .rates) (o .rates-fit) (machine-after o cs .now) (s .j) (s .holds) (s .room) (s .journal-room);
+        walk = ap (λ x. x .book .walk) (s .is);
+        holds = ap held (s .is)
+            ∙ holds-it lent (small o) (journal-small o) (o .rates) (o .rates-fit) (machine-after o cs .now) (machine-after o cs .walk) (s .j) (s .holds) (s .room) (s .journal-room) (s .fits);
       }
 
   -- the written bytes are the written form of the machine's routine
@@ -91,8 +98,9 @@ told-apart o p cs ds f g =
       bytes-equal = λ e. written-is o cs f ∙ ap routine-bytes e ∙ sym (written-is p ds g);
     }
 
--- where the machine is equal after two lists, image and book are
-module _ (o : Opening) (cs ds : List Call) (f : Each Sendable cs) (g : Each Sendable ds) (same : machine-after o cs ≡ machine-after o ds) where
+-- where the machine has the same routine and stack after two lists, image and book are the same, but for a walk
+module _ (o : Opening) (cs ds : List Call) (f : Each Sendable cs) (g : Each Sendable ds) (n : ℕ)
+    (same : machine-after o cs ≡ record { now = machine-after o ds .now; stack = machine-after o ds .stack; walk = n }) where
   same-image : after-calls o cs .image ≡ after-calls o ds .image
   same-image = follows o cs f .image ∙ ap (λ m. in-image (length (o .image)) (m .now)) same ∙ sym (follows o ds g .image)
 
@@ -108,8 +116,11 @@ module _ (o : Opening) (cs ds : List Call) (f : Each Sendable cs) (g : Each Send
   same-sum : after-calls o cs .book .sum ≡ after-calls o ds .book .sum
   same-sum = follows o cs f .sum-afresh ∙ ap (λ m. sum (o .rates) (m .now)) same ∙ sym (follows o ds g .sum-afresh)
 
-  same-book : after-calls o cs .book ≡ after-calls o ds .book
-  same-book i = record { written = same-written i; used = same-used i; rates = same-rates i; sum = same-sum i }
+  same-walk : after-calls o cs .book .walk ≡ n
+  same-walk = follows o cs f .walk ∙ ap (λ m. m .walk) same
+
+  same-book : after-calls o cs .book ≡ with-walk n (after-calls o ds) .book
+  same-book i = record { written = same-written i; used = same-used i; rates = same-rates i; sum = same-sum i; walk = same-walk i }
 
 module _ (o : Opening) (cs : List Call) (f : Each Sendable cs) where
   abbrev lent′ : Lengths
@@ -120,22 +131,24 @@ module _ (o : Opening) (cs : List Call) (f : Each Sendable cs) where
   unfolding machine-run
   along = run-along lent′ (o .routine) [] tt [] tt cs f
 
-  pub undoes : is-accepted (next-answer o cs undo) ≡ true → Standing-edit o cs
+  pub undoes : is-accepted (next-answer o cs undo) ≡ true → Standing-edit o cs × (machine-after o cs .walk ≡ closed)
   undoes a =
       let s = top-stands lent′ (o .routine) cs (edits-standing o cs) along a in
-      record { earlier = s .0; others = s .1; is = s .2 }
+      (record { earlier = s .0; others = s .1; is = s .2 }, undo-closed lent′ (machine-after o cs) a)
 
-  pub taken-back : (s : Standing-edit o cs) → Taken-back o cs (s .earlier)
+  pub taken-back : (s : Standing-edit o cs) → machine-after o cs .walk ≡ closed → Taken-back o cs (s .earlier)
   unfolding machine-run
-  taken-back s =
-      let r = returns lent′ (o .routine) cs (s .earlier) (s .others) (rw (s .is) at along) in
-      let same : machine-after o (cs ++ (undo ∷ [])) ≡ machine-after o (s .earlier) = run-append lent′ cs (undo ∷ []) (start (o .routine)) ∙ r .1 in
+  taken-back s z =
+      let r = returns lent′ (o .routine) cs (s .earlier) (s .others) z (rw (s .is) at along) in
+      let then = machine-after o (s .earlier) in
+      let same : machine-after o (cs ++ (undo ∷ [])) ≡ record { now = then .now; stack = then .stack; walk = closed }
+      = run-append lent′ cs (undo ∷ []) (start (o .routine)) ∙ r .1 in
       let sent = each-append Sendable cs (undo ∷ []) f (tt, tt) in
       record {
         accepts = r .0;
         routine = ap (λ x. x .now) same;
-        image = same-image o (cs ++ (undo ∷ [])) (s .earlier) sent (r .2) same;
-        book = same-book o (cs ++ (undo ∷ [])) (s .earlier) sent (r .2) same;
+        image = same-image o (cs ++ (undo ∷ [])) (s .earlier) sent (r .2) closed same;
+        book = same-book o (cs ++ (undo ∷ [])) (s .earlier) sent (r .2) closed same;
       }
 
 pub demand-3 : Demand-3

@@ -14,10 +14,14 @@ use Rattle.pod.specs.Descs as dc
 use Rattle.pod.specs.Written as w
 use Rattle.machine.specs.Trailer as tr
 use Rattle.machine.specs.Edits as e
+use Rattle.machine.specs.Walk as wk
 use Rattle.machine.specs.Machine as m
 use Rattle.machine.specs.Journal as j
 use Rattle.machine.specs.Book as b
 use Rattle.machine.specs.Charge as c
+use Rattle.machine.specs.CallList as l
+use Rattle.machine.specs.Look.{element}
+use Rattle.demands.specs.Sending.{received}
 use Rattle.demands.specs.Instances.{Instances}
 
 pub instances : Instances
@@ -30,6 +34,7 @@ unfolding refusal-of refuse-if refuse-unless what-is-read attempt bind choose le
     j.undo-create j.undo-remove j.without-last j.undo-append j.undo-entry j.undone put b.in-image b.opened b.opening b.open-book b.held
     b.edit-book b.restored b.undo-book b.call-book b.step b.run c.group c.total c.cents c.subtracted c.added c.carried every
     sd.is-slice sd.sound-operand sd.appended any dc.operand-desc dc.places dc.instruction-desc dc.desc-instruction dc.writing dc.written-to
+    wk.walk-fits wk.hand-out wk.walked-on m.permit m.machine-walk b.walk-book element received l.is-call-list l.call-of l.calls l.told l.last-told
 instances =
     record {
       smallest-read = refl;
@@ -108,4 +113,24 @@ instances =
       gone-on = refl;
       library-crooked-refused = refl;
       library-gone-on = refl;
+      three-sent = refl;
+      library-three-sent = refl;
+      sent-again = refl;
+      barred = refl;
+      library-barred = refl;
+      walk-numbers = refl;
+      back-after-end = refl;
+      between-handed = refl;
+      between-messages = refl;
+      walks-by-hand = refl;
+      looks-by-hand = refl;
+      next-by-hand = refl;
+      walk-by-hand = refl;
+      others-by-hand = refl;
+      spoiled-first = refl;
+      walk-kinds = refl;
+      last-kind = refl;
+      last-alone = refl;
+      twenty-alone = refl;
+      twenty-one-alone = refl;
     }

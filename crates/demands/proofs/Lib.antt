@@ -6,4 +6,6 @@ pub mod Only
 pub mod Demand1
 pub mod Demand2
 pub mod Demand3
+pub mod Vips
+pub mod Sending
 pub mod Instances

@@ -16,7 +16,8 @@ use Rattle.pod.specs.Layout.{read-file}
 use Rattle.pod.specs.Sound.{appended}
 use Rattle.machine.specs.Trailer.{Trailer}
 use Rattle.machine.specs.Edits.{size, Edit, create, remove, append, edited, Lengths, admit}
-use Rattle.machine.specs.Machine.{Stack, Machine, machine-edit, machine-undo}
+use Rattle.machine.specs.Walk.{walk-start, walk-next, walk-abandon}
+use Rattle.machine.specs.Machine.{Call, edit, undo, walking, permit, Stack, Machine, machine-edit, machine-undo}
 use Rattle.machine.specs.Journal.{undo-create, undo-append, undo-entry, undone}
 use Rattle.machine.specs.Charge.{Rates, subtracted, added, carried}
 use Rattle.machine.specs.Book.{State, opened, opening, edit-book, restored, undo-book}
@@ -56,6 +57,45 @@ module _ {P : ℕ → Type 0} where
     appended-only p₁₇ p₁₈ v s h r =
         next _ _ (reads _ h) λ x. next _ _ (when _ 17 p₁₇) λ u. next _ _ (unless _ 15 p₁₅) λ w. next _ _ (when _ 18 p₁₈) λ w. accepts _
 
+  -- a walk's: 20 of start, remove and take back, 21 of next and abandon
+  module _ (n : ℕ) where
+    pub create-free : (v : ℕ) → Only P (permit (edit (create v)) n)
+    unfolding permit
+    create-free v = accepts tt
+
+    pub append-free : (v : ℕ) (s : List ℕ) → Only P (permit (edit (append v s)) n)
+    unfolding permit
+    append-free v s = accepts tt
+
+    pub remove-free : P 20 → (v : ℕ) → Only P (permit (edit (remove v)) n)
+    unfolding permit
+    remove-free p₂₀ v = unless _ 20 p₂₀
+
+    pub undo-free : P 20 → Only P (permit undo n)
+    unfolding permit
+    undo-free p₂₀ = unless _ 20 p₂₀
+
+    pub start-free : P 20 → Only P (permit (walking walk-start) n)
+    unfolding permit
+    start-free p₂₀ = unless _ 20 p₂₀
+
+    pub next-free : P 21 → Only P (permit (walking walk-next) n)
+    unfolding permit
+    next-free p₂₁ = when _ 21 p₂₁
+
+    pub abandon-free : P 21 → Only P (permit (walking walk-abandon) n)
+    unfolding permit
+    abandon-free p₂₁ = when _ 21 p₂₁
+
+    pub permit-only : P 20 → P 21 → (c : Call) → Only P (permit c n)
+    permit-only p₂₀ p₂₁ (edit (create v)) = create-free v
+    permit-only p₂₀ p₂₁ (edit (append v s)) = append-free v s
+    permit-only p₂₀ p₂₁ (edit (remove v)) = remove-free p₂₀ v
+    permit-only p₂₀ p₂₁ undo = undo-free p₂₀
+    permit-only p₂₀ p₂₁ (walking walk-start) = start-free p₂₀
+    permit-only p₂₀ p₂₁ (walking walk-next) = next-free p₂₁
+    permit-only p₂₀ p₂₁ (walking walk-abandon) = abandon-free p₂₁
+
   -- the sum's
   carried-only : P 13 → (rates : Rates) (r r′ : Routine) (n : ℕ) → Only P (carried rates r r′ n)
   unfolding carried subtracted added
@@ -73,10 +113,10 @@ module _ {P : ℕ → Type 0} where
   machine-edit-only p₁₁ p₁₂ lent e m h = next _ _ h λ r. next _ _ (admit-only p₁₂ _ _ _ (λ l. p₁₁)) λ u. accepts _
 
   -- the machine's take back
-  pub machine-undo-only : P 16 → (ps : Stack) → Only P (machine-undo ps)
+  pub machine-undo-only : P 16 → (n : ℕ) (ps : Stack) → Only P (machine-undo n ps)
   unfolding machine-undo
-  machine-undo-only p₁₆ [] = refuses 16 p₁₆
-  machine-undo-only p₁₆ (p ∷ ps) = accepts _
+  machine-undo-only p₁₆ n [] = refuses 16 p₁₆
+  machine-undo-only p₁₆ n (p ∷ ps) = accepts _
 
   -- a take back
   module _ (p₁₃ : P 13) where

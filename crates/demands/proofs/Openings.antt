@@ -17,10 +17,12 @@ use Rattle.pod.specs.Values.{Routine}
 use Rattle.pod.specs.Layout.{read-file}
 use Rattle.laws.proofs.Layouts.{routine-layout, read-holds}
 use Rattle.machine.specs.Edits.{size, lengths}
+use Rattle.machine.specs.Walk.{closed}
 use Rattle.machine.specs.Machine.{Reply, start}
 use Rattle.machine.specs.Charge.{Rates, Fit-rates, sum}
 use Rattle.machine.specs.Book.{holding, unopened, opened, opening, open-book}
 use Rattle.machine.proofs.Held.{both}
+use Rattle.machine.proofs.Walks.{fits-closed}
 use Rattle.machine.proofs.Simulation.{Sim, state-of}
 use Rattle.demands.specs.Demand3.{Opening, fresh}
 
@@ -70,11 +72,11 @@ opening-of file image journal rates reply f t a =
     }
 
 fresh-is : (file image journal : List ℕ) (rates : Rates) {r : Routine} {n : ℕ} → read-file file ≡ ok r n → length image ≤ most-lent → length journal ≤ most-lent
-    → size r ≤ length image → open-book file image journal rates .1 ≡ state-of (lengths image journal) rates r []
+    → size r ≤ length image → open-book file image journal rates .1 ≡ state-of (lengths image journal) rates r closed []
 unfolding open-book opening opened refuse-unless choose after what-is-read attempt
 fresh-is file image journal rates {r} {n} e i j k =
     rw (le-leb (length image) most-lent i, le-leb (length journal) most-lent j, e, le-leb (size r) (length image) k)
-    (ap (λ m. holding (length image) r (zeros m) 0 rates (sum rates r)) (sym (sub-zero (length journal))))
+    (ap (λ m. holding (length image) r (zeros m) 0 rates (sum rates r) closed) (sym (sub-zero (length journal))))
 
 module _ (o : Opening) where
   given : Opens (o .file) (o .image) (o .journal)
@@ -101,5 +103,6 @@ module _ (o : Opening) where
         room = room;
         journal-room = omega arith;
         holds = read-holds routine-layout (o .bytes) (o .reads);
+        fits = fits-closed closed (o .routine) refl;
         link = refl;
       }

@@ -5,7 +5,7 @@ use mathlib.Core.Path.{_≡_}
 use mathlib.Core.Bool.{true}
 use mathlib.Core.List.{List, [], _∷_}
 use Rattle.fields.specs.Refusals.{short-file, name-not-text, wrong-mark, unknown-machine, foreign-register, unknown-operand-kind, unknown-operation, wrong-operand-count, repeated-block}
-use Rattle.fields.specs.Refusals.{lending-too-large, image-full, journal-full, spoiled-book, block-present, no-such-block, nothing-to-take-back, leftover, closed-block, crooked-register}
+use Rattle.fields.specs.Refusals.{lending-too-large, image-full, journal-full, spoiled-book, block-present, no-such-block, nothing-to-take-back, leftover, closed-block, crooked-register, walk-open, no-walk}
 use Rattle.fields.specs.Parse.{no, u64}
 use Rattle.fields.specs.Outcome.{Outcome, refused}
 use Rattle.fields.specs.Lists.{has}
@@ -13,7 +13,8 @@ use Rattle.pod.specs.Layout.{register, instruction, convention, block, read-fil
 use Rattle.pod.specs.Descs.{write-instruction}
 use Rattle.pod.specs.declared.InstructionDesc.{InstructionDesc}
 use Rattle.machine.specs.Edits.{create, remove, append}
-use Rattle.machine.specs.Machine.{Call, edit, undo}
+use Rattle.machine.specs.Walk.{walk-start, walk-next, walk-abandon}
+use Rattle.machine.specs.Machine.{Call, edit, undo, walking}
 use Rattle.machine.specs.Book.{State, unopened, open-book, step}
 use Rattle.machine.specs.CallList.{run-on, open-and-run}
 use Rattle.machine.specs.Look.{look-routine, look-block, look-instruction, look-vip, look-convention, look-register, look-charge}
@@ -46,14 +47,17 @@ charge-refusals = lending-too-large ∷ spoiled-book ∷ []
 abbrev pub writer-refusals : List ℕ
 writer-refusals = lending-too-large ∷ unknown-operation ∷ wrong-operand-count ∷ foreign-register ∷ unknown-operand-kind ∷ image-full ∷ []
 
--- of each call on a book, after 10 and 13: create 14, 11, 12; remove 15, 12; append the instruction's and 19, 17, 15, 18, 11, 12; take back 16. The sum's 13
--- comes last; create never gets it
+-- of each call on a book, after 10 and 13: create 14, 11, 12; remove 20, 15, 12; append the instruction's and 19, 17, 15, 18, 11, 12; take back 20, 16. The
+-- sum's 13 comes last; create never gets it. Of the calls of a walk start 20, next and abandon 21
 abbrev pub call-refusals : Call → List ℕ
 call-refusals (edit (create v)) = lending-too-large ∷ spoiled-book ∷ block-present ∷ image-full ∷ journal-full ∷ []
-call-refusals (edit (remove v)) = lending-too-large ∷ spoiled-book ∷ no-such-block ∷ journal-full ∷ []
+call-refusals (edit (remove v)) = lending-too-large ∷ spoiled-book ∷ walk-open ∷ no-such-block ∷ journal-full ∷ []
 call-refusals (edit (append v s)) =
     lending-too-large ∷ spoiled-book ∷ crooked-register ∷ leftover ∷ no-such-block ∷ closed-block ∷ image-full ∷ journal-full ∷ instruction-refusals
-call-refusals undo = lending-too-large ∷ spoiled-book ∷ nothing-to-take-back ∷ []
+call-refusals undo = lending-too-large ∷ spoiled-book ∷ walk-open ∷ nothing-to-take-back ∷ []
+call-refusals (walking walk-start) = lending-too-large ∷ spoiled-book ∷ walk-open ∷ []
+call-refusals (walking walk-next) = lending-too-large ∷ spoiled-book ∷ no-walk ∷ []
+call-refusals (walking walk-abandon) = lending-too-large ∷ spoiled-book ∷ no-walk ∷ []
 
 -- a refusal is one of the numbers
 pub record Numbered (es : List ℕ) {A : Type 0} (q : Outcome A) : Type 0 where

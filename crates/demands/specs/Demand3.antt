@@ -14,9 +14,10 @@ use Rattle.fields.specs.Bytes.{Bytes}
 use Rattle.pod.specs.Values.{Routine}
 use Rattle.pod.specs.Layout.{read-file}
 use Rattle.machine.specs.Edits.{size, lengths}
-use Rattle.machine.specs.Machine.{Call, edit, undo, Sendable, Reply, Answer, Machine, start, used-by, machine-run, machine-step}
+use Rattle.machine.specs.Walk.{closed}
+use Rattle.machine.specs.Machine.{Call, edit, undo, walking, Sendable, Reply, Answer, Machine, start, used-by, machine-run, machine-step}
 use Rattle.machine.specs.Charge.{Rates, Fit-rates, sum}
-use Rattle.machine.specs.Book.{State, in-image, held, open-book, step, run}
+use Rattle.machine.specs.Book.{State, in-image, with-walk, held, open-book, step, run}
 
 -- an accepted opening of a file into two lendings, at rates of 32 bits
 pub record Opening : Type 0 where
@@ -61,12 +62,13 @@ is-accepted (accepted b) = true
 is-accepted (refused e) = false
 
 -- The edits that stand are a stack, the last on top; each is told by the calls before it. An accepted edit is pushed, with the calls `earlier`, and an
--- accepted take back pops one
+-- accepted take back pops one; the calls of a walk leave it
 abbrev pub settle : Bool → List Call → Call → List (List Call) → List (List Call)
 settle false earlier c stack = stack
 settle true earlier (edit e) stack = earlier ∷ stack
 settle true earlier undo [] = []
 settle true earlier undo (top ∷ stack) = stack
+settle true earlier (walking w) stack = stack
 
 -- the stack after a list of calls with their answers, which follow the calls `earlier`
 unfoldable pub standing : List Call → List (List Call) → List Call → List Answer → List (List Call)
@@ -83,8 +85,9 @@ abbrev pub Unspoiled : {A : Type 0} → Outcome A → Type 0
 Unspoiled (accepted a) = Unit
 Unspoiled (refused e) = (e ≡ lending-too-large → ⊥) × (e ≡ spoiled-book → ⊥)
 
--- every answer equals the machine's; the image holds the written form of the machine's routine, then zeros; the book its length and used, the rates of
--- the opening, and the sum worked afresh at these on the machine's routine; and a look at the book is a look at that routine
+-- every answer equals the machine's, with what next hands out; the image holds the written form of the machine's routine, then zeros; the book its length
+-- and used, the rates of the opening, the sum worked afresh at these on the machine's routine, and the machine's walk; and a look at the book is a look at
+-- that routine
 pub record Follows (o : Opening) (cs : List Call) : Type 0 where
   pub answers : run cs (fresh o) .0 ≡ machine-runs o cs .0
   pub image : after-calls o cs .image ≡ in-image (length (o .image)) (machine-after o cs .now)
@@ -92,6 +95,7 @@ pub record Follows (o : Opening) (cs : List Call) : Type 0 where
   pub used : after-calls o cs .book .used ≡ used-by (machine-after o cs .stack)
   pub rates : after-calls o cs .book .rates ≡ o .rates
   pub sum-afresh : after-calls o cs .book .sum ≡ sum (o .rates) (machine-after o cs .now)
+  pub walk : after-calls o cs .book .walk ≡ machine-after o cs .walk
   pub holds : held (after-calls o cs) ≡ accepted (machine-after o cs .now)
 
 -- two books hold equal written bytes exactly when the machine ends in equal routines
@@ -105,12 +109,12 @@ pub record Standing-edit (o : Opening) (cs : List Call) : Type 0 where
   pub others : List (List Call)
   pub is : edits-standing o cs ≡ earlier ∷ others
 
--- a take back after cs is accepted, and returns to what was after the calls `earlier`
+-- a take back after cs is accepted, and returns to what was after the calls `earlier`; but no walk is open, though one may have been then
 pub record Taken-back (o : Opening) (cs earlier : List Call) : Type 0 where
   pub accepts : is-accepted (next-answer o cs undo) ≡ true
   pub routine : machine-after o (cs ++ (undo ∷ [])) .now ≡ machine-after o earlier .now
   pub image : after-calls o (cs ++ (undo ∷ [])) .image ≡ after-calls o earlier .image
-  pub book : after-calls o (cs ++ (undo ∷ [])) .book ≡ after-calls o earlier .book
+  pub book : after-calls o (cs ++ (undo ∷ [])) .book ≡ with-walk closed (after-calls o earlier) .book
 
 -- An accepted call on any book that is not spoiled, whatever its rates and its sum are: the book after it is not spoiled, the rates stay, and the sum
 -- changes by exactly what the routine's sum changes by
@@ -127,7 +131,7 @@ with-sum n s =
     record {
       image = s .image;
       journal = s .journal;
-      book = record { written = s .book .written; used = s .book .used; rates = s .book .rates; sum = n };
+      book = record { written = s .book .written; used = s .book .used; rates = s .book .rates; sum = n; walk = s .book .walk };
     }
 
 abbrev pub afresh : Routine → State → State
@@ -149,9 +153,10 @@ pub record Demand-3 : Type 0 where
   -- the machine gives neither 10 nor 13, so in these lists no call does
   pub never-spoiled : (o : Opening) (cs : List Call) → Each Sendable cs → Each Unspoiled (run cs (fresh o) .0)
   pub told-apart : (o p : Opening) (cs ds : List Call) → Each Sendable cs → Each Sendable ds → Told-apart o p cs ds
-  -- where a take back is accepted, an edit stands; and where one stands, a take back is accepted and returns to what was before the last that does
-  pub undoes : (o : Opening) (cs : List Call) → Each Sendable cs → is-accepted (next-answer o cs undo) ≡ true → Standing-edit o cs
-  pub taken-back : (o : Opening) (cs : List Call) → Each Sendable cs → (s : Standing-edit o cs) → Taken-back o cs (s .earlier)
+  -- where a take back is accepted, an edit stands and no walk is open; and where that is so, a take back is accepted and returns to what was before the last
+  -- edit that stands
+  pub undoes : (o : Opening) (cs : List Call) → Each Sendable cs → is-accepted (next-answer o cs undo) ≡ true → Standing-edit o cs × (machine-after o cs .walk ≡ closed)
+  pub taken-back : (o : Opening) (cs : List Call) → Each Sendable cs → (s : Standing-edit o cs) → machine-after o cs .walk ≡ closed → Taken-back o cs (s .earlier)
   -- one call, also on a book that no list led to
   pub keeps-sum : (c : Call) (s : State) (r : Routine) → Sendable c → Bytes (s .image) → Bytes (s .journal) → held s ≡ accepted r → is-accepted (step c s .0) ≡ true
       → Keeps-sum c s r

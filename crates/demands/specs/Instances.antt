@@ -1,5 +1,5 @@
--- Document 01's starred instances, and some of the charge, of closed blocks, of the running sum and of crooked registers, as one claim about the layouts,
--- the machine and the charge.
+-- Document 01's starred instances, and some of the charge, of closed blocks, of the running sum, of crooked registers and of walks, as one claim about the
+-- layouts, the machine and the charge.
 use Prim.Native.Nat.{ℕ, _+_, _-_, _^_}
 use mathlib.Core.Path.{_≡_}
 use mathlib.Core.Bool.{Bool, true, false}
@@ -15,18 +15,21 @@ use Rattle.pod.specs.Values.{Instruction, RoutineConvention, BasicBlock, Routin
 use Rattle.pod.specs.Blocks.{vips}
 use Rattle.pod.specs.Layout.{instruction, read-file}
 use Rattle.pod.specs.Sound.{is-slice, convention-sound, block-sound, routine-sound}
-use Rattle.pod.specs.Written.{bytes, operand-bytes, instruction-bytes, routine-bytes}
+use Rattle.pod.specs.Written.{bytes, operand-bytes, instruction-bytes, block-bytes, routine-bytes}
 use Rattle.pod.specs.Descs.{instruction-desc, write-instruction}
 use Rattle.pod.specs.declared.RegisterDesc.{RegisterDesc}
 use Rattle.pod.specs.declared.Operand.{Operand}
 use Rattle.pod.specs.declared.Operand.the-variants.{Imm, Reg}
 use Rattle.machine.specs.Edits.{create, remove, append, edited, empty-block, with-instructions, with-blocks, leaves-block, is-closed}
-use Rattle.machine.specs.Machine.{Call, edit, undo, Answer, start, machine-run}
-use Rattle.machine.specs.Book.{Book, State, held, open-book, step, run}
+use Rattle.machine.specs.Walk.{walk-start, walk-next, walk-abandon, no-part}
+use Rattle.machine.specs.Machine.{Call, edit, undo, walking, Answer, start, machine-run}
+use Rattle.machine.specs.Book.{Book, State, with-walk, held, open-book, step, run}
 use Rattle.machine.specs.Charge.{Rates, Fit-rates, group, rate-of, sum, cents}
-use Rattle.machine.specs.Look.{look-charge}
+use Rattle.machine.specs.Look.{look-block, look-charge}
+use Rattle.machine.specs.CallList.{Told, is-call-list, calls, nothing-told, last-told}
 use Rattle.demands.specs.Demand1.{opening-refusals, writer-refusals, call-refusals}
 use Rattle.demands.specs.Demand3.{with-sum}
+use Rattle.demands.specs.Sending.{Message, received}
 
 -- a header: its marks, machine and pad
 abbrev pub header-of : ℕ → ℕ → ℕ → ℕ → List ℕ
@@ -116,7 +119,7 @@ abbrev pub library-vips-after : List Call → List ℕ
 library-vips-after cs = vips-of (held (library-run cs .1))
 
 abbrev pub answered : ℕ → ℕ → Answer
-answered written used = accepted (record { written = written; used = used })
+answered written used = accepted (record { written = written; used = used; part = no-part })
 
 -- two blocks of one nop each
 abbrev pub two-nops : Routine
@@ -273,6 +276,73 @@ appends-crooked = edit (create 5) ∷ append-to-5 crooked ∷ []
 abbrev pub goes-on : List Call
 goes-on = appends-crooked ++ (edit (create 6) ∷ [])
 
+-- start, next and abandon
+abbrev pub start-walk : Call
+start-walk = walking walk-start
+
+abbrev pub next-block : Call
+next-block = walking walk-next
+
+abbrev pub abandon-walk : Call
+abandon-walk = walking walk-abandon
+
+-- what an answer says: its refusal, and the offset and length that it hands out
+abbrev pub handed : Answer → ℕ × ℕ × ℕ
+handed (refused e) = (e, 0, 0)
+handed (accepted a) = (0, a .part .offset, a .part .len)
+
+-- of a list of calls from the smallest file, by the machine and by the library
+abbrev pub handed-by-machine : List Call → List (ℕ × ℕ × ℕ)
+handed-by-machine cs = map handed (machine-run (record { image = 222; journal = 116 }) cs (start smallest-routine) .0)
+
+abbrev pub handed-by-library : List Call → List (ℕ × ℕ × ℕ)
+handed-by-library cs = map handed (library-run cs .0)
+
+-- create 5 and 6, start, next twice; create 7, next twice, and once more
+abbrev pub sends-three : List Call
+sends-three =
+    edit (create 5) ∷ edit (create 6) ∷ start-walk ∷ next-block ∷ next-block ∷ edit (create 7) ∷ next-block ∷ next-block ∷ next-block ∷ []
+
+-- the blocks 5 and 6, then 7, the end, and no walk any more
+abbrev pub three-handed : List (ℕ × ℕ × ℕ)
+three-handed = (0, 0, 0) ∷ (0, 0, 0) ∷ (0, 0, 0) ∷ (0, 114, 36) ∷ (0, 150, 36) ∷ (0, 0, 0) ∷ (0, 186, 36) ∷ (0, 0, 0) ∷ (21, 0, 0) ∷ []
+
+-- what a run says of its last call, after the first k of these
+abbrev pub last-handed : ℕ → ℕ × ℕ × ℕ
+last-handed k = let t = last-told nothing-told (library-run (take k sends-three) .0) in (t .refusal, t .part .offset, t .part .len)
+
+-- create 5 and 6, start, next, abandon; start again, and next until the end
+abbrev pub sends-again : List Call
+sends-again =
+    edit (create 5) ∷ edit (create 6) ∷ start-walk ∷ next-block ∷ abandon-walk ∷ start-walk ∷ next-block ∷ next-block ∷ next-block ∷ []
+
+-- create 5 and start; remove it, remove 9, take back, start; next, abandon; abandon, next; take back; start on no blocks, take back; next
+abbrev pub turned-away : List Call
+turned-away =
+    edit (create 5) ∷ start-walk ∷ edit (remove 5) ∷ edit (remove 9) ∷ undo ∷ start-walk ∷ next-block ∷ abandon-walk ∷ abandon-walk ∷ next-block ∷ undo
+    ∷ start-walk ∷ undo ∷ next-block ∷ []
+
+-- and the refusals
+abbrev pub away-by : List ℕ
+away-by = 0 ∷ 0 ∷ 20 ∷ 20 ∷ 20 ∷ 20 ∷ 0 ∷ 0 ∷ 21 ∷ 21 ∷ 0 ∷ 0 ∷ 20 ∷ 0 ∷ []
+
+-- create 5, start, next, the end; and take back
+abbrev pub sends-and-back : List Call
+sends-and-back = edit (create 5) ∷ start-walk ∷ next-block ∷ next-block ∷ undo ∷ []
+
+-- create 5 and 6, start, next; append a nop to 5, which was sent, and one to 6, which was not; next twice
+abbrev pub appends-between : List Call
+appends-between =
+    edit (create 5) ∷ edit (create 6) ∷ start-walk ∷ next-block ∷ append-to-5 a-nop ∷ edit (append 6 (instruction-bytes a-nop)) ∷ next-block ∷ next-block ∷ []
+
+-- the three blocks, handed in with the walk n
+abbrev pub three-walked : ℕ → State
+three-walked n = with-walk n (library-run creates .1)
+
+-- what was handed out, as bytes
+abbrev pub message-bytes : List Message → List (List ℕ)
+message-bytes ms = map (λ m. m .bytes) ms
+
 pub record Instances : Type 0 where
   -- Header of machine 2 and 106 zeros: consumed 114. Its first 113: 1. Empty: 1
   pub smallest-read : read-file smallest ≡ ok smallest-routine 114
@@ -347,7 +417,7 @@ pub record Instances : Type 0 where
   pub full-first : map (on-sum 40 appends-nop (edit (remove 5))) (0 ∷ most-sum ∷ []) ++ map (on-sum 40 appends-nop (append-to-5 a-nop)) (0 ∷ most-sum ∷ [])
       ≡ (12, 0) ∷ (12, most-sum) ∷ (12, 0) ∷ (12, most-sum) ∷ []
   -- A refused opening answers a book of zeros, whatever the rates
-  pub refused-opening : open-book (take 113 smallest) [] [] six-rates .1 .book ≡ record { written = 0; used = 0; rates = 0 ∷ 0 ∷ 0 ∷ 0 ∷ 0 ∷ 0 ∷ []; sum = 0 }
+  pub refused-opening : open-book (take 113 smallest) [] [] six-rates .1 .book ≡ record { written = 0; used = 0; rates = 0 ∷ 0 ∷ 0 ∷ 0 ∷ 0 ∷ 0 ∷ []; sum = 0; walk = 0 }
   -- Any rates of 32 bits can be handed in
   pub largest-rates : Fit-rates (replicate 6 (2 ^ 32 - 1))
   -- Each group counts at its own rate
@@ -409,3 +479,42 @@ pub record Instances : Type 0 where
   pub gone-on : answer-to goes-on ≡ answered 186 40
   pub library-crooked-refused : library-answer-to appends-crooked ≡ refused 19
   pub library-gone-on : library-answer-to goes-on ≡ answered 186 40
+  -- On the 114 bytes, image 222 and journal 116: the blocks 5 and 6 are sent, and 7, which was created meanwhile; then the end, and no walk is open
+  pub three-sent : handed-by-machine sends-three ≡ three-handed
+  pub library-three-sent : handed-by-library sends-three ≡ three-handed
+  -- After an abandoned walk the next one begins at the first block again
+  pub sent-again : handed-by-library sends-again
+      ≡ (0, 0, 0) ∷ (0, 0, 0) ∷ (0, 0, 0) ∷ (0, 114, 36) ∷ (0, 0, 0) ∷ (0, 0, 0) ∷ (0, 114, 36) ∷ (0, 150, 36) ∷ (0, 0, 0) ∷ []
+  -- 20 where a walk is open, of an absent block too, and before 16; 21 where none is. On no blocks a walk opens, and its first next is the end
+  pub barred : map (λ (x : ℕ × ℕ × ℕ). x .0) (handed-by-machine turned-away) ≡ away-by
+  pub library-barred : map (λ (x : ℕ × ℕ × ℕ). x .0) (handed-by-library turned-away) ≡ away-by
+  -- The walk's number along these calls, and that it is no reason against taking back once the end was said
+  pub walk-numbers : map (λ k. library-run (take k sends-three) .1 .book .walk) (2 ∷ 3 ∷ 4 ∷ 5 ∷ 6 ∷ 7 ∷ 8 ∷ 9 ∷ []) ≡ 0 ∷ 1 ∷ 2 ∷ 3 ∷ 3 ∷ 4 ∷ 0 ∷ 0 ∷ []
+  pub back-after-end : library-answer-to sends-and-back ≡ answered 114 0
+  -- An append to a block that was sent is not sent again, and one to the block that comes next is sent with it, where it now stands
+  pub between-handed : map handed (run appends-between (charged-run 220 []) .0)
+      ≡ (0, 0, 0) ∷ (0, 0, 0) ∷ (0, 0, 0) ∷ (0, 114, 36) ∷ (0, 0, 0) ∷ (0, 0, 0) ∷ (0, 182, 68) ∷ (0, 0, 0) ∷ []
+  pub between-messages : message-bytes (received [] [] appends-between (charged-run 220 []))
+      ≡ block-bytes (empty-block 5) ∷ block-bytes (with-instructions (a-nop ∷ []) (empty-block 6)) ∷ []
+  -- Three blocks, handed in with walks made by hand: the place 3 is the block count, and 4 is over it. So say a look, next, create and abandon
+  pub walks-by-hand : map (λ n. refusal-of (held (three-walked n))) (0 ∷ 1 ∷ 3 ∷ 4 ∷ 5 ∷ most-sum ∷ []) ≡ 0 ∷ 0 ∷ 0 ∷ 0 ∷ 13 ∷ 13 ∷ []
+  pub looks-by-hand : map (λ n. refusal-of (look-block 0 (three-walked n))) (0 ∷ 4 ∷ 5 ∷ most-sum ∷ []) ≡ 0 ∷ 0 ∷ 13 ∷ 13 ∷ []
+  pub next-by-hand : map (λ n. handed (step next-block (three-walked n) .0)) (0 ∷ 1 ∷ 3 ∷ 4 ∷ 5 ∷ most-sum ∷ [])
+      ≡ (21, 0, 0) ∷ (0, 114, 36) ∷ (0, 186, 36) ∷ (0, 0, 0) ∷ (13, 0, 0) ∷ (13, 0, 0) ∷ []
+  pub walk-by-hand : map (λ n. step next-block (three-walked n) .1 .book .walk) (0 ∷ 1 ∷ 3 ∷ 4 ∷ 5 ∷ most-sum ∷ []) ≡ 0 ∷ 2 ∷ 4 ∷ 0 ∷ 5 ∷ most-sum ∷ []
+  pub others-by-hand : map (λ c. refusal-of (step c (three-walked 5) .0)) (edit (create 8) ∷ edit (remove 5) ∷ undo ∷ start-walk ∷ abandon-walk ∷ [])
+      ≡ 13 ∷ 13 ∷ 13 ∷ 13 ∷ 13 ∷ []
+  -- A book that is spoiled otherwise, with no walk: next is 13, and not 21
+  pub spoiled-first : refusal-of (step next-block (with-walk 0 (two-opened 10)) .0) ≡ 13
+  -- In words the kinds 4 to 6 are start, next and abandon, and 7 is none
+  pub walk-kinds : calls (4 ∷ 0 ∷ 0 ∷ 0 ∷ 5 ∷ 0 ∷ 0 ∷ 0 ∷ 6 ∷ 0 ∷ 0 ∷ 0 ∷ []) [] ≡ start-walk ∷ next-block ∷ abandon-walk ∷ []
+  pub last-kind : map (λ k. is-call-list (k ∷ 0 ∷ 0 ∷ 0 ∷ []) []) (6 ∷ 7 ∷ []) ≡ true ∷ false ∷ []
+  -- A run says what its last call handed out, and nothing of the calls before it
+  pub last-alone : map last-handed (0 ∷ 4 ∷ 6 ∷ 7 ∷ 8 ∷ 9 ∷ []) ≡ (0, 0, 0) ∷ (0, 114, 36) ∷ (0, 0, 0) ∷ (0, 186, 36) ∷ (0, 0, 0) ∷ (21, 0, 0) ∷ []
+  -- 20 is start's, remove's and take back's alone, and 21 next's and abandon's
+  pub twenty-alone :
+      map (λ c. has 20 (call-refusals c)) (edit (create 5) ∷ edit (remove 5) ∷ append-to-5 a-nop ∷ undo ∷ start-walk ∷ next-block ∷ abandon-walk ∷ [])
+      ≡ false ∷ true ∷ false ∷ true ∷ true ∷ false ∷ false ∷ []
+  pub twenty-one-alone :
+      map (λ c. has 21 (call-refusals c)) (edit (create 5) ∷ edit (remove 5) ∷ append-to-5 a-nop ∷ undo ∷ start-walk ∷ next-block ∷ abandon-walk ∷ [])
+      ≡ false ∷ false ∷ false ∷ false ∷ false ∷ true ∷ true ∷ []

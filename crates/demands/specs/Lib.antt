@@ -1,4 +1,5 @@
 pub mod Demand1
 pub mod Demand2
 pub mod Demand3
+pub mod Sending
 pub mod Instances

@@ -75,3 +75,11 @@ closed-block = 18
 -- a register of the instruction to append has a width under 1, an offset under 0, or their sum is over 64
 abbrev pub crooked-register : ℕ
 crooked-register = 19
+
+-- a walk was started, and neither ended nor abandoned
+abbrev pub walk-open : ℕ
+walk-open = 20
+
+-- none was started, or it has ended or was abandoned
+abbrev pub no-walk : ℕ
+no-walk = 21

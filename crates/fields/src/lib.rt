@@ -47,6 +47,10 @@ pub const CLOSED_BLOCK: u8 = 18;
 
 pub const CROOKED_REGISTER: u8 = 19;
 
+pub const WALK_OPEN: u8 = 20;
+
+pub const NO_WALK: u8 = 21;
+
 // An image or a journal is at most this long.
 pub const MOST_LENT: usize = 16_777_216;
 

@@ -4,32 +4,30 @@
 use mathlib.Core.Path.{_≡_, sym, ap, _∙_}
 use mathlib.Core.List.{List, [], _∷_, _++_}
 use Prim.Native.Nat.{ℕ, zero, suc, _+_, _*_, _-_, _^_, _≤_, _<_}
-use native.Mathlib.Nat.{add-zero, zero-add, le-of-suc-le-suc}
+use native.Mathlib.Nat.{add-zero, le-of-suc-le-suc}
 use native.Mathlib.Omega.{arith}
-use lib.ListN.{length, take, drop, getD, length-append}
+use lib.ListN.{length, take, getD, length-append}
 use lib.Seq.{take-suc, take-length}
 use Rattle.fields.specs.Lists.{Each}
 use Rattle.laws.specs.Holds.{Convention-holds, Block-holds, Instruction-holds}
 use Rattle.laws.proofs.At.{fits, left, right}
 use Rattle.laws.proofs.Back.{length-bytes, uint-reads}
 use Rattle.laws.proofs.Layouts.{convention-layout, block-layout, instruction-layout}
-use Rattle.laws.proofs.Place.{many-append, many-split}
+use Rattle.laws.proofs.Place.{many-append}
 use Rattle.laws.proofs.Sizes.{header-size, routine-head-size}
 use Rattle.laws.specs.At.{At}
 use Rattle.pod.specs.Values.{Instruction, RoutineConvention, BasicBlock, Routine}
-use Rattle.pod.specs.Written.{header-bytes, bytes, convention-bytes, block-bytes, instruction-bytes, many-bytes, counted-bytes, routine-head-bytes, routine-bytes}
+use Rattle.pod.specs.Written.{header-bytes, bytes, convention-bytes, block-bytes, instruction-bytes, many-bytes, counted-bytes, routine-head-bytes}
 use Rattle.machine.specs.Edits.{block-at, empty-block}
 use Rattle.machine.specs.Look.{conventions}
 use Rattle.machine.proofs.Lists.{each-at}
+pub use Rattle.machine.proofs.Stand.{named, element-at}
+use Rattle.machine.proofs.Stand as S
 use Rattle.book.specs.Holding.{Holding, blocks-start, block-start}
 use Rattle.image.specs.Places.{convention-start}
 use Rattle.ends.specs.Ends.{jump, word, times, instructionEnd, blockEnd, conventionEnd}
 use Rattle.ends.proofs.Steps.{jump-in, value, word-is}
 use Rattle.ends.proofs.Same.{instruction-ends, block-vip, block-ends, convention-ends}
-
--- at an offset that has another name
-pub named : {s l : List ℕ} {o p : ℕ} → o ≡ p → At s o l → At s p l
-named e t = rw e at t
 
 module _ {s : List ℕ} where
   pub word-at : (k v o : ℕ) → v < 2 ^ (8 * k) → At s o (bytes k v) → word k s o ≡ v
@@ -52,11 +50,6 @@ module _ {s : List ℕ} where
 
   -- a list's elements, one after the other
   module _ {A : Type 0} (w : A → List ℕ) where
-    pub element-at : (d : A) (o i : ℕ) (xs : List A) → i < length xs → At s o (many-bytes w xs)
-        → At s (o + length (many-bytes w (take i xs))) (w (getD xs i d))
-    element-at d o i xs h t =
-        left (w (getD xs i d)) (many-bytes w (drop (suc i) xs)) (right (many-bytes w (take i xs)) _ (rw (many-split w d i xs h) at t))
-
     -- f finds the end of each
     pub times-at : {P : A → Type 0} (f : ℕ → ℕ) → ((o : ℕ) (x : A) → P x → At s o (w x) → f o ≡ o + length (w x))
         → (i o : ℕ) (xs : List A) → Each P xs → i ≤ length xs → At s o (many-bytes w xs) → times f i o ≡ o + length (many-bytes w (take i xs))
@@ -76,32 +69,20 @@ many-next w d i xs h =
     ap (λ l. length (many-bytes w l)) (take-suc xs i d h) ∙ ap length (many-append w (take i xs) (getD xs i d ∷ [])) ∙ simp length-append (omega arith)
 
 module _ {s : List ℕ} {x : Routine} (h : Holding s x) where
-  whole-at : At s 0 (routine-bytes x)
-  whole-at = record { rest = h .rest; is = h .is; within = omega arith }
-
   head-at : At s 0 (routine-head-bytes x)
-  unfolding routine-bytes
-  head-at = left (routine-head-bytes x) _ whole-at
-
-  counted-at : At s (length (routine-head-bytes x)) (counted-bytes block-bytes (x .explored-blocks))
-  unfolding routine-bytes
-  counted-at = named (zero-add _) (right (routine-head-bytes x) _ whole-at)
+  head-at = S.head-at x (h .rest) (h .is)
 
   -- the count of the blocks, and the blocks
   pub count-at : At s (length (routine-head-bytes x)) (bytes 4 (length (x .explored-blocks)))
-  unfolding counted-bytes
-  count-at = left _ (many-bytes block-bytes (x .explored-blocks)) counted-at
+  count-at = S.count-at x (h .rest) (h .is)
 
   pub blocks-at : At s (blocks-start x) (many-bytes block-bytes (x .explored-blocks))
-  unfolding counted-bytes
-  blocks-at =
-      named (ap (λ k. length (routine-head-bytes x) + k) (length-bytes 4 (length (x .explored-blocks))))
-      (right (bytes 4 (length (x .explored-blocks))) (many-bytes block-bytes (x .explored-blocks)) counted-at)
+  blocks-at = S.blocks-at x (h .rest) (h .is)
 
   -- the block at a place
   module _ (i : ℕ) (l : i < length (x .explored-blocks)) where
     pub block-stands : At s (block-start x i) (block-bytes (block-at i (x .explored-blocks)))
-    block-stands = element-at block-bytes (empty-block 0) (blocks-start x) i (x .explored-blocks) l blocks-at
+    block-stands = S.block-stands x (h .rest) (h .is) i l
 
     pub block-holds : Block-holds (block-at i (x .explored-blocks))
     block-holds = each-at Block-holds (empty-block 0) i (x .explored-blocks) (h .holds .blocks .listed .each) l

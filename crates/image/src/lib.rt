@@ -1,27 +1,119 @@
 // A lent image: document 01's test for 10 and 13, and where things stand in an image that holds a routine. What is looked for in an image was
 // inspected before, so the walk that reads no name, text or register again is enough.
 ghost use mathlib.Core.Path.{_≡_};
+ghost use Prim.Native.Nat.{_-_};
 ghost use Rattle.pod.specs.Values.{Routine};
 ghost use Prim.Native.Nat.{ℕ, _≤_, _<_};
 ghost use lib.ListN.{length};
 ghost use Rattle.machine.specs.Edits.{block-at};
 ghost use Rattle.machine.specs.Look.{conventions};
 ghost use Rattle.machine.specs.Book.{held};
+ghost use Rattle.machine.specs.Walk.{walk-fits};
 ghost use Rattle.book.specs.Says.{state, refusal-of};
 ghost use Rattle.book.specs.Holding.{Holding, blocks-start, block-start};
 ghost use Rattle.image.specs.Places.{is-routine, Finds, Finds-last, convention-start, instruction-start};
+ghost use Rattle.image.specs.Inspected.{Notes, Finds-block, unwalked};
 use book::Book;
-use fields::Walked;
 use pod::Vip;
+use routine::Noted;
 
-// Whether `s` is exactly one accepted routine in written form.
-fn is_routine(s: &[u8]) -> bool
-    ensures { λ r. ⌜ r ≡ is-routine (now (s .entry)) ⌝ }
+// What the test for 13 says of bytes: whether they are exactly one accepted routine in written form; and where the block that was asked for begins and ends.
+struct Passed {
+    whole: bool,
+    from: usize,
+    to: usize,
+}
+
+// Whether `s` is exactly one accepted routine in written form. The walk over it notes its block at `place`.
+fn pass_image(s: &[u8], place: u64) -> Passed
+    ensures { λ r. ⌜ (r .whole ≡ is-routine (now (s .entry))) × Notes (now (s .entry)) place (r .from) (r .to) ⌝ }
 {
-    if let Walked::Past(end, written, _) = reader::pass_file(s) {
-        (end == s.len()) & written
+    if let Noted::Past(end, written, _, from, to) = routine::routine_noting(s, 0, place) {
+        Passed {
+            whole: (end == s.len()) & written,
+            from,
+            to,
+        }
     } else {
-        false
+        Passed {
+            whole: false,
+            from: 0,
+            to: 0,
+        }
+    }
+}
+
+// The place of the block that next hands out, where a walk is open; else 0, which is not looked at.
+fn place_of(walk: u64) -> u64
+    ensures { λ r. ⌜ r ≡ walk - 1 ⌝ }
+{
+    if walk == 0 { 0 } else { walk - 1 }
+}
+
+// Whether an open walk's place is not over the number of blocks.
+fn walk_fits(image: &[u8], walk: u64) -> bool
+    ensures { λ r. ⌜ ((x : Routine) → Holding (now (image .entry)) x → r ≡ walk-fits walk x) ⌝ }
+{
+    if walk == 0 {
+        return true;
+    }
+    let blocks = blocks_of(image);
+    walk - 1 <= blocks.count as u64
+}
+
+// What a call on a book finds first: its refusal, or 0; and, where a walk is open, where the block begins and ends that next hands out, which are equal where
+// there is none.
+pub struct Inspected {
+    pub refusal: u64,
+    pub from: usize,
+    pub to: usize,
+}
+
+// A refusal of the first tests.
+fn refuse(refusal: u64) -> Inspected
+    ensures { λ r. ⌜ r .refusal ≡ refusal ⌝ }
+{
+    Inspected {
+        refusal,
+        from: 0,
+        to: 0,
+    }
+}
+
+// The test that every call on a book makes first: 10, then 13. The walk over the image passes the block that next hands out on its way.
+pub fn inspect_at(book: Book, image: &[u8], journal: &[u8]) -> Inspected
+    ensures { λ r. ⌜ (r .refusal ≡ refusal-of (held (state (now (image .entry)) (now (journal .entry)) book)))
+        × Finds-block (state (now (image .entry)) (now (journal .entry)) book) (r .from) (r .to) ⌝ }
+{
+    if !fields::is_lent(image.len()) {
+        return refuse(book::LENDING_TOO_LARGE);
+    }
+    if !fields::is_lent(journal.len()) {
+        return refuse(book::LENDING_TOO_LARGE);
+    }
+    let written = book.written;
+    let used = book.used;
+    if (image.len() as u64) < written {
+        return refuse(book::SPOILED_BOOK);
+    }
+    if (journal.len() as u64) < used {
+        return refuse(book::SPOILED_BOOK);
+    }
+    let end = written as usize;
+    let passed = pass_image(&image[..end], place_of(book.walk));
+    if !passed.whole {
+        return refuse(book::SPOILED_BOOK);
+    }
+    if !buffer::is_zero(image, end) {
+        return refuse(book::SPOILED_BOOK);
+    }
+    if !walk_fits(image, book.walk) {
+        return refuse(book::SPOILED_BOOK);
+    }
+    Inspected {
+        refusal: 0,
+        from: passed.from,
+        to: passed.to,
     }
 }
 
@@ -29,26 +121,20 @@ fn is_routine(s: &[u8]) -> bool
 pub fn inspect(book: Book, image: &[u8], journal: &[u8]) -> u64
     ensures { λ r. ⌜ r ≡ refusal-of (held (state (now (image .entry)) (now (journal .entry)) book)) ⌝ }
 {
-    if !fields::is_lent(image.len()) {
-        return book::LENDING_TOO_LARGE;
+    let found = inspect_at(book, image, journal);
+    found.refusal
+}
+
+// The same, and then 20 where a walk is open: what start, remove and undo test first.
+pub fn inspect_unwalked(book: Book, image: &[u8], journal: &[u8]) -> u64
+    ensures { λ r. ⌜ r ≡ refusal-of (unwalked (state (now (image .entry)) (now (journal .entry)) book)) ⌝ }
+{
+    let refusal = inspect(book, image, journal);
+    if refusal != 0 {
+        return refusal;
     }
-    if !fields::is_lent(journal.len()) {
-        return book::LENDING_TOO_LARGE;
-    }
-    let written = book.written;
-    let used = book.used;
-    if (image.len() as u64) < written {
-        return book::SPOILED_BOOK;
-    }
-    if (journal.len() as u64) < used {
-        return book::SPOILED_BOOK;
-    }
-    let end = written as usize;
-    if !is_routine(&image[..end]) {
-        return book::SPOILED_BOOK;
-    }
-    if !buffer::is_zero(image, end) {
-        return book::SPOILED_BOOK;
+    if book.walk != 0 {
+        return book::WALK_OPEN;
     }
     0
 }

@@ -28,6 +28,7 @@ use Rattle.machine.specs.Charge.{Rates}
 use Rattle.machine.specs.Book.{State, in-image, holding, held}
 use Rattle.machine.specs.Sound.{Sound}
 use Rattle.machine.specs.Edits.{size}
+use Rattle.machine.specs.Walk.{walk-fits}
 
 -- the image: its length, the written form and the zeros
 module _ (n : ℕ) (r : Routine) where
@@ -64,12 +65,12 @@ sound-held {s} {r} g =
     let d : drop (size r) (s .image) ≡ zeros (n - size r) = ap (drop (size r)) (g .image) ∙ drop-image n r in
     let x : read-file (take (size r) (s .image)) ≡ ok r (size r) = ap read-file t ∙ read-all routine-layout r (g .holds) in
     rw (le-leb n most-lent (g .image-lent), le-leb (length (s .journal)) most-lent (g .journal-lent), g .written, le-leb (size r) n (g .room), le-leb (s .book .used) (length (s .journal)) (g .used))
-    (rw (whole-yes routine-bytes (take (size r) (s .image)) (read-file (take (size r) (s .image))) x t, same-yes (drop (size r) (s .image)) (zeros (n - size r)) d))
+    (rw (whole-yes routine-bytes (take (size r) (s .image)) (read-file (take (size r) (s .image))) x t, same-yes (drop (size r) (s .image)) (zeros (n - size r)) d, g .walk))
 
--- a book of a routine that the layouts hold, and that fits, with no more used than the journal has
-pub holding-held : (n : ℕ) (r : Routine) (journal : List ℕ) (used : ℕ) (rates : Rates) (sum : ℕ) → Routine-holds r → size r ≤ n → used ≤ length journal
-    → n ≤ most-lent → length journal ≤ most-lent → held (holding n r journal used rates sum) ≡ accepted r
-holding-held n r journal used rates sum o room u small journal-small =
+-- a book of a routine that the layouts hold, and that fits, with no more used than the journal has, and a walk that fits
+pub holding-held : (n : ℕ) (r : Routine) (journal : List ℕ) (used : ℕ) (rates : Rates) (sum walk : ℕ) → Routine-holds r → size r ≤ n → used ≤ length journal
+    → n ≤ most-lent → length journal ≤ most-lent → walk-fits walk r ≡ true → held (holding n r journal used rates sum walk) ≡ accepted r
+holding-held n r journal used rates sum walk o room u small journal-small fits =
     let l = length-image n r room in
     sound-held (record {
       image-lent = rw l small;
@@ -79,6 +80,7 @@ holding-held n r journal used rates sum o room u small journal-small =
       room = rw l room;
       image = ap (λ i. in-image i r) (sym l);
       holds = o;
+      walk = fits;
     })
 
 pub both : (t u : Bool) → (t && u) ≡ true → (t ≡ true) × (u ≡ true)
@@ -95,6 +97,7 @@ pub record Tests (s : State) (r : Routine) : Type 0 where
   pub reads : read-file (take (s .book .written) (s .image)) ≡ ok r end
   pub form : take (s .book .written) (s .image) ≡ routine-bytes r
   pub rest : drop (s .book .written) (s .image) ≡ zeros (length (s .image) - s .book .written)
+  pub walk : walk-fits (s .book .walk) r ≡ true
 
 pub tests : (s : State) (r : Routine) → held s ≡ accepted r → Tests s r
 unfolding held
@@ -105,18 +108,20 @@ tests s r q =
     let u = unless-passed 13 _ (leb (s .book .used) (length (s .journal))) (w .1) in
     let c = came _ _ (u .1) in
     let z = unless-passed 13 _ (same (drop (s .book .written) (s .image)) (zeros (length (s .image) - s .book .written))) (c .2) in
-    let y = z .1 in
+    let f = unless-passed 13 _ (walk-fits (s .book .walk) (c .0)) (z .1) in
+    let y = f .1 in
     let e : c .0 ≡ r = cc in
-    let f = whole-is routine-bytes (take (s .book .written) (s .image)) _ (c .1) in
+    let i = whole-is routine-bytes (take (s .book .written) (s .image)) _ (c .1) in
     record {
       image-lent = leb-true _ _ (lent .0);
       journal-lent = leb-true _ _ (lent .1);
       written = leb-true _ _ (w .0);
       used = leb-true _ _ (u .0);
-      end = f .0;
-      reads = f .1 ∙ ap (λ x. ok x (f .0)) e;
-      form = f .2 ∙ ap routine-bytes e;
+      end = i .0;
+      reads = i .1 ∙ ap (λ x. ok x (i .0)) e;
+      form = i .2 ∙ ap routine-bytes e;
       rest = same-eq _ _ (z .0);
+      walk = ap (walk-fits (s .book .walk)) (sym e) ∙ f .0;
     }
 
 module _ (s : State) (r : Routine) (q : held s ≡ accepted r) where
@@ -136,6 +141,7 @@ held-sound {s} {r} b q =
       image-lent = t .image-lent;
       journal-lent = t .journal-lent;
       used = t .used;
+      walk = t .walk;
       written = e;
       room = held-size s r q .1;
       image = sym (take-append-drop (s .book .written) (s .image)) ∙ ap₂ _++_ (t .form) (t .rest ∙ ap (λ n. zeros (length (s .image) - n)) e);
@@ -157,7 +163,7 @@ module _ {P : ℕ → Type 0} (p₁₃ : P 13) where
   unfolding held
   held-only p₁₀ s =
       next _ _ (unless _ 10 p₁₀) λ u. next _ _ (unless _ 13 p₁₃) λ u. next _ _ (unless _ 13 p₁₃) λ u.
-      next _ _ (whole-only _ _ _) λ r. next _ _ (unless _ 13 p₁₃) λ u. accepts r
+      next _ _ (whole-only _ _ _) λ r. next _ _ (unless _ 13 p₁₃) λ u. next _ _ (unless _ 13 p₁₃) λ u. accepts r
 
 -- none of them is 0
 pub held-positive : (s : State) → Only (λ e. 0 < e) (held s)

@@ -1,5 +1,6 @@
 pub mod Lists
 pub mod Keeps
+pub mod Walks
 pub mod Undo
 pub mod Held
 pub mod Restores
@@ -7,3 +8,4 @@ pub mod Simulation
 pub mod Parts
 pub mod Calls
 pub mod Sums
+pub mod Stand

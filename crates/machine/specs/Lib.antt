@@ -1,5 +1,6 @@
 pub mod Trailer
 pub mod Edits
+pub mod Walk
 pub mod Machine
 pub mod Journal
 pub mod Charge

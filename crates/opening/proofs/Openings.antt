@@ -107,7 +107,7 @@ module _ (file : List ℕ) (b : Bytes file) (n : ℕ) (x : Routine) (e : read-fi
 
     pub in-place : n ≤ length image → (i i′ j : List ℕ) → i ≡ put 0 (routine-bytes x) image → i′ ≡ put n (zeros (length image - n)) i
         → j ≡ put 0 (zeros (length journal - 0)) journal → {m : ℕ} → m ≡ sum rates x
-        → leaving (record { image = i′; journal = j; book = record { written = n; used = 0; rates = rates; sum = m } })
+        → leaving (record { image = i′; journal = j; book = record { written = n; used = 0; rates = rates; sum = m; walk = 0 } })
         ≡ attempt (unopened image journal) (opened image journal rates x)
     unfolding opened in-image refuse-unless choose after attempt
     in-place h i i′ j p q t f =

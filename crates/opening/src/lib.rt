@@ -45,7 +45,7 @@ fn fill(file: &[u8], image: &mut [u8], journal: &mut [u8], n: usize, rates: Rate
     buffer::clear(image, n, room);
     let all = journal.len();
     buffer::clear(journal, 0, all);
-    book::accept(n, 0, rates, sum)
+    book::accept(n, 0, rates, sum, 0)
 }
 
 // Document 01's opening, at rates.

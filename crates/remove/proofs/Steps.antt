@@ -12,7 +12,9 @@ use Rattle.fields.proofs.Outcomes.{unless-on, unless-off}
 use Rattle.pod.specs.Values.{BasicBlock, Routine}
 use Rattle.pod.specs.Written.{block-bytes}
 use Rattle.machine.specs.Edits.{place, remove, block-at, remove-at, with-blocks, edited, cost, size, lengths, admit}
-use Rattle.machine.specs.Machine.{edit, Answer}
+use Rattle.machine.specs.Walk.{closed}
+use Rattle.machine.specs.Machine.{edit, permit, Answer}
+use Rattle.machine.proofs.Calls.{remove-permitted}
 use Rattle.machine.specs.Journal.{entry}
 use Rattle.machine.specs.Charge.{block-sum, sum}
 use Rattle.machine.specs.Book.{State, in-image, step}
@@ -25,7 +27,11 @@ use Rattle.book.specs.Says.{leaving, refusal-of}
 use Rattle.book.specs.Holding.{Sound}
 use Rattle.book.proofs.Steps.{refused-step, not-admitted-step, admitted-room, sum-spoiled-step, admitted-step}
 
-module _ (s : State) (r : Routine) (g : Sound s r) (v : ℕ) where
+-- where no walk is open
+module _ (s : State) (r : Routine) (g : Sound s r) (none-open : s .book .walk ≡ closed) (v : ℕ) where
+  free : permit (edit (remove v)) (s .book .walk) ≡ accepted tt
+  free = remove-permitted (s .book .walk) none-open v
+
   abbrev blocks : List BasicBlock
   blocks = r .explored-blocks
 
@@ -40,7 +46,7 @@ module _ (s : State) (r : Routine) (g : Sound s r) (v : ℕ) where
 
   pub no-block : length blocks ≤ i → gives ≡ (refused 15, s)
   unfolding edited
-  no-block h = refused-step s r g (remove v) 15 (unless-off 15 _ (absent-after v blocks h))
+  no-block h = refused-step s r g (remove v) free 15 (unless-off 15 _ (absent-after v blocks h))
 
   module _ (h : i < length blocks) where
     abbrev r′ : Routine
@@ -65,10 +71,10 @@ module _ (s : State) (r : Routine) (g : Sound s r) (v : ℕ) where
       -- the answer to 11 and 12
       module _ {k : ℕ} (a : k ≡ refusal-of (admit (lengths (s .image) (s .journal)) left spent)) where
         pub not-admitted : (k ≡ 0 → ⊥) → gives ≡ (refused k, s)
-        not-admitted z = sym (not-admitted-step s r g (remove v) r′ goes is-left is-spent a z)
+        not-admitted z = sym (not-admitted-step s r g (remove v) free r′ goes is-left is-spent a z)
 
         pub room : k ≡ 0 → (left ≤ length (s .image)) × (spent ≤ length (s .journal))
-        room = admitted-room s r g (remove v) r′ goes is-left is-spent a
+        room = admitted-room s r g (remove v) free r′ goes is-left is-spent a
 
         -- what the block comes to, against the sum
         module _ (z : k ≡ 0) {less : ℕ} (e : less ≡ block-sum (s .book .rates) b) where
@@ -77,14 +83,14 @@ module _ (s : State) (r : Routine) (g : Sound s r) (v : ℕ) where
 
           pub sum-short : s .book .sum < less → gives ≡ (refused 13, s)
           sum-short m =
-              sym (sum-spoiled-step s r g (remove v) r′ goes is-left is-spent a z (carried-short (s .book .rates) r r′ (s .book .sum) (omega (arith, loses))))
+              sym (sum-spoiled-step s r g (remove v) free r′ goes is-left is-spent a z (carried-short (s .book .rates) r r′ (s .book .sum) (omega (arith, loses))))
 
           -- the stores
           pub removed : less ≤ s .book .sum → s .book .sum < 2 ^ 64 → (image journal : List ℕ) → image ≡ in-image (length (s .image)) r′
               → journal ≡ put (s .book .used) (block-bytes b ++ trailer-bytes (trailer-with v i (weight b) 2)) (s .journal)
-              → leaving (record { image = image; journal = journal; book = record { written = left; used = spent; rates = s .book .rates; sum = s .book .sum - less } })
+              → leaving (record { image = image; journal = journal; book = record { written = left; used = spent; rates = s .book .rates; sum = s .book .sum - less; walk = s .book .walk } })
               ≡ gives
           unfolding entry
           removed m n image journal ei ej =
               let c = carried-to (s .book .rates) r r′ (s .book .sum) (s .book .sum - less) (omega (arith, loses)) (omega arith) in
-              admitted-step s r g (remove v) r′ goes is-left is-spent a z c ei ej
+              admitted-step s r g (remove v) free r′ goes is-left is-spent a z c ei ej

@@ -1,6 +1,6 @@
 // Removing a block from the routine in an image, in place.
 //
-// `remove_block` requires that the state is sound: it is for the crate above, whose call inspects the lent image and the book first.
+// `remove_block` requires that the state is sound and that no walk is open: it is for the crate above, whose call inspects the lent image and the book first.
 ghost use mathlib.Core.Path.{_≡_};
 ghost use mathlib.Core.List.{_++_};
 ghost use Prim.Native.Nat.{ℕ, _+_, _≤_};
@@ -13,7 +13,7 @@ ghost use Rattle.machine.specs.Edits.{remove, remove-at, with-blocks};
 ghost use Rattle.machine.specs.Machine.{edit};
 ghost use Rattle.machine.specs.Book.{in-image, step};
 ghost use Rattle.book.specs.Says.{state, outcome};
-ghost use Rattle.book.specs.Holding.{Is-sound};
+ghost use Rattle.book.specs.Holding.{Is-unwalked};
 ghost use Rattle.remove.specs.Removable.{Removable, Has-removable};
 use book::Answer;
 use book::Book;
@@ -56,7 +56,7 @@ fn put_entry(journal: &mut [u8], used: usize, block: &[u8], vip: Vip, place: u32
 
 // The block with the vip goes, into the journal: 15, then 12, and 13 where the sum is smaller than what the block comes to.
 pub fn remove_block(book: Book, image: &mut [u8], journal: &mut [u8], vip: Vip) -> Answer
-    requires { ⌜ Is-sound (state (now image) (now journal) book) ⌝ }
+    requires { ⌜ Is-unwalked (state (now image) (now journal) book) ⌝ }
     ensures { λ r. ⌜ outcome r (now (image .exit)) (now (journal .exit)) ≡ step (edit (remove (vip .0))) (state (now (image .entry)) (now (journal .entry)) book) ⌝ }
 {
     let written = book.written as usize;
@@ -82,5 +82,5 @@ pub fn remove_block(book: Book, image: &mut [u8], journal: &mut [u8], vip: Vip) 
     }
     put_entry(journal, used, &image[at..end], vip, place as u32);
     swap_remove(image, at, end, written);
-    book::accept(left, spent, book.rates, sum - less)
+    book::accept(left, spent, book.rates, sum - less, book.walk)
 }

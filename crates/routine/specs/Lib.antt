@@ -1,3 +1,4 @@
 pub mod Header
 pub mod Head
 pub mod Rising
+pub mod Noted

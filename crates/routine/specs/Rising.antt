@@ -11,11 +11,11 @@ use Rattle.routine.specs.declared.BlocksSkip.{BlocksSkip}
 use Rattle.routine.specs.declared.BlocksSkip.the-variants.{Past, Refused}
 
 abbrev pub of-blocks : BlocksSkip → Res Sight
-of-blocks (Past n rising written sound) = ok (sight written sound) n
+of-blocks (Past n rising written sound start end) = ok (sight written sound) n
 of-blocks (Refused e) = no e
 
 abbrev pub rising : BlocksSkip → Bool
-rising (Past n r written sound) = r
+rising (Past n r written sound start end) = r
 rising (Refused e) = false
 
 abbrev pub Apart : Res (List BasicBlock) → Type 0

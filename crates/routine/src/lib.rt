@@ -1,15 +1,16 @@
 // The whole routine.
 ghost use mathlib.Core.Path.{_≡_};
 ghost use Rattle.fields.specs.Parse.{ok, many, counted, bind, span, u64, refusal-in};
-ghost use Rattle.fields.specs.Lists.{every};
+ghost use Rattle.fields.specs.Lists.{choose, every};
 ghost use Rattle.fields.specs.Sight.{sight, of-both};
 ghost use Rattle.fields.specs.Answers.{of-skip, of-walked};
 ghost use Rattle.routine.specs.Header.{marked, arch-id-byte};
 ghost use Rattle.routine.specs.Head.{head-walked};
 ghost use mathlib.Core.Bool.{true};
-ghost use Prim.Native.Nat.{_+_, _≤_, _<_};
+ghost use Prim.Native.Nat.{_+_, _-_, _≤_, _<_};
 ghost use Rattle.sorting.specs.Buffer.{TOP};
 ghost use Rattle.routine.specs.Rising.{of-blocks, rising, Apart};
+ghost use Rattle.routine.specs.Noted.{of-noted, seen-before, Run-notes, Blocks-note, Routine-notes};
 ghost use Rattle.pod.specs.Layout.{header, convention, block, blocks, routine};
 ghost use Rattle.pod.specs.Sound.{convention-sound, block-sound, routine-sound};
 ghost use Rattle.pod.specs.Told.{no-register-in};
@@ -114,10 +115,45 @@ fn conventions_run(s: &[u8], at: usize, count: u32) -> Walked
 }
 
 // Blocks that were walked over: the offset past them, whether their vips were seen to rise, whether all are in written form, and whether every register in
-// them is sound; or the refusal.
+// them is sound; and where the block that was asked for begins and ends. Or the refusal.
 enum BlocksSkip {
-    Past(usize, bool, bool, bool),
+    Past(usize, bool, bool, bool, usize, usize),
     Refused(u8),
+}
+
+// The blocks of a routine, or a routine, that was walked over: what `Walked` says, and where the block at the place that was asked for begins and ends, 0 and
+// 0 where there is none. Or the refusal.
+pub enum Noted {
+    Past(usize, bool, bool, usize, usize),
+    Refused(u8),
+}
+
+// What is said of a walk beside the block.
+fn walked_of(far: Noted) -> Walked
+    ensures { λ r. ⌜ of-walked r ≡ of-noted far ⌝ }
+{
+    match far {
+        Noted::Past(n, written, sound, _, _) => Walked::Past(n, written, sound),
+        Noted::Refused(e) => Walked::Refused(e),
+    }
+}
+
+// How many of `count` blocks are left when it is the turn of the one at the place; 0 where there is none.
+fn turn_of(count: u32, place: u64) -> u32
+    ensures { λ r. ⌜ r ≡ count - place ⌝ }
+{
+    if place < count as u64 {
+        count - (place as u32)
+    } else {
+        0
+    }
+}
+
+// The first of two offsets, or the second. Without a branch, so that the run over the blocks stays as quick as it was.
+fn either(first: bool, a: usize, b: usize) -> usize
+    ensures { λ r. ⌜ r ≡ choose first a b ⌝ }
+{
+    if first { a } else { b }
 }
 
 // The refusal of blocks that were refused, and 0 of others.
@@ -145,19 +181,25 @@ fn floor_after(floor: u64, vip: Vip) -> u64
     v + 1
 }
 
-// `count` blocks. Their vips are looked at on the way: where they rise, as compilers write them, no search for repeated ones is needed.
-fn blocks_run(s: &[u8], at: usize, count: u32) -> BlocksSkip
-    ensures { λ r. ⌜ (of-blocks r ≡ walked (many block count) (many-bytes block-bytes) (every block-sound) (now (s .entry)) at) × (rising r ≡ true → Apart (many block count (now (s .entry)) at)) ⌝ }
+// `count` blocks. Their vips are looked at on the way: where they rise, as compilers write them, no search for repeated ones is needed. And where the one at
+// `place` begins and ends is noted.
+fn blocks_run(s: &[u8], at: usize, count: u32, place: u64) -> BlocksSkip
+    ensures { λ r. ⌜ (of-blocks r ≡ walked (many block count) (many-bytes block-bytes) (every block-sound) (now (s .entry)) at) × (rising r ≡ true → Apart (many block count (now (s .entry)) at)) × Run-notes (now (s .entry)) at count place r ⌝ }
 {
+    let turn = turn_of(count, place);
     let mut left = count;
     let mut o = at;
     let mut floor: u64 = 0;
     let mut written = true;
     let mut sound = true;
+    let mut from: usize = 0;
+    let mut to: usize = 0;
     while 0 < left {
         let far = block::block_skip(s, o);
         if let Walked::Past(n, w, t) = far {
             floor = floor_after(floor, Vip(ends::word64(s, o)));
+            from = either(left == turn, o, from);
+            to = either(left == turn, n, to);
             o = n;
             written = written & w;
             sound = sound & t;
@@ -166,7 +208,7 @@ fn blocks_run(s: &[u8], at: usize, count: u32) -> BlocksSkip
         }
         left -= 1;
     }
-    BlocksSkip::Past(o, floor < sorting::TOP, written, sound)
+    BlocksSkip::Past(o, floor < sorting::TOP, written, sound, from, to)
 }
 
 // The list of conventions at `at`.
@@ -181,27 +223,34 @@ fn conventions_skip(s: &[u8], at: usize) -> Walked
     }
 }
 
-// The blocks, of which no two share a vip.
-fn blocks_skip(s: &[u8], at: usize) -> Walked
-    ensures { λ r. ⌜ of-walked r ≡ walked blocks (counted-bytes block-bytes) (every block-sound) (now (s .entry)) at ⌝ }
+// The blocks, of which no two share a vip, with a note of the one at `place`.
+fn blocks_noting(s: &[u8], at: usize, place: u64) -> Noted
+    ensures { λ r. ⌜ (of-noted r ≡ walked blocks (counted-bytes block-bytes) (every block-sound) (now (s .entry)) at) × Blocks-note (now (s .entry)) at place r ⌝ }
 {
     let count = fields::u32_at(s, at);
     if let U32Read::Value(c, a) = count {
-        let run = blocks_run(s, a, c);
-        if let BlocksSkip::Past(n, rising, written, sound) = run {
+        let run = blocks_run(s, a, c, place);
+        if let BlocksSkip::Past(n, rising, written, sound, from, to) = run {
             if rising {
-                Walked::Past(n, written, sound)
+                Noted::Past(n, written, sound, from, to)
             } else if distinct::has_repeat(s, a, c) {
-                Walked::Refused(fields::REPEATED_BLOCK)
+                Noted::Refused(fields::REPEATED_BLOCK)
             } else {
-                Walked::Past(n, written, sound)
+                Noted::Past(n, written, sound, from, to)
             }
         } else {
-            Walked::Refused(blocks_refusal(run))
+            Noted::Refused(blocks_refusal(run))
         }
     } else {
-        Walked::Refused(fields::u32_refusal(count))
+        Noted::Refused(fields::u32_refusal(count))
     }
+}
+
+// The blocks, where none is asked for.
+fn blocks_skip(s: &[u8], at: usize) -> Walked
+    ensures { λ r. ⌜ of-walked r ≡ walked blocks (counted-bytes block-bytes) (every block-sound) (now (s .entry)) at ⌝ }
+{
+    walked_of(blocks_noting(s, at, 0))
 }
 
 // The entry vip, after what was walked over so far. It is written as it is read and is no register, so what was seen stays.
@@ -279,4 +328,26 @@ pub fn routine_skip(s: &[u8], at: usize) -> Walked
 {
     let head = head_skip(s, at);
     then_blocks(s, head)
+}
+
+// What was seen of the part before the blocks, which ended where they began, and of them; the note stays.
+fn noted_both(written: bool, sound: bool, next: Noted) -> Noted
+    ensures { λ r. ⌜ r ≡ seen-before written sound next ⌝ }
+{
+    match next {
+        Noted::Past(n, w, t, from, to) => Noted::Past(n, written & w, sound & t, from, to),
+        Noted::Refused(e) => Noted::Refused(e),
+    }
+}
+
+// The routine at `at` is walked over, with a note of its block at `place`.
+pub fn routine_noting(s: &[u8], at: usize, place: u64) -> Noted
+    ensures { λ r. ⌜ (of-noted r ≡ walked routine routine-bytes routine-sound (now (s .entry)) at) × Routine-notes (now (s .entry)) at place r ⌝ }
+{
+    let head = head_skip(s, at);
+    if let Walked::Past(n, written, sound) = head {
+        noted_both(written, sound, blocks_noting(s, n, place))
+    } else {
+        Noted::Refused(fields::walked_refusal(head))
+    }
 }

@@ -14,33 +14,36 @@ use Rattle.fields.specs.Outcome.{refused}
 use Rattle.fields.specs.Lists.{choose}
 use Rattle.fields.proofs.Outcomes.{unless-off}
 use Rattle.pod.specs.Values.{Routine}
+use Rattle.machine.specs.Walk.{closed}
 use Rattle.machine.specs.Machine.{undo}
 use Rattle.machine.specs.Journal.{undo-create, undo-remove, undo-append, undo-entry, undone}
 use Rattle.machine.specs.Book.{State, step}
 use Rattle.machine.specs.Trailer.{Trailer, trailer}
-use Rattle.machine.proofs.Calls.{undo-empty, undo-is, undo-spoiled}
+use Rattle.machine.proofs.Calls.{undo-permitted, undo-empty, undo-is, undo-spoiled}
 use Rattle.machine.proofs.Held.{sound-held}
 use Rattle.book.specs.Says.{taking-back}
 use Rattle.book.specs.Holding.{Sound}
 use Rattle.book.proofs.Restored.{spoiled}
 use Rattle.journal.proofs.Trailers.{undone-by}
 
-module _ (s : State) (r : Routine) (g : Sound s r) where
+-- where no walk is open
+module _ (s : State) (r : Routine) (g : Sound s r) (none-open : s .book .walk ≡ closed) where
   abbrev used : ℕ
   used = s .book .used
 
   pub nothing : used ≡ 0 → (refused 16, s) ≡ step undo s
-  nothing h = sym (undo-empty s r (sound-held g) h)
+  nothing h = sym (undo-empty s r (sound-held g) (undo-permitted _ none-open) h)
 
   pub too-little : 0 < used → used < 20 → (refused 13, s) ≡ step undo s
   unfolding undone
   too-little z h =
       let n : length (take used (s .journal)) ≡ used = length-take-le used (s .journal) (g .used) in
-      sym (undo-spoiled s r (sound-held g) z (unless-off 13 _ (ap (λ k. leb 20 k) n ∙ lt-leb 20 used h)))
+      sym (undo-spoiled s r (sound-held g) (undo-permitted _ none-open) z (unless-off 13 _ (ap (λ k. leb 20 k) n ∙ lt-leb 20 used h)))
 
 -- the trailer t is read at the end of the used part
 pub record Last (s : State) (r : Routine) (t : Trailer) : Type 0 where
   pub sound : Sound s r
+  pub none-open : s .book .walk ≡ closed
   pub enough : 20 ≤ s .book .used
   pub is : trailer (s .journal) (s .book .used - 20) ≡ ok t (s .book .used - 20 + 20)
 
@@ -53,7 +56,7 @@ module _ {s : State} {r : Routine} {t : Trailer} (l : Last s r t) where
       let u = s .book .used in
       let g = l .sound in
       let n : u - 20 + 20 ≡ u = omega arith in
-      undo-is s r (sound-held g) (omega arith) ∙ ap (taking-back s r) (undone-by (s .journal) u (g .used) (l .enough) (length (s .image)) r t (l .is ∙ ap (ok t) n))
+      undo-is s r (sound-held g) (undo-permitted _ (l .none-open)) (omega arith) ∙ ap (taking-back s r) (undone-by (s .journal) u (g .used) (l .enough) (length (s .image)) r t (l .is ∙ ap (ok t) n))
 
   pub was-created : t .kind ≡ 1 → taking-back s r (undo-create r t) ≡ step undo s
   unfolding undo-entry choose

@@ -72,5 +72,5 @@ pub fn undo_append(book: Book, image: &mut [u8], journal: &mut [u8], last: Trail
     let left = written - size;
     drop_instruction(image, at, instruction.end, size, written);
     let before = journal::clear_trailer(journal, book.used as usize);
-    book::accept(left, before, book.rates, sum - less)
+    book::accept(left, before, book.rates, sum - less, book.walk)
 }

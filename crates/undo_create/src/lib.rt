@@ -77,5 +77,5 @@ pub fn undo_create(book: Book, image: &mut [u8], journal: &mut [u8], last: Trail
     }
     drop_block(image, blocks.start, at, book.written as usize, place);
     let before = journal::clear_trailer(journal, book.used as usize);
-    book::accept(at, before, book.rates, book.sum)
+    book::accept(at, before, book.rates, book.sum, book.walk)
 }

@@ -188,7 +188,7 @@ module _ (s : State) (r : Routine) (g : Sound s r) (t : Trailer) (h : 20 ≤ s .
           → leaving (record {
             image = image;
             journal = journal;
-            book = record { written = s .book .written + t .len; used = from; rates = s .book .rates; sum = s .book .sum + more };
+            book = record { written = s .book .written + t .len; used = from; rates = s .book .rates; sum = s .book .sum + more; walk = s .book .walk };
           }) ≡ taken
       restores m image journal ei ej =
           let w : weight (f .b) ≡ t .len = sym (ap length is-block-form) ∙ entry-size in

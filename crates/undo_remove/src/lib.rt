@@ -117,5 +117,5 @@ pub fn undo_remove(book: Book, image: &mut [u8], journal: &mut [u8], last: Trail
     swap_insert(image, last.place as usize, written, &journal[from..before]);
     buffer::clear(journal, from, used);
     let grown = written + size;
-    book::accept(grown, from, book.rates, sum + more)
+    book::accept(grown, from, book.rates, sum + more, book.walk)
 }

@@ -7,22 +7,24 @@ ghost use Rattle.fields.specs.Parse.{u64};
 ghost use Rattle.pod.specs.Layout.{register, convention, instruction, block, read-file};
 ghost use Rattle.pod.specs.Descs.{write-instruction};
 ghost use Rattle.machine.specs.Edits.{create, remove, append};
-ghost use Rattle.machine.specs.Machine.{edit, undo};
+ghost use Rattle.machine.specs.Walk.{walk-start, walk-next, walk-abandon};
+ghost use Rattle.machine.specs.Machine.{edit, undo, walking};
 ghost use Rattle.machine.specs.Book.{open-book, step};
 ghost use Rattle.machine.specs.Look.{look-routine, look-block, look-instruction, look-vip, look-convention, look-register, look-charge};
-ghost use Rattle.book.specs.Says.{state, outcome};
+ghost use Rattle.book.specs.Says.{state, outcome, walk-outcome};
 ghost use Rattle.look.specs.Answers.{routine-look, block-look, instruction-look, vip-look, convention-look, register-look};
 ghost use Rattle.charge.specs.Answers.{charge-look};
 ghost use Rattle.value.specs.Answers.{instruction-read};
 ghost use Rattle.pread.specs.Answers.{routine-read, convention-read, register-read, block-read, vip-read};
 ghost use Rattle.writer.specs.Answers.{write-answer};
-ghost use Rattle.machine.specs.CallList.{run-on};
-ghost use Rattle.call_list.specs.Says.{run-outcome, told};
+ghost use Rattle.machine.specs.CallList.{told-step, run-on};
+ghost use Rattle.call_list.specs.Says.{run-outcome, run-told};
 ghost use Rattle.call_list.specs.Runs.{Runs};
 ghost use Rattle.vtil.specs.Check.{check-file};
 use book::Answer;
 use book::Book;
 use book::Rates;
+use book::WalkAnswer;
 use call_list::RunAnswer;
 use charge::ChargeLook;
 use fields::Walked;
@@ -265,6 +267,30 @@ pub extern "C" fn vtil_undo(book: Book, image: &mut [u8], journal: &mut [u8]) ->
     calls::undo(book, image, journal)
 }
 
+// Sending block by block: a walk begins,
+#[no_mangle]
+pub extern "C" fn vtil_walk_start(book: Book, image: &[u8], journal: &[u8]) -> Answer
+    ensures { λ r. ⌜ outcome r (now (image .entry)) (now (journal .entry)) ≡ step (walking walk-start) (state (now (image .entry)) (now (journal .entry)) book) ⌝ }
+{
+    walk::start(book, image, journal)
+}
+
+// hands out the next block, or says end,
+#[no_mangle]
+pub extern "C" fn vtil_walk_next(book: Book, image: &[u8], journal: &[u8]) -> WalkAnswer
+    ensures { λ r. ⌜ walk-outcome r (now (image .entry)) (now (journal .entry)) ≡ told-step (walking walk-next) (state (now (image .entry)) (now (journal .entry)) book) ⌝ }
+{
+    walk::next(book, image, journal)
+}
+
+// or is abandoned.
+#[no_mangle]
+pub extern "C" fn vtil_walk_abandon(book: Book, image: &[u8], journal: &[u8]) -> Answer
+    ensures { λ r. ⌜ outcome r (now (image .entry)) (now (journal .entry)) ≡ step (walking walk-abandon) (state (now (image .entry)) (now (journal .entry)) book) ⌝ }
+{
+    walk::abandon(book, image, journal)
+}
+
 // Opens a file at rates and runs a list of calls on it. By its contract it leaves what the routine machine leaves, and carries the sum of the machine's
 // routine; demand 3 adds which books hold equal bytes, and what a take back returns to.
 #[no_mangle]
@@ -290,7 +316,7 @@ pub extern "C" fn vtil_run_on(
     words: &[u64],
     bytes: &[u8],
 ) -> RunAnswer
-    ensures { λ r. ⌜ run-outcome r (now (image .exit)) (now (journal .exit)) ≡ told (run-on (now (words .entry)) (now (bytes .entry)) (state (now (image .entry)) (now (journal .entry)) book)) ⌝ }
+    ensures { λ r. ⌜ run-outcome r (now (image .exit)) (now (journal .exit)) ≡ run-told (run-on (now (words .entry)) (now (bytes .entry)) (state (now (image .entry)) (now (journal .entry)) book)) ⌝ }
 {
     call_list::run_on(book, image, journal, words, bytes)
 }

@@ -14,7 +14,9 @@ use Rattle.machine.specs.Edits.{Edit, append, edited, place, block-at, is-close
 use Rattle.machine.specs.Trailer.{trailer-with, trailer-bytes}
 use Rattle.machine.specs.Journal.{entry}
 use Rattle.machine.specs.Charge.{Rates, sum, carried}
+use Rattle.machine.specs.Machine.{edit, permit}
 use Rattle.machine.specs.Book.{State}
+use Rattle.machine.proofs.Calls.{append-permitted}
 use Rattle.machine.proofs.Sums.{appended-sum, carried-over, carried-to}
 use Rattle.book.specs.Says.{state}
 use Rattle.book.proofs.Answers.{refused-by, admits}
@@ -82,6 +84,10 @@ module _ (s : tie.Start) where
 
   abbrev E : Edit
   E = append (s .args .vip .0) (s .args .instruction .now)
+
+  -- no walk turns it away
+  free : permit (edit E) (S .book .walk) ≡ accepted tt
+  free = append-permitted (S .book .walk) (s .args .vip .0) (s .args .instruction .now)
 
   -- the sum has 64 bits, and a slice is shorter than 2^63
   sum-fits : s .args .book .sum < 2 ^ 64
@@ -201,7 +207,7 @@ returns c =
     let s = start b in
     let z = c .before .if1 .taken in
     c .refuse .ensures _ _ (omega arith)
-    ∙ sym (refused-step (S s) (R s) (s .pre .sound) (E s) _ (not-one (R s) _ _ (refused-by _ (b .refusal-of-bytes .ensures) z)))
+    ∙ sym (refused-step (S s) (R s) (s .pre .sound) (E s) (free s) _ (not-one (R s) _ _ (refused-by _ (b .refusal-of-bytes .ensures) z)))
 
 returns-2 : tie.Need-returns-2
 returns-2 c =
@@ -209,7 +215,7 @@ returns-2 c =
     let s = at-find g in
     let f = finds g in
     c .refuse2 .ensures _ _ (omega arith)
-    ∙ sym (refused-step (S s) (R s) (s .pre .sound) (E s) _ (no-block (R s) _ _ (whole (passing g)) (omega (arith, c .before .if2 .taken, f .place, f .count))))
+    ∙ sym (refused-step (S s) (R s) (s .pre .sound) (E s) (free s) _ (no-block (R s) _ _ (whole (passing g)) (omega (arith, c .before .if2 .taken, f .place, f .count))))
 
 is-closed-requires : tie.Need-is-closed-requires
 is-closed-requires c κs = search needs
@@ -220,14 +226,14 @@ returns-3 c =
     let p = reaching a in
     let s = at-last p in
     c .refuse3 .ensures _ _ (omega arith)
-    ∙ sym (refused-step (S s) (R s) (s .pre .sound) (E s) _ (closed (R s) _ _ (whole (passing (finding (block p)))) (there (block p)) (sym (told a) ∙ c .before .if3 .taken)))
+    ∙ sym (refused-step (S s) (R s) (s .pre .sound) (E s) (free s) _ (closed (R s) _ _ (whole (passing (finding (block p)))) (there (block p)) (sym (told a) ∙ c .before .if3 .taken)))
 
 returns-4 : tie.Need-returns-4
 returns-4 c =
     let a = c .before .before in
     let s = s a in
     c .refuse4 .ensures _ _ (omega arith)
-    ∙ not-admitted-step (S s) (R s) (s .pre .sound) (E s) (R′ a) (made a) (grown a) (spent a) (a .admit .ensures) (c .before .if4 .taken)
+    ∙ not-admitted-step (S s) (R s) (s .pre .sound) (E s) (free s) (R′ a) (made a) (grown a) (spent a) (a .admit .ensures) (c .before .if4 .taken)
 
 returns-5 : tie.Need-returns-5
 returns-5 c =
@@ -236,7 +242,7 @@ returns-5 c =
     let a = admitting l in
     let s = s a in
     c .refuse5 .ensures _ _ (omega arith)
-    ∙ sum-spoiled-step (S s) (R s) (s .pre .sound) (E s) (R′ a) (made a) (grown a) (spent a) (a .admit .ensures) (admitted l) (sum-over k (not-true _ (c .before .if5 .taken)))
+    ∙ sum-spoiled-step (S s) (R s) (s .pre .sound) (E s) (free s) (R′ a) (made a) (grown a) (spent a) (a .admit .ensures) (admitted l) (sum-over k (not-true _ (c .before .if5 .taken)))
 
 insert-instruction-requires : tie.Need-insert-instruction-requires
 insert-instruction-requires c κs =
@@ -272,7 +278,7 @@ returns-6 c =
     let s = s a in
     let v = s .args .vip .0 in
     c .accept .ensures _ _
-    ∙ admitted-step (S s) (R s) (s .pre .sound) (E s) (R′ a) (made a) (grown a) (spent a) (a .admit .ensures) (admitted l) (can-add-sum k (not-false _ (f .if5 .left)))
+    ∙ admitted-step (S s) (R s) (s .pre .sound) (E s) (free s) (R′ a) (made a) (grown a) (spent a) (a .admit .ensures) (admitted l) (can-add-sum k (not-false _ (f .if5 .left)))
     (n .insert-instruction .ensures (R s) (I s) (Y a) (target (p a)))
     (o .put-trailer .ensures
     ∙ ap (λ j. put (s .args .book .used) (trailer-bytes (trailer-with v j (length (s .args .instruction .now)) 3)) (s .args .journal .now)) (finds (finding (block (p a))) .place)

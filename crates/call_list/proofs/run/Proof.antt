@@ -9,8 +9,8 @@ use native.Mathlib.Omega.{arith}
 use borrow.Author.Tests.{not-true, not-false}
 use borrow.Author.Needs.{needs}
 use Rattle.machine.specs.Book.{State}
-use Rattle.machine.specs.CallList.{is-call-list, open-and-run}
-use Rattle.call_list.specs.Says.{told}
+use Rattle.machine.specs.CallList.{is-call-list, Told, open-and-run}
+use Rattle.call_list.specs.Says.{run-told}
 use Rattle.call_list.specs.Runs.{Runs}
 use Rattle.call_list.proofs.Runs as R
 use Rattle.call_list.proofs.run.Statement.{statement}
@@ -33,11 +33,11 @@ abbrev calling : tie.After-done → tie.After-run-calls
 calling c = c .before .before .before .before .before
 
 -- what is promised, from what the definitions say
-Promised : tie.After-is-call-list → ℕ × ℕ × State → Type 0
+Promised : tie.After-is-call-list → ℕ × Told × State → Type 0
 Promised c x = let a = start c .args in Runs (a .file .now) (a .image .now) (a .journal .now) (a .words .now) (a .bytes .now) (a .rates .rate) x
 
-promised : (c : tie.After-is-call-list) (x : ℕ × ℕ × State)
-    → (let a = start c .args in x ≡ told (open-and-run (a .file .now) (a .image .now) (a .journal .now) (a .words .now) (a .bytes .now) (a .rates .rate))) → Promised c x
+promised : (c : tie.After-is-call-list) (x : ℕ × Told × State)
+    → (let a = start c .args in x ≡ run-told (open-and-run (a .file .now) (a .image .now) (a .journal .now) (a .words .now) (a .bytes .now) (a .rates .rate))) → Promised c x
 unfolding Promised
 promised c = R.replays _ _ _ _ _ _ (λ i. omega (arith, c .before .before .shared-slice-known2 .given i)) (λ i. c .before .shared-slice-known3 .given i)
 
@@ -50,8 +50,8 @@ unfolding Promised
 returns c =
     let t = c .before .before in
     promised (t .before) _
-    (R.not-run-is _ _ _ _ (c .not-run .ensures)
-    ∙ R.told-by _ _ _ (c .before .refuse-opening .ensures _ _ (omega arith))
+    (c .not-run .ensures _ _
+    ∙ R.not-made _ _ _ (c .before .refuse-opening .ensures _ _ (omega arith))
     ∙ R.no-list _ _ _ _ _ _ (sym (t .before .is-call-list .ensures) ∙ not-true _ (t .if1 .taken)))
 
 returns-2 : tie.Need-returns-2
@@ -61,7 +61,7 @@ returns-2 c =
     let o = opening (t .before) in
     let e = listed o in
     promised (e .before) _
-    (R.not-run-is _ _ _ _ (c .not-run2 .ensures)
+    (c .not-run2 .ensures _ _
     ∙ R.not-opened _ _ _ _ _ _ (encoded e) _ (o .«open» .ensures) (R.refused-is (o .«open» .result) [] [] (λ z. omega (arith, z, t .if2 .taken))))
 
 run-calls-requires : tie.Need-run-calls-requires
@@ -75,7 +75,7 @@ returns-3 c =
     let o = opening (f .before) in
     let e = listed o in
     promised (e .before) _
-    (R.done-is _ _ _ _ (c .done .ensures)
+    (c .done .ensures _ _
     ∙ R.opened-ran _ _ _ _ _ _ (encoded e) _ (o .«open» .ensures) (R.accepted-is (o .«open» .result) [] [] (omega (arith, f .if2 .left))) _ (k .run-calls .ensures))
 
 pub run-spec : {M : Type 1} → statement M

@@ -20,8 +20,8 @@ encoded c = sym (c .before .is-call-list .ensures) ∙ not-false _ (c .if1 .left
 returns : tie.Need-returns
 returns c =
     let t = c .before .before in
-    R.not-run-is _ _ _ _ (c .not-run .ensures)
-    ∙ R.told-by _ _ _ (c .before .refuse .ensures _ _ (omega arith))
+    c .not-run .ensures _ _
+    ∙ R.not-made _ _ _ (c .before .refuse .ensures _ _ (omega arith))
     ∙ R.no-list-on _ _ _ (sym (t .before .is-call-list .ensures) ∙ not-true _ (t .if1 .taken))
 
 run-calls-requires : tie.Need-run-calls-requires
@@ -30,7 +30,7 @@ run-calls-requires c κs = encoded (c .before .before)
 returns-2 : tie.Need-returns-2
 returns-2 c =
     let k = c .before .before .before .before .before in
-    R.done-is _ _ _ _ (c .done .ensures) ∙ R.ran-on _ _ _ (encoded (k .before .before .before)) _ (k .run-calls .ensures)
+    c .done .ensures _ _ ∙ R.ran-on _ _ _ (encoded (k .before .before .before)) _ (k .run-calls .ensures)
 
 pub run-on-spec : {M : Type 1} → statement M
 run-on-spec =

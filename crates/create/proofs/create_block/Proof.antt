@@ -11,7 +11,9 @@ use Rattle.pod.specs.Values.{Routine}
 use Rattle.machine.specs.Edits.{Edit, create, edited, size}
 use Rattle.machine.specs.Trailer.{trailer-with, trailer-bytes}
 use Rattle.machine.specs.Journal.{entry}
+use Rattle.machine.specs.Machine.{edit, permit}
 use Rattle.machine.specs.Book.{State}
+use Rattle.machine.proofs.Calls.{create-permitted}
 use Rattle.machine.proofs.Keeps.{created-size}
 use Rattle.machine.specs.Charge.{carried}
 use Rattle.machine.proofs.Sums.{created-sum, carried-to}
@@ -60,6 +62,10 @@ module _ (s : tie.Start) where
   abbrev E : Edit
   E = create (s .args .vip .0)
 
+  -- no walk turns it away
+  free : permit (edit E) (S .book .walk) ≡ accepted tt
+  free = create-permitted (S .book .walk) (s .args .vip .0)
+
   abbrev R′ : Routine
   R′ = with-new (s .args .vip .0) R
 
@@ -96,7 +102,7 @@ returns c =
     let g = t .before .before in
     let s = start g in
     let f = finds g in
-    c .refuse .ensures _ _ (omega arith) ∙ sym (refused-step (S s) (R s) (s .pre .sound) (E s) _ (not-created _ _ (omega (arith, t .if1 .taken, f .place, f .count))))
+    c .refuse .ensures _ _ (omega arith) ∙ sym (refused-step (S s) (R s) (s .pre .sound) (E s) (free s) _ (not-created _ _ (omega (arith, t .if1 .taken, f .place, f .count))))
 
 returns-2 : tie.Need-returns-2
 returns-2 c =
@@ -104,7 +110,7 @@ returns-2 c =
     let a = t .before in
     let e = testing a in
     let s = at-tests e in
-    c .refuse2 .ensures _ _ (omega arith) ∙ not-admitted-step (S s) (R s) (s .pre .sound) (E s) (R′ s) (made e) (grown s) (spent s) (a .admit .ensures) (t .if2 .taken)
+    c .refuse2 .ensures _ _ (omega arith) ∙ not-admitted-step (S s) (R s) (s .pre .sound) (E s) (free s) (R′ s) (made e) (grown s) (spent s) (a .admit .ensures) (t .if2 .taken)
 
 add-block-requires : tie.Need-add-block-requires
 add-block-requires c κs = let e = c .before in (is-filled (at-room e .pre), room e .0)
@@ -122,7 +128,7 @@ returns-3 c =
     let e = testing a in
     let s = at-tests e in
     c .accept .ensures _ _
-    ∙ admitted-step (S s) (R s) (s .pre .sound) (E s) (R′ s) (made e) (grown s) (spent s) (a .admit .ensures) (l .if2 .left) (sum-stays s)
+    ∙ admitted-step (S s) (R s) (s .pre .sound) (E s) (free s) (R′ s) (made e) (grown s) (spent s) (a .admit .ensures) (l .if2 .left) (sum-stays s)
     (b .add-block .ensures (R s) (sound-filled (s .pre .sound)))
     (p .put-trailer .ensures ∙ ap (λ n. put (s .args .book .used) (trailer-bytes (trailer-with (s .args .vip .0) n 0 1)) (s .args .journal .now)) (finds (finding e) .count))
 

@@ -136,7 +136,7 @@ no-refusal c = omega (arith, c .if2 .left)
 room : (c : Roomy) → (let e = ending (testing c) in s e .args .book .used + size-of e + 20 ≤ length (s e .args .journal .now))
 room c =
     let e = ending (testing c) in
-    K.room (S (s e)) (R (s e)) (s e .pre .sound) _ (there (being-there e)) _ _ (is-left e) (is-spent e) (testing c .admit .ensures) (no-refusal c) .1
+    K.room (S (s e)) (R (s e)) (s e .pre .sound) (s e .pre .none-open) _ (there (being-there e)) _ _ (is-left e) (is-spent e) (testing c .admit .ensures) (no-refusal c) .1
 
 -- what the block comes to
 comes-to : (c : tie.After-sum-of-block) → let s = s (ending (testing (summing c))) in
@@ -151,14 +151,14 @@ refused-15 c =
     let f = c .before .before .before in
     let s = start f in
     c .refuse .ensures _ _ (omega arith)
-    ∙ sym (K.no-block (S s) (R s) (s .pre .sound) _ (omega (arith, c .before .if1 .taken, finds f .place, finds f .count)))
+    ∙ sym (K.no-block (S s) (R s) (s .pre .sound) (s .pre .none-open) _ (omega (arith, c .before .if1 .taken, finds f .place, finds f .count)))
 
 not-admitted : tie.Need-returns-2
 not-admitted c =
     let t = c .before .before in
     let e = ending t in
     c .refuse2 .ensures _ _ (omega (arith, c .before .if2 .taken))
-    ∙ sym (K.not-admitted (S (s e)) (R (s e)) (s e .pre .sound) _ (there (being-there e)) _ _ (is-left e) (is-spent e) (t .admit .ensures) (λ z. omega (arith, z, c .before .if2 .taken)))
+    ∙ sym (K.not-admitted (S (s e)) (R (s e)) (s e .pre .sound) (s e .pre .none-open) _ (there (being-there e)) _ _ (is-left e) (is-spent e) (t .admit .ensures) (λ z. omega (arith, z, c .before .if2 .taken)))
 
 sum-short : tie.Need-returns-3
 sum-short c =
@@ -167,7 +167,7 @@ sum-short c =
     let t = testing a in
     let e = ending t in
     c .refuse3 .ensures _ _ (omega arith)
-    ∙ sym (K.sum-short (S (s e)) (R (s e)) (s e .pre .sound) _ (there (being-there e)) _ _ (is-left e) (is-spent e) (t .admit .ensures) (no-refusal a) (comes-to k) (omega (arith, c .before .if3 .taken)))
+    ∙ sym (K.sum-short (S (s e)) (R (s e)) (s e .pre .sound) (s e .pre .none-open) _ (there (being-there e)) _ _ (is-left e) (is-spent e) (t .admit .ensures) (no-refusal a) (comes-to k) (omega (arith, c .before .if3 .taken)))
 
 put-entry-requires : tie.Need-put-entry-requires
 put-entry-requires c κs = let a = summing (comparing (c .before .before .before)) in (omega (arith, room a), omega (arith, s (ending (testing a)) .pre .sound .journal-lent))
@@ -192,7 +192,7 @@ removed c =
     let s = s e in
     let x = B.part-here (R s) (P s) (there (being-there e)) (s .args .image .now) (holding s) _ _ (finds (f e) .at) (ends e) in
     c .accept .ensures _ _
-    ∙ K.removed (S s) (R s) (s .pre .sound) _ (there (being-there e)) _ _ (is-left e) (is-spent e) (testing a .admit .ensures) (no-refusal a) (comes-to k)
+    ∙ K.removed (S s) (R s) (s .pre .sound) (s .pre .none-open) _ (there (being-there e)) _ _ (is-left e) (is-spent e) (testing a .admit .ensures) (no-refusal a) (comes-to k)
     (omega (arith, l .if3 .left)) (sum-fits s) _ _
     (w .swap-remove .ensures (R s) (P s) (removable e))
     (n .put-entry .ensures ∙ ap₂ (λ i x. put (s .args .book .used) (x ++ trailer-bytes (trailer-with (s .args .vip .0) i (length x) 2)) (s .args .journal .now)) (finds (f e) .place) x)

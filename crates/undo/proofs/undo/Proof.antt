@@ -66,17 +66,17 @@ abbrev start₃ : tie.After-read-trailer → tie.Start
 start₃ c = start₂ (reading c)
 
 last : (c : tie.After-read-trailer) → let s = start₃ c in K.Last (S s) (R s) (trailer-of (c .read-trailer .result))
-last c = record { sound = sound (start₃ c); enough = enough (reading c); is = c .read-trailer .ensures }
+last c = record { sound = sound (start₃ c); none-open = start₃ c .pre .none-open; enough = enough (reading c); is = c .read-trailer .ensures }
 
 returns : tie.Need-returns
-returns c = let t = c .before in let s = t .before .before .before in c .refuse .ensures _ _ (omega arith) ∙ K.nothing (S s) (R s) (sound s) (omega (arith, t .if1 .taken))
+returns c = let t = c .before in let s = t .before .before .before in c .refuse .ensures _ _ (omega arith) ∙ K.nothing (S s) (R s) (sound s) (s .pre .none-open) (omega (arith, t .if1 .taken))
 
 returns-2 : tie.Need-returns-2
 returns-2 c =
     let t = c .before in
     let e = t .before in
     let s = start e in
-    c .refuse2 .ensures _ _ (omega arith) ∙ K.too-little (S s) (R s) (sound s) (some e) (omega (arith, t .if2 .taken))
+    c .refuse2 .ensures _ _ (omega arith) ∙ K.too-little (S s) (R s) (sound s) (s .pre .none-open) (some e) (omega (arith, t .if2 .taken))
 
 returns-3 : tie.Need-returns-3
 returns-3 c =
