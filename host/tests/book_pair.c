@@ -54,6 +54,24 @@ void copy_twin(void)
     memcpy(journal.plain, twin.journal, journal.len);
 }
 
+static uint8_t kept_image[BYTES_MAX], kept_journal[BYTES_MAX];
+static vtil_book kept_numbers;
+
+void keep_book(void)
+{
+    memcpy(kept_image, twin.image, twin.image_len);
+    memcpy(kept_journal, twin.journal, twin.journal_len);
+    kept_numbers = twin.numbers;
+}
+
+void bring_back_book(void)
+{
+    memcpy(twin.image, kept_image, twin.image_len);
+    memcpy(twin.journal, kept_journal, twin.journal_len);
+    twin.numbers = kept_numbers;
+    copy_twin();
+}
+
 void hold_book(vtil_book got, vtil_book want)
 {
     hold("written", image.len, (int64_t)got.written, (int64_t)want.written);

@@ -35,6 +35,10 @@ bool open_both(const struct bytes *file);
 /* The library's image and journal become what the reference's are. */
 void copy_twin(void);
 
+/* These remember image, journal and numbers of the reference's, and make both books that again. */
+void keep_book(void);
+void bring_back_book(void);
+
 /* Every field of the book. */
 void hold_book(vtil_book got, vtil_book want);
 

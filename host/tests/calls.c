@@ -52,6 +52,20 @@ vtil_walk_answer call_both(const struct ref_call *call)
     return want;
 }
 
+void hold_machine(struct ref_machine *machine, const struct ref_call *call, vtil_walk_answer library)
+{
+    static uint8_t due_image[BYTES_MAX], due_journal[BYTES_MAX];
+    vtil_walk_answer due = ref_machine_step(machine, call);
+    ref_machine_image(machine, due_image);
+    ref_machine_journal(machine, due_journal);
+    hold("the machine's refusal", image.len, (int64_t)library.refusal, (int64_t)due.refusal);
+    hold_book(library.book, due.book);
+    hold("the machine's offset", image.len, (int64_t)library.offset, (int64_t)due.offset);
+    hold("the machine's length", image.len, (int64_t)library.length, (int64_t)due.length);
+    hold("the machine's image", image.len, memcmp(image.plain, due_image, image.len) == 0, 1);
+    hold("the machine's journal", journal.len, memcmp(journal.plain, due_journal, journal.len) == 0, 1);
+}
+
 struct ref_call call_of(enum vtil_call kind, uint64_t vip)
 {
     static const uint8_t no_bytes_at[1];

@@ -35,6 +35,12 @@ void close_walk(void);
 /* The same call on both books; holds the answers and what is left behind. Answers what was due. */
 vtil_walk_answer call_both(const struct ref_call *call);
 
+/*
+ * The machine makes the same call. It sees the file, the calls and the lengths; its answer and what it says of image and
+ * journal are the library's.
+ */
+void hold_machine(struct ref_machine *machine, const struct ref_call *call, vtil_walk_answer library);
+
 /* These lend a list of calls and a file. Then library_run and library_run_on run the list in the library's book alone. */
 void lend_list(const uint64_t *words, size_t count, const uint8_t *bytes, size_t len);
 void lend_file(const struct bytes *file);

@@ -155,8 +155,8 @@ static void no_bytes(const struct room *room)
 
 static void hold_too_large(const uint8_t *at, size_t image_len, const uint8_t *to, size_t journal_len)
 {
-    const vtil_book books[] = {any_book(114, 0), {0}, any_book(UINT64_MAX, UINT64_MAX)};
-    for (size_t i = 0; i < 3; i++) {
+    const vtil_book books[] = {any_book(114, 0), {0}, any_book(UINT64_MAX, UINT64_MAX), {.walk = UINT64_MAX}};
+    for (size_t i = 0; i < sizeof books / sizeof books[0]; i++) {
         next_case();
         vtil_book b = books[i];
         hold("routine", i, (int64_t)vtil_routine(b, at, image_len, to, journal_len).refusal, 10);

@@ -101,22 +101,6 @@ static void hold_machine_charge(const struct ref_machine *machine, vtil_book num
     hold("the machine's charge", image.len, (int64_t)got.cents, (int64_t)ref_machine_cents(machine, rates));
 }
 
-/* The machine sees the file, the calls and the lengths; its answers and what it says of image and journal are the library's. */
-static void hold_machine(struct ref_machine *machine, const struct ref_call *call, vtil_walk_answer library)
-{
-    static uint8_t due_image[BYTES_MAX], due_journal[BYTES_MAX];
-    vtil_walk_answer due = ref_machine_step(machine, call);
-    ref_machine_image(machine, due_image);
-    ref_machine_journal(machine, due_journal);
-    hold("the machine's refusal", image.len, (int64_t)library.refusal, (int64_t)due.refusal);
-    hold_book(library.book, due.book);
-    hold("the machine's offset", image.len, (int64_t)library.offset, (int64_t)due.offset);
-    hold("the machine's length", image.len, (int64_t)library.length, (int64_t)due.length);
-    hold("the machine's image", image.len, memcmp(image.plain, due_image, image.len) == 0, 1);
-    hold("the machine's journal", journal.len, memcmp(journal.plain, due_journal, journal.len) == 0, 1);
-    hold_machine_charge(machine, library.book);
-}
-
 /* Undo until nothing stands: the file's routine and its book again, and a journal of zeros. */
 static void take_all_back(const uint8_t *opened, vtil_book book)
 {
@@ -156,6 +140,7 @@ static void one_list(const struct bytes *file)
         make_call(i);
         vtil_walk_answer answer = call_both(&calls[i]);
         hold_machine(machine, &calls[i], answer);
+        hold_machine_charge(machine, answer.book);
         if (below(16) == 0)
             look_once(answer.book);
     }
@@ -370,28 +355,19 @@ static void make_instruction_call(struct ref_call *call)
 /* Each kind of call on the book with these numbers, every time on the same bytes; then all in a list. */
 static void call_each(vtil_book numbers)
 {
-    static uint8_t kept_image[BYTES_MAX], kept_journal[BYTES_MAX];
-    memcpy(kept_image, twin.image, image.len);
-    memcpy(kept_journal, twin.journal, journal.len);
     twin.numbers = numbers;
+    keep_book();
     uint64_t there = some_vip();
     for (int kind = VTIL_CREATE; kind <= VTIL_WALK_ABANDON; kind++) {
         struct ref_call call = call_of((enum vtil_call)kind, kind == VTIL_CREATE ? 0x1234567 : there);
         if (kind == VTIL_APPEND)
             make_instruction_call(&call);
-        twin.numbers = numbers;
         calls[kind] = call;
         call_both(&call);
-        memcpy(twin.image, kept_image, image.len);
-        memcpy(twin.journal, kept_journal, journal.len);
-        copy_twin();
+        bring_back_book();
     }
-    twin.numbers = numbers;
     run_list_on(calls, VTIL_WALK_ABANDON + 1);
-    memcpy(twin.image, kept_image, image.len);
-    memcpy(twin.journal, kept_journal, journal.len);
-    copy_twin();
-    twin.numbers = numbers;
+    bring_back_book();
 }
 
 static void hand_made_books(void)
@@ -586,9 +562,9 @@ static void hold_each(uint8_t *at, size_t image_len, uint8_t *to, size_t journal
 static void odd_lendings(const struct room *room)
 {
     static const size_t lengths[] = {VTIL_MOST_LENT + 1, (size_t)1 << 32, (size_t)1 << 63, SIZE_MAX};
-    const vtil_book books[] = {any_book(114, 0), {0}, any_book(UINT64_MAX, UINT64_MAX)};
+    const vtil_book books[] = {any_book(114, 0), {0}, any_book(UINT64_MAX, UINT64_MAX), {.written = 114, .walk = UINT64_MAX}};
     begin("lendings over the limit, without access (10), and of no bytes (13)");
-    for (size_t b = 0; b < 3; b++) {
+    for (size_t b = 0; b < sizeof books / sizeof books[0]; b++) {
         for (size_t i = 0; i < sizeof lengths / sizeof lengths[0]; i++) {
             hold_each(no_access(room), lengths[i], NULL, 0, books[b], 10);
             hold_each(no_access(room), 114, no_access(room), lengths[i], books[b], 10);
@@ -611,6 +587,19 @@ static void hold_one(const char *what, vtil_answer got, uint64_t refusal, uint64
     next_case();
     hold(what, 0, (int64_t)got.refusal, (int64_t)refusal);
     hold_book(got.book, (vtil_book){written, used, some_rates, 0, 0});
+}
+
+/* A walk on such a book is handed in at one number and due another, and it hands out one of the empty blocks, or none. */
+static void hold_next(struct lent at, struct lent to, vtil_book book, uint64_t walk, uint64_t due_walk, uint64_t offset)
+{
+    book.walk = walk;
+    vtil_walk_answer next = vtil_walk_next(book, at.readable, at.len, to.readable, to.len);
+    next_case();
+    book.walk = due_walk;
+    hold("next", (size_t)walk, (int64_t)next.refusal, due_walk == walk ? VTIL_SPOILED_BOOK : 0);
+    hold_book(next.book, book);
+    hold("offset", (size_t)walk, (int64_t)next.offset, (int64_t)offset);
+    hold("length", (size_t)walk, (int64_t)next.length, offset == 0 ? 0 : 36);
 }
 
 /* As many empty blocks as an image at the limit has room for; the reference would take too long, but the answers are plain. */
@@ -644,6 +633,10 @@ static void at_the_limit(void)
     a = vtil_undo(a.book, at.writable, at.len, to.writable, to.len);
     hold_one("undo again", a, 0, len, 0);
     hold("as it was opened", 0, memcmp(at.plain, file, len), 0);
+    hold_next(at, to, a.book, 1, 2, 114);
+    hold_next(at, to, a.book, blocks, blocks + 1, len - 36);
+    hold_next(at, to, a.book, blocks + 1, 0, 0);
+    hold_next(at, to, a.book, blocks + 2, blocks + 2, 0);
     end();
     free(file);
 }

@@ -698,11 +698,8 @@ static void make_file(struct bytes *b)
  * After every call the sum that is carried is the machine's, which is worked afresh on its routine; it is worked afresh on
  * the bytes of the image, too; and its cents are the charge.
  */
-static void hold_afresh(vtil_walk_answer answer, vtil_walk_answer machine)
+static void hold_afresh(vtil_walk_answer answer, vtil_rates rates)
 {
-    vtil_rates rates = machine.book.rates;
-    hold("the machine's refusal", image.len, (int64_t)answer.refusal, (int64_t)machine.refusal);
-    hold_book(answer.book, machine.book);
     hold("the sum worked afresh", image.len, (int64_t)answer.book.sum, (int64_t)ref_sum(&twin, rates));
     hold("the cents", image.len, (int64_t)cents(answer.book.sum), (int64_t)charge_both(answer.book, rates).cents);
 }
@@ -719,7 +716,8 @@ static void one_list(const struct bytes *from)
     for (size_t i = 0; i < CALLS; i++) {
         calls[i] = any_call(&instructions[i]);
         vtil_walk_answer answer = call_both(&calls[i]);
-        hold_afresh(answer, ref_machine_step(machine, &calls[i]));
+        hold_machine(machine, &calls[i], answer);
+        hold_afresh(answer, rates);
     }
     ref_machine_free(machine);
     vtil_book last = twin.numbers;

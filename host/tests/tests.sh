@@ -50,6 +50,8 @@ build_guard guard_crooked book_pair calls by_hand
 run "$scratch/guard_crooked"
 build_guard guard_sum book_pair calls by_hand
 run "$scratch/guard_sum" samples/*.vtil
+build_guard guard_walk book_pair calls by_hand
+run "$scratch/guard_walk" samples/*.vtil
 run bash host/tests/command_edits.sh target/host/routine "$scratch/command_edits"
 build_guard guard_charge book_pair
 run "$scratch/guard_charge" samples/*.vtil
