@@ -207,6 +207,28 @@ static void kept_places(void)
     end();
 }
 
+/* An instruction is read in another way where its image soon ends, so the image ends anywhere behind it. */
+static void ends(void)
+{
+    begin("every operation last in the last block, in images with 0 to 130 bytes to spare");
+    for (uint32_t op = 0; op < OPERATIONS; op++)
+        for (uint32_t kind = 0; kind < 2; kind++) {
+            make_blocks(1, 1);
+            put_block_front(&file, VIP + 1, 2);
+            put_instruction(&file, ADD, kind);
+            put_instruction(&file, op, kind);
+            put_zeros(&file, 8);
+            file.at[begins[0] - 4] = 2; /* blocks */
+            for (size_t spare = 0; spare <= 130; spare++) {
+                open_routine(spare, 0);
+                twin.numbers.walk = 2;
+                next_due("the last block", 3, begins[1], file.len - begins[1]);
+                end_due("the end");
+            }
+        }
+    end();
+}
+
 /* Where the block at this place stands in the image, by reading by offset; the end: 0 and 0. */
 struct part {
     uint64_t offset, length;
@@ -533,8 +555,10 @@ static void numbers_by_hand(void)
         extremes(blocks + 2, walks);
         for (int i = 0; i < EXTREMES; i++)
             each_call_at(walks[i], blocks);
-        for (unsigned bit = 3; bit < 64; bit++)
+        for (unsigned bit = 3; bit < 64; bit++) {
             each_call_at(1ull << bit, blocks);
+            each_call_at((1ull << bit) + 1, blocks); /* the bits of the place above the lowest are looked at too */
+        }
     }
     end();
 }
@@ -1060,6 +1084,7 @@ int main(int argc, char **argv)
 
     plain_walks();
     kept_places();
+    ends();
     files();
     one_afternoon();
     grown_from_nothing();
