@@ -275,6 +275,16 @@ size_t load_samples(char **paths, struct bytes **out)
     return count;
 }
 
+void make_any_routine(const struct bytes *samples, size_t count, struct bytes *b)
+{
+    do
+        if (below(4) == 0)
+            *b = samples[below(count)];
+        else
+            make_good_routine(b);
+    while (ref_check(b->at, b->len) < 0);
+}
+
 /* Damaged files --------------------------------------------------------------- */
 
 static void overwrite(struct bytes *b, size_t at, size_t width, uint64_t value)

@@ -48,6 +48,9 @@ void make_appended(struct bytes *b);
 /* The files at these paths, at least one, which NULL ends; answers how many they are. */
 size_t load_samples(char **paths, struct bytes **out);
 
+/* A routine that is accepted: one of the samples, or a made one. */
+void make_any_routine(const struct bytes *samples, size_t count, struct bytes *b);
+
 /* Damages `b` in one place; `other` is a second file to take pieces from. */
 void damage(struct bytes *b, const struct bytes *other);
 

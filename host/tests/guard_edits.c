@@ -156,12 +156,7 @@ static void lists(void)
     begin("long lists of calls at tight lengths, against the machine, and the same by vtil_run and vtil_run_on");
     seed(7);
     for (int i = 0; i < LISTS; i++) {
-        do
-            if (below(4) == 0)
-                b = samples[below(sample_count)];
-            else
-                make_good_routine(&b);
-        while (ref_check(b.at, b.len) < 0);
+        make_any_routine(samples, sample_count, &b);
         one_list(&b);
     }
     end_of_random(10, answers);

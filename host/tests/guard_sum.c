@@ -684,16 +684,6 @@ static void journals_by_hand(void)
 static struct bytes instructions[CALLS];
 static struct ref_call calls[CALLS];
 
-static void make_file(struct bytes *b)
-{
-    do
-        if (below(4) == 0)
-            *b = samples[below(sample_count)];
-        else
-            make_good_routine(b);
-    while (ref_check(b->at, b->len) < 0);
-}
-
 /*
  * After every call the sum that is carried is the machine's, which is worked afresh on its routine; it is worked afresh on
  * the bytes of the image, too; and its cents are the charge.
@@ -738,7 +728,7 @@ static void lists(void)
     begin("lists of calls: after each the machine's sum, worked afresh, and its cents; the same by vtil_run and vtil_run_on");
     seed(41);
     for (int i = 0; i < LISTS; i++) {
-        make_file(&b);
+        make_any_routine(samples, sample_count, &b);
         one_list(&b);
     }
     hold("no call was refused 13", 0, (int64_t)group.answers[VTIL_SPOILED_BOOK], 0);
@@ -795,7 +785,7 @@ static void wild_lists(void)
     begin("lists of calls on books whose rates and sum are made by hand, between calls too, and by vtil_run_on");
     seed(42);
     for (int i = 0; i < WILD_LISTS; i++) {
-        make_file(&b);
+        make_any_routine(samples, sample_count, &b);
         one_wild_list(&b);
     }
     end_of_random(100, answers);

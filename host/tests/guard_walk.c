@@ -1,11 +1,9 @@
 /*
- * guard_walk FILE..: walks over the blocks of a book, between guard pages: what they hand
- * out and what is allowed meanwhile, against answers that are written out here, against
- * the reference and against the routine machine.
+ * guard_walk: walks over the blocks of a book, between guard pages: what they hand out,
+ * what is allowed meanwhile, and walks made by hand, against answers that are written
+ * out here and against the reference.
  */
 #include <stdbool.h>
-#include <stdlib.h>
-#include <string.h>
 
 #include "book_pair.h"
 #include "by_hand.h"
@@ -16,10 +14,6 @@
 #include "reference.h"
 #include "vtil.h"
 
-#define MADE 400
-#define BUSY 600
-#define LISTS 150
-#define SHORT 14 /* calls in a list that is run in all its parts */
 #define ADD 5
 #define LFENCE 43
 #define EMPTY_BLOCK 36
@@ -29,9 +23,6 @@
 #define ABSENT 77 /* a vip that no block of these tests has */
 #define CONVENTION 45
 #define REGISTER 24
-
-static struct bytes *samples;
-static size_t sample_count;
 
 /* Calls of a walk that are due an answer ------------------------------------------------------------- */
 
@@ -229,63 +220,6 @@ static void ends(void)
     end();
 }
 
-/* Where the block at this place stands in the image, by reading by offset; the end: 0 and 0. */
-struct part {
-    uint64_t offset, length;
-};
-
-static struct part part_at(uint64_t place)
-{
-    size_t written = (size_t)twin.numbers.written;
-    vtil_routine_read routine = ref_read_routine(twin.image, written);
-    struct part part = {routine.blocks_at, 0};
-    if (place == routine.blocks)
-        return (struct part){0, 0};
-    for (uint64_t i = 0; i <= place; i++) {
-        part.offset += part.length;
-        part.length = ref_read_block(twin.image, written, part.offset).end - part.offset;
-    }
-    return part;
-}
-
-/* Every block, and the end, is handed out as reading by offset has it, and as the machine says. */
-static void walk_file(const struct bytes *from)
-{
-    vtil_rates rates = any_rates();
-    lend_book(from->len + below(30), below(30));
-    if (!open_at_rates(from, rates))
-        return;
-    struct ref_machine *machine = ref_machine_start(from->at, from->len, image.len, journal.len, rates);
-    struct ref_call start = call_of(VTIL_WALK_START, 0), next = call_of(VTIL_WALK_NEXT, 0);
-    uint64_t blocks = ref_routine(&twin).blocks;
-    hold_machine(machine, &start, call_both(&start));
-    for (uint64_t place = 0; place <= blocks; place++) {
-        struct part part = part_at(place);
-        vtil_walk_answer answer = call_both(&next);
-        hold_machine(machine, &next, answer);
-        hold("offset", place, (int64_t)answer.offset, (int64_t)part.offset);
-        hold("length", place, (int64_t)answer.length, (int64_t)part.length);
-        hold("walk", place, (int64_t)answer.book.walk, place == blocks ? 0 : (int64_t)place + 2);
-        if (below(4) == 0)
-            look_once(twin.numbers);
-    }
-    ref_machine_free(machine);
-}
-
-static void files(void)
-{
-    static struct bytes b;
-    begin("walks over the samples and over made routines: what reading by offset has, and the machine");
-    seed(61);
-    for (size_t i = 0; i < sample_count; i++)
-        walk_file(&samples[i]);
-    for (int i = 0; i < MADE; i++) {
-        make_good_routine(&b);
-        walk_file(&b);
-    }
-    end();
-}
-
 /* Authors at work ---------------------------------------------------------------------------------------- */
 
 /* An append or a create, after which the walk stands where it stood. */
@@ -310,7 +244,7 @@ static void append_keeps(const char *what, uint64_t vip, uint32_t op, uint64_t r
     edit_keeps(what, &(struct ref_call){VTIL_APPEND, vip, b.at, b.len}, refusal);
 }
 
-/* Three blocks, a nop, none, and a jmp: 114, 182, 218 and 302, where they end. */
+/* Three blocks: a nop, none, and a jmp. */
 static void one_afternoon(void)
 {
     static const uint32_t nop[] = {NOP}, jmp[] = {JMP};
@@ -659,35 +593,41 @@ static void spoiled_otherwise(void)
     end();
 }
 
-/* Lendings over the limit are refused 10 before everything, and nothing of them is touched. */
+/* These have a refusal of their own for the walk: 10 comes before it, and nothing that is lent is touched. */
+static void too_large_due(uint8_t *at, size_t image_len, size_t journal_len, vtil_book book)
+{
+    const vtil_walk_answer next = vtil_walk_next(book, at, image_len, at, journal_len);
+    const vtil_answer got[] = {
+        vtil_remove_block(book, at, image_len, at, journal_len, VIP), vtil_undo(book, at, image_len, at, journal_len),
+        vtil_walk_start(book, at, image_len, at, journal_len),        {next.refusal, next.book},
+        vtil_walk_abandon(book, at, image_len, at, journal_len),
+    };
+    for (size_t i = 0; i < sizeof got / sizeof got[0]; i++) {
+        next_case();
+        hold("refusal", i, (int64_t)got[i].refusal, VTIL_LENDING_TOO_LARGE);
+        hold_book(got[i].book, book);
+    }
+    hold("nothing is handed out", 0, next.offset == 0 && next.length == 0, 1);
+}
+
 static void over_the_limit(const struct room *room)
 {
     static const uint64_t walks[] = {0, 1, UINT64_MAX};
     static const size_t lengths[] = {VTIL_MOST_LENT + 1, (size_t)1 << 32, (size_t)1 << 63, SIZE_MAX};
-    begin("lendings over the limit, without access: 10 by the calls of a walk, whatever the walk");
-    for (size_t w = 0; w < 3; w++)
-        for (size_t i = 0; i < sizeof lengths / sizeof lengths[0]; i++)
-            for (int which = 0; which < 2; which++) {
-                size_t image_len = which == 0 ? lengths[i] : 114, journal_len = which == 0 ? 0 : lengths[i];
-                const uint8_t *at = no_access(room);
-                vtil_book book = any_book(114, 0);
-                book.walk = walks[w];
-                const vtil_walk_answer next = vtil_walk_next(book, at, image_len, at, journal_len);
-                const vtil_answer start = vtil_walk_start(book, at, image_len, at, journal_len);
-                const vtil_answer abandon = vtil_walk_abandon(book, at, image_len, at, journal_len);
-                next_case();
-                hold("start", w, (int64_t)start.refusal, 10);
-                hold("next", w, (int64_t)next.refusal, 10);
-                hold("abandon", w, (int64_t)abandon.refusal, 10);
-                hold_book(start.book, book);
-                hold_book(next.book, book);
-                hold_book(abandon.book, book);
-                hold("nothing is handed out", w, next.offset == 0 && next.length == 0, 1);
-            }
+    begin("lendings over the limit, without access: 10 before 20 and 21, whatever the walk");
+    for (size_t i = 0; i < sizeof walks / sizeof walks[0]; i++)
+        for (size_t j = 0; j < sizeof lengths / sizeof lengths[0]; j++) {
+            vtil_book book = any_book(114, 0);
+            book.walk = walks[i];
+            too_large_due(no_access(room), lengths[j], 0, book);
+            too_large_due(no_access(room), 114, lengths[j], book);
+        }
     end();
 }
 
-/* Words that are no list leave a book with any walk, and hand out nothing. */
+static struct ref_call calls[CALLS];
+
+/* Words that are no list leave a book with any walk, and hand out nothing; a list of no calls does not look at it either. */
 static void no_lists(void)
 {
     static const uint64_t kinds[] = {7, 8, 255, 256, 1ull << 32, 1ull << 63, UINT64_MAX};
@@ -700,6 +640,8 @@ static void no_lists(void)
             twin.numbers.walk = walk == 5 ? UINT64_MAX : walk;
             lend_list(words, 12, file.at, 0);
             hold_run(library_run_on(twin.numbers), (vtil_run_answer){.refusal = 15, .book = twin.numbers});
+            run_list_on(calls, 0);
+            lend_list(words, 12, file.at, 0);
             lend_file(&file);
             hold_run(library_run(any_rates()), (vtil_run_answer){.refusal = 15});
         }
@@ -724,9 +666,6 @@ static const struct step {
     {VTIL_WALK_START, 0, 20, 0, 0},   {VTIL_WALK_NEXT, 0, 0, 0, 0},     {VTIL_UNDO, 0, 0, 0, 0},
 };
 #define STEPS (sizeof steps / sizeof steps[0])
-
-static struct ref_call calls[CALLS];
-static struct bytes instructions[CALLS];
 
 static void make_steps(void)
 {
@@ -792,292 +731,9 @@ static void odd_parts(void)
     end();
 }
 
-static void make_file(struct bytes *b)
+int main(void)
 {
-    do
-        if (below(4) == 0)
-            *b = samples[below(sample_count)];
-        else
-            make_good_routine(b);
-    while (ref_check(b->at, b->len) < 0);
-}
-
-/* Half of them are calls of a walk. */
-static struct ref_call any_walking(struct bytes *made)
-{
-    if (below(3) == 0)
-        return call_of(VTIL_WALK_NEXT, some_vip());
-    if (below(10) == 0)
-        return call_of(VTIL_WALK_START, some_vip());
-    return any_call(made);
-}
-
-static void one_list(const struct bytes *from)
-{
-    vtil_rates rates = any_rates();
-    lend_book((size_t)ref_check(from->at, from->len) + below(5) * below(150), below(5) * below(250));
-    if (!open_at_rates(from, rates))
-        return;
-    struct ref_machine *machine = ref_machine_start(from->at, from->len, image.len, journal.len, rates);
-    for (size_t i = 0; i < CALLS; i++) {
-        calls[i] = any_walking(&instructions[i]);
-        vtil_walk_answer answer = call_both(&calls[i]);
-        hold_machine(machine, &calls[i], answer);
-        if (below(16) == 0)
-            look_once(answer.book);
-    }
-    ref_machine_free(machine);
-    hold_book(run_list(from, calls, CALLS, rates).book, twin.numbers);
-    for (size_t count = 0; count <= SHORT; count++) {
-        run_list(from, calls, count, rates);
-        run_list_on(calls + count, SHORT - count);
-    }
-    run_list_on(calls + SHORT, CALLS - SHORT);
-}
-
-static void lists(void)
-{
-    static const int answers[] = {0, 1, 7, 11, 12, 14, 15, 16, 17, 18, 19, 20, 21, -1};
-    static struct bytes b;
-    begin("long lists of calls, half of them of walks: against the machine, and by vtil_run and vtil_run_on in parts");
-    seed(63);
-    for (int i = 0; i < LISTS; i++) {
-        make_file(&b);
-        one_list(&b);
-    }
-    hold("no call was refused 13", 0, (int64_t)group.answers[VTIL_SPOILED_BOOK], 0);
-    end_of_random(20, answers);
-}
-
-/* Any numbers in the book between the calls, at which the walk is sound or not; what follows is the reference's. */
-static void wild_lists(void)
-{
-    static const int answers[] = {0, 11, 12, 13, 14, 15, 16, 18, 20, 21, -1};
-    static struct bytes b;
-    begin("lists of calls on books whose walk is made by hand, between calls too, and by vtil_run_on");
-    seed(64);
-    for (int i = 0; i < LISTS; i++) {
-        uint64_t walks[EXTREMES];
-        make_file(&b);
-        lend_book((size_t)ref_check(b.at, b.len) + 100 + below(400), 100 + below(900));
-        open_both(&b);
-        for (size_t j = 0; j < CALLS; j++) {
-            calls[j] = any_walking(&instructions[j]);
-            extremes(ref_routine(&twin).blocks + 1, walks);
-            if (below(3) == 0)
-                twin.numbers.walk = walks[below(EXTREMES)];
-            else if (below(3) == 0)
-                twin.numbers.walk = below(3);
-            call_both(&calls[j]);
-        }
-        twin.numbers.walk = below(3);
-        run_list_on(calls, CALLS);
-    }
-    end_of_random(20, answers);
-}
-
-/* What the policy system gets --------------------------------------------------------------------------------- */
-
-#define MOST_SENT 64
-
-/* Its copies of the blocks, one after the other, and of each how many instructions came to the block after it was sent. */
-static struct bytes sent;
-static struct copy {
-    size_t at, len;
-    uint64_t late;
-} copies[MOST_SENT];
-static size_t sent_count;
-
-static struct ref_machine *machine;
-
-static vtil_walk_answer make_call(const struct ref_call *call)
-{
-    vtil_walk_answer answer = call_both(call);
-    hold_machine(machine, call, answer);
-    return answer;
-}
-
-/* The bytes are copied out of the image before anything can move them. */
-static void take_copy(vtil_walk_answer answer)
-{
-    bool inside = answer.offset <= image.len && answer.length <= image.len - answer.offset;
-    hold("a part of the image", image.len, inside, 1);
-    if (!inside || sent_count == MOST_SENT)
-        return;
-    copies[sent_count++] = (struct copy){sent.len, (size_t)answer.length, 0};
-    put_bytes(&sent, image.plain + answer.offset, (size_t)answer.length);
-}
-
-/* The next block, as it stands there. Whether there was one. */
-static bool send_next(void)
-{
-    struct ref_call next = call_of(VTIL_WALK_NEXT, 0);
-    struct part part = part_at(sent_count);
-    vtil_walk_answer answer = make_call(&next);
-    hold("accepted", image.len, (int64_t)answer.refusal, 0);
-    hold("the offset of the next block", sent_count, (int64_t)answer.offset, (int64_t)part.offset);
-    hold("the length of the next block", sent_count, (int64_t)answer.length, (int64_t)part.length);
-    if (answer.length != 0)
-        take_copy(answer);
-    return answer.length != 0;
-}
-
-/* The place of the block with this vip; where there is none, how many there are. */
-static uint64_t place_of(uint64_t vip)
-{
-    uint64_t place = 0, blocks = ref_routine(&twin).blocks;
-    while (place < blocks && ref_block(&twin, place).vip != vip)
-        place++;
-    return place;
-}
-
-static void append_some(void)
-{
-    static struct bytes made;
-    struct ref_call call = call_of(VTIL_APPEND, some_vip());
-    uint64_t place = place_of(call.vip);
-    make_appended(&made);
-    call.bytes = made.at;
-    call.len = made.len;
-    if (make_call(&call).refusal == 0 && place < sent_count)
-        copies[place].late++;
-}
-
-/* An author at work, who tries what is not allowed now too. */
-static void author(void)
-{
-    struct ref_call call = call_of(VTIL_CREATE, below(3) == 0 ? some_vip() : below(UINT64_MAX));
-    switch (below(10)) {
-    case 0: case 1: case 2: make_call(&call); return;
-    case 3: call = call_of(VTIL_REMOVE, some_vip()); break;
-    case 4: call = call_of(VTIL_UNDO, 0); break;
-    case 5: call = call_of(VTIL_WALK_START, 0); break;
-    case 6: look_once(twin.numbers); return;
-    default: append_some(); return;
-    }
-    hold("not in a walk", image.len, (int64_t)make_call(&call).refusal, VTIL_WALK_OPEN);
-}
-
-/* The block as it stands at the end is the one that was sent, with what came to it later behind its last instruction. */
-static void hold_copy(const struct copy *copy, const uint8_t *at, const vtil_block_read *standing)
-{
-    const uint8_t *bytes = sent.at + copy->at;
-    vtil_block_read block = ref_read_block(bytes, copy->len, 0);
-    size_t instructions = (size_t)(block.prev_at - 4 - BLOCK_FRONT), links = copy->len - (size_t)(block.prev_at - 4);
-    hold("a block is sent", copy->at, block.refusal == 0 && block.end == copy->len, 1);
-    if (block.refusal != 0)
-        return;
-    hold("the next one that stands", copy->at, (int64_t)block.vip, (int64_t)standing->vip);
-    hold("its front", copy->at, memcmp(bytes, at, BLOCK_FRONT - 4), 0);
-    hold("its instructions", copy->at, (int64_t)(block.instructions + copy->late), (int64_t)standing->instructions);
-    hold("their bytes", copy->at, memcmp(bytes + BLOCK_FRONT, at + BLOCK_FRONT, instructions), 0);
-    hold("its links", copy->at, memcmp(bytes + block.prev_at - 4, twin.image + standing->prev_at - 4, links), 0);
-}
-
-/* Every block that stands, each once and in order. */
-static void hold_copies(void)
-{
-    size_t written = (size_t)twin.numbers.written;
-    vtil_routine_read routine = ref_read_routine(twin.image, written);
-    uint64_t at = routine.blocks_at;
-    hold("every block is sent", image.len, (int64_t)sent_count, (int64_t)routine.blocks);
-    for (size_t i = 0; i < sent_count && i < routine.blocks; i++) {
-        vtil_block_read standing = ref_read_block(twin.image, written, at);
-        hold_copy(&copies[i], twin.image + at, &standing);
-        at = standing.end;
-    }
-}
-
-/* A whole walk, with authors at work between its calls. */
-static void busy_walk(void)
-{
-    struct ref_call start = call_of(VTIL_WALK_START, 0);
-    sent.len = 0;
-    sent_count = 0;
-    hold("started", image.len, (int64_t)make_call(&start).refusal, 0);
-    do
-        for (uint64_t left = below(4); left > 0; left--)
-            author();
-    while (send_next());
-    hold_copies();
-}
-
-/* One that is abandoned; the next one sends everything again. */
-static void left_walk(void)
-{
-    struct ref_call start = call_of(VTIL_WALK_START, 0), abandon = call_of(VTIL_WALK_ABANDON, 0);
-    sent_count = 0;
-    make_call(&start);
-    for (uint64_t left = below(5); left > 0; left--) {
-        author();
-        if (!send_next())
-            return;
-    }
-    hold("abandoned", image.len, (int64_t)make_call(&abandon).refusal, 0);
-}
-
-static void policy_system(void)
-{
-    static const int answers[] = {0, 11, 12, 14, 15, 18, 20, -1};
-    static struct bytes b;
-    begin("what a policy system gets while authors work: every block that stands, each once and in order, as it stood");
-    seed(65);
-    for (int i = 0; i < BUSY; i++) {
-        vtil_rates rates = any_rates();
-        make_file(&b);
-        lend_book((size_t)ref_check(b.at, b.len) + below(1200), below(700));
-        open_at_rates(&b, rates);
-        machine = ref_machine_start(b.at, b.len, image.len, journal.len, rates);
-        if (below(2) == 0)
-            left_walk();
-        busy_walk();
-        struct ref_call undo = call_of(VTIL_UNDO, 0), remove = call_of(VTIL_REMOVE, some_vip());
-        make_call(&remove);
-        make_call(&undo);
-        make_call(&undo);
-        busy_walk();
-        ref_machine_free(machine);
-    }
-    hold("no call was refused 13", 0, (int64_t)group.answers[VTIL_SPOILED_BOOK], 0);
-    end_of_random(20, answers);
-}
-
-/* Blocks that are sent by lists, each of which ends in a next: the answer of the list is that of the next. */
-static void sent_by_lists(void)
-{
-    static struct bytes b;
-    begin("blocks that are sent by lists of edits, each with a next at its end");
-    seed(66);
-    for (int i = 0; i < BUSY; i++) {
-        vtil_run_answer run = {.book = {0}};
-        make_file(&b);
-        lend_book((size_t)ref_check(b.at, b.len) + below(600), below(500));
-        open_both(&b);
-        start_due("start");
-        for (uint64_t place = 0; run.refusal == 0 && (place == 0 || run.length != 0); place++) {
-            size_t count = below(4);
-            for (size_t j = 0; j < count; j++)
-                do
-                    calls[j] = any_call(&instructions[j]);
-                while (calls[j].kind >= VTIL_WALK_START);
-            calls[count] = call_of(VTIL_WALK_NEXT, 0);
-            run = run_list_on(calls, count + 1);
-            struct part part = part_at(run.length == 0 ? ref_routine(&twin).blocks : place);
-            hold("accepted", place, (int64_t)run.last, 0);
-            hold("the offset", place, (int64_t)run.offset, (int64_t)part.offset);
-            hold("the length", place, (int64_t)run.length, (int64_t)part.length);
-            hold("the end when all are sent", place, run.length == 0, place == ref_routine(&twin).blocks);
-        }
-        closed_due();
-    }
-    end();
-}
-
-int main(int argc, char **argv)
-{
-    (void)argc;
     set_up_groups("guard_walk");
-    sample_count = load_samples(argv + 1, &samples);
     set_up_book_pair();
     set_up_calls();
     struct room untouched = make_room(1);
@@ -1085,7 +741,6 @@ int main(int argc, char **argv)
     plain_walks();
     kept_places();
     ends();
-    files();
     one_afternoon();
     grown_from_nothing();
     refused_meanwhile();
@@ -1098,9 +753,5 @@ int main(int argc, char **argv)
     no_lists();
     written_out();
     odd_parts();
-    lists();
-    wild_lists();
-    policy_system();
-    sent_by_lists();
     return finish();
 }

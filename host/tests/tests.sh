@@ -51,7 +51,9 @@ run "$scratch/guard_crooked"
 build_guard guard_sum book_pair calls by_hand
 run "$scratch/guard_sum" samples/*.vtil
 build_guard guard_walk book_pair calls by_hand
-run "$scratch/guard_walk" samples/*.vtil
+run "$scratch/guard_walk"
+build_guard guard_sent book_pair calls by_hand
+run "$scratch/guard_sent" samples/*.vtil
 run bash host/tests/command_edits.sh target/host/routine "$scratch/command_edits"
 build_guard guard_charge book_pair
 run "$scratch/guard_charge" samples/*.vtil
