@@ -80,14 +80,12 @@ static enum status refused(const char *name, uint64_t refusal)
 /* Counts the blocks that were sent, also where something fails. */
 static enum status send_blocks(const char *name, const char *folder, struct book *book, uint64_t *sent)
 {
-    vtil_answer started =
-        vtil_walk_start(book->numbers, book->image, book->image_len, book->journal, book->journal_len);
+    vtil_answer started = vtil_walk_start(book->numbers, book->image, book->image_len, book->journal, book->journal_len);
     if (started.refusal != 0)
         return refused(name, started.refusal);
     book->numbers = started.book;
     for (*sent = 0;; *sent += 1) {
-        vtil_walk_answer next =
-            vtil_walk_next(book->numbers, book->image, book->image_len, book->journal, book->journal_len);
+        vtil_walk_answer next = vtil_walk_next(book->numbers, book->image, book->image_len, book->journal, book->journal_len);
         if (next.refusal != 0)
             return refused(name, next.refusal);
         book->numbers = next.book;

@@ -232,7 +232,9 @@ static void author(void)
 {
     struct ref_call call = call_of(VTIL_CREATE, below(3) == 0 ? some_vip() : below(UINT64_MAX));
     switch (below(10)) {
-    case 0: case 1: case 2: make_call(&call); return;
+    case 0:
+    case 1:
+    case 2: make_call(&call); return;
     case 3: call = call_of(VTIL_REMOVE, some_vip()); break;
     case 4: call = call_of(VTIL_UNDO, 0); break;
     case 5: call = call_of(VTIL_WALK_START, 0); break;

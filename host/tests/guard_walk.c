@@ -504,8 +504,8 @@ static void no_blocks_by_hand(void)
         enum vtil_call kind;
         uint64_t closed, open;
     } due_of[] = {
-        {VTIL_CREATE, 0, 0},          {VTIL_APPEND, 15, 15},       {VTIL_REMOVE, 15, 20},      {VTIL_UNDO, 16, 20},
-        {VTIL_WALK_START, 0, 20},     {VTIL_WALK_NEXT, 21, 0},     {VTIL_WALK_ABANDON, 21, 0},
+        {VTIL_CREATE, 0, 0},      {VTIL_APPEND, 15, 15},   {VTIL_REMOVE, 15, 20},      {VTIL_UNDO, 16, 20},
+        {VTIL_WALK_START, 0, 20}, {VTIL_WALK_NEXT, 21, 0}, {VTIL_WALK_ABANDON, 21, 0},
     };
     uint64_t walks[EXTREMES];
     begin("the same without a block: a walk at the first place comes to its end");
@@ -655,15 +655,15 @@ static const struct step {
     enum vtil_call kind;
     uint64_t vip, refusal, offset, length;
 } steps[] = {
-    {VTIL_WALK_NEXT, 0, 21, 0, 0},    {VTIL_WALK_ABANDON, 0, 21, 0, 0}, {VTIL_WALK_START, 0, 0, 0, 0},
-    {VTIL_WALK_START, 0, 20, 0, 0},   {VTIL_WALK_NEXT, 0, 0, 114, 68},  {VTIL_APPEND, 5, 0, 0, 0},
-    {VTIL_REMOVE, 5, 20, 0, 0},       {VTIL_UNDO, 0, 20, 0, 0},         {VTIL_WALK_NEXT, 0, 0, 214, 119},
-    {VTIL_CREATE, 50, 0, 0, 0},       {VTIL_APPEND, 50, 0, 0, 0},       {VTIL_WALK_NEXT, 0, 0, 333, 68},
-    {VTIL_CREATE, 50, 14, 0, 0},      {VTIL_WALK_NEXT, 0, 0, 0, 0},     {VTIL_WALK_NEXT, 0, 21, 0, 0},
-    {VTIL_UNDO, 0, 0, 0, 0},          {VTIL_REMOVE, 5, 0, 0, 0},        {VTIL_WALK_START, 0, 0, 0, 0},
-    {VTIL_WALK_NEXT, 0, 0, 114, 36},  {VTIL_WALK_ABANDON, 0, 0, 0, 0},  {VTIL_WALK_ABANDON, 0, 21, 0, 0},
-    {VTIL_WALK_START, 0, 0, 0, 0},    {VTIL_WALK_NEXT, 0, 0, 114, 36},  {VTIL_WALK_NEXT, 0, 0, 150, 119},
-    {VTIL_WALK_START, 0, 20, 0, 0},   {VTIL_WALK_NEXT, 0, 0, 0, 0},     {VTIL_UNDO, 0, 0, 0, 0},
+    {VTIL_WALK_NEXT, 0, 21, 0, 0},   {VTIL_WALK_ABANDON, 0, 21, 0, 0}, {VTIL_WALK_START, 0, 0, 0, 0},
+    {VTIL_WALK_START, 0, 20, 0, 0},  {VTIL_WALK_NEXT, 0, 0, 114, 68},  {VTIL_APPEND, 5, 0, 0, 0},
+    {VTIL_REMOVE, 5, 20, 0, 0},      {VTIL_UNDO, 0, 20, 0, 0},         {VTIL_WALK_NEXT, 0, 0, 214, 119},
+    {VTIL_CREATE, 50, 0, 0, 0},      {VTIL_APPEND, 50, 0, 0, 0},       {VTIL_WALK_NEXT, 0, 0, 333, 68},
+    {VTIL_CREATE, 50, 14, 0, 0},     {VTIL_WALK_NEXT, 0, 0, 0, 0},     {VTIL_WALK_NEXT, 0, 21, 0, 0},
+    {VTIL_UNDO, 0, 0, 0, 0},         {VTIL_REMOVE, 5, 0, 0, 0},        {VTIL_WALK_START, 0, 0, 0, 0},
+    {VTIL_WALK_NEXT, 0, 0, 114, 36}, {VTIL_WALK_ABANDON, 0, 0, 0, 0},  {VTIL_WALK_ABANDON, 0, 21, 0, 0},
+    {VTIL_WALK_START, 0, 0, 0, 0},   {VTIL_WALK_NEXT, 0, 0, 114, 36},  {VTIL_WALK_NEXT, 0, 0, 150, 119},
+    {VTIL_WALK_START, 0, 20, 0, 0},  {VTIL_WALK_NEXT, 0, 0, 0, 0},     {VTIL_UNDO, 0, 0, 0, 0},
 };
 #define STEPS (sizeof steps / sizeof steps[0])
 
