@@ -263,8 +263,10 @@ static enum status run_request(const struct command *command, const struct reque
 {
     if (request->count == 0)
         return bad_usage(command, "no file given to ", command->name);
+    if (request->count < command->least && command->run == send_command)
+        return bad_usage(command, "no folder given to ", command->name);
     if (request->count < command->least)
-        return bad_usage(command, command->run == send_command ? "no folder given to " : "too few files given to ", command->name);
+        return bad_usage(command, "too few files given to ", command->name);
     if (request->count > command->most)
         return bad_usage(command, "too many files given to ", command->name);
     if (strchr(command->needed, 'o') != NULL && request->out == NULL)
