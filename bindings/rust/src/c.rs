@@ -56,6 +56,7 @@ pub struct Answer {
 }
 
 #[repr(C)]
+#[derive(Debug, PartialEq)]
 pub struct WalkAnswer {
     pub refusal: u64,
     pub book: Numbers,
@@ -64,6 +65,7 @@ pub struct WalkAnswer {
 }
 
 #[repr(C)]
+#[derive(Debug, PartialEq)]
 pub struct RunAnswer {
     pub refusal: u64,
     pub last: u64,

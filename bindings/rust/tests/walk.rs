@@ -1,6 +1,7 @@
 //! The walk over a routine's blocks: what it hands out, which edits go on meanwhile, and books whose walk was made by
 //! hand.
 
+use vtil::c::{vtil_run_on, vtil_walk_next};
 use vtil::{
     operation, read_at, BlockRef, Book, Call, Immediate, Instruction, Last, Links, Numbers, Operand, Rates, Refusal,
     Registers, Routine, Sent, Vip, MOST_LENT, OPERATIONS,
@@ -339,7 +340,7 @@ fn hold_by_hand(book: &Owned, blocks: u64) {
     let nop = named("nop");
     let edits = [Call::Create(Vip(9)), Call::Append(Vip(7), &nop), Call::Remove(Vip(7)), Call::Undo];
     let walks = [Call::WalkStart, Call::WalkNext, Call::WalkAbandon];
-    for walk in [0, 1, 2, blocks, blocks + 1, blocks + 2, blocks + 3, 1 << 63, u64::MAX] {
+    for walk in [0, 1, 2, blocks, blocks + 1, blocks + 2, blocks + 3, (1 << 32) + blocks, 1 << 63, u64::MAX] {
         let at = with_walk(book, walk);
         let is_spoiled = walk > blocks + 1;
         let due = if is_spoiled { vec![Err(Refusal::SpoiledBook); 7] } else { looks(book) };
@@ -481,6 +482,38 @@ fn what_a_list_hands_out() {
     assert_eq!((book.run_on(&[Call::WalkNext]), book.walk_place()), (Ok(None), None));
     assert_eq!(book.run_on(&[Call::WalkNext]), Err(Refusal::NoWalk));
     assert_eq!(book.run_on(&[Call::WalkStart, Call::WalkAbandon]), Ok(None));
+}
+
+/// What the safe functions do not hand on: of an answer without a block offset and length are 0.
+#[test]
+fn an_answer_without_a_block_is_zeros_to_c() {
+    let book = opened("blocks");
+    for (walk, refusal) in [(0, 21), (BLOCKS + 1, 0), (BLOCKS + 2, 13), (u64::MAX, 13)] {
+        let numbers = Numbers { walk, ..book.numbers() };
+        let (image, journal) = (book.image(), book.journal());
+        // SAFETY: each pointer and length is a slice's.
+        let next = unsafe { vtil_walk_next(numbers, image.as_ptr(), image.len(), journal.as_ptr(), journal.len()) };
+        assert_eq!((next.refusal, next.offset, next.length), (refusal, 0, 0), "{walk}");
+    }
+    let [start, next, abandon] = [[4, 0, 0, 0], [5, 0, 0, 0], [6, 0, 0, 0]];
+    for (words, last) in [([start, next, start], 20), ([start, next, abandon], 0), ([next, abandon, start], 0)] {
+        let (mut image, mut journal, words) = (book.image().to_vec(), book.journal().to_vec(), words.concat());
+        // SAFETY: as above, and nothing overlaps.
+        let run = unsafe {
+            vtil_run_on(
+                book.numbers(),
+                image.as_mut_ptr(),
+                image.len(),
+                journal.as_mut_ptr(),
+                journal.len(),
+                words.as_ptr(),
+                words.len(),
+                [].as_ptr(),
+                0,
+            )
+        };
+        assert_eq!((run.refusal, run.last, run.offset, run.length), (0, last, 0, 0), "{words:?}");
+    }
 }
 
 /// The walk only reads: image and journal that cannot be written are walked too.

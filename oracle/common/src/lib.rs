@@ -12,4 +12,5 @@ pub mod names;
 pub mod original;
 pub mod reference;
 pub mod rng;
+pub mod walk;
 pub mod widths;

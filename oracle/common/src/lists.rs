@@ -77,7 +77,7 @@ fn cut_at_widths(draft: &mut Draft, register: FieldAt, rng: &mut Rng) {
     draft.bytes.truncate(id_end + rng.pick(&[0, 3, 4, 7, 8, 8, 8, 9, 12]));
 }
 
-fn call(rng: &mut Rng, vips: &[u64]) -> Call {
+fn edit_or_undo(rng: &mut Rng, vips: &[u64]) -> Call {
     let vip = rng.pick(vips);
     match rng.below(4) {
         0 => Call::Create(vip),
@@ -87,11 +87,58 @@ fn call(rng: &mut Rng, vips: &[u64]) -> Call {
     }
 }
 
-/// Some calls; now and then all that they did is taken back in the end, and once more.
+/// Mostly a next, so that walks come far.
+fn walk_call(rng: &mut Rng) -> Call {
+    match rng.below(8) {
+        0 | 1 => Call::Start,
+        2 => Call::Abandon,
+        _ => Call::Next,
+    }
+}
+
+fn call(rng: &mut Rng, vips: &[u64], has_walks: bool) -> Call {
+    if has_walks && rng.one_in(2) {
+        return walk_call(rng);
+    }
+    edit_or_undo(rng, vips)
+}
+
+/// What a walk meets on its way: mostly the calls that it lets through.
+fn meanwhile(rng: &mut Rng, vips: &[u64]) -> Call {
+    match rng.below(8) {
+        0..=2 => Call::Create(rng.pick(vips)),
+        3..=6 => Call::Append(rng.pick(vips), instruction(rng)),
+        _ => edit_or_undo(rng, vips),
+    }
+}
+
+/// A walk with other calls in between. Most come to their end: no routine of the list has more blocks than there are
+/// vips.
+fn long_walk(rng: &mut Rng, vips: &[u64]) -> Vec<Call> {
+    let mut calls = vec![Call::Start];
+    for _ in 0..=rng.below(vips.len() + 2) {
+        if rng.one_in(2) {
+            calls.push(meanwhile(rng, vips));
+        }
+        calls.push(Call::Next);
+    }
+    calls
+}
+
+/// Some calls. Half of the lists have walks: not all, since an open walk keeps much of the rest waiting. Now and then
+/// all that the calls did is taken back in the end, and once more.
 fn calls(rng: &mut Rng, vips: &[u64]) -> Vec<Call> {
-    let mut calls: Vec<Call> = (0..1 + rng.below(40)).map(|_| call(rng, vips)).collect();
+    let has_walks = rng.one_in(2);
+    let mut calls: Vec<Call> = (0..1 + rng.below(40)).map(|_| call(rng, vips, has_walks)).collect();
+    if has_walks && rng.one_in(2) {
+        calls.extend(long_walk(rng, vips));
+    }
     if rng.one_in(4) {
-        calls.extend(vec![Call::Undo; calls.len() + 1]);
+        let edits = calls.iter().filter(|call| matches!(call, Call::Create(_) | Call::Remove(_) | Call::Append(..)));
+        let undos = vec![Call::Undo; edits.count() + 1];
+        // A walk that is still open would keep them waiting.
+        calls.extend(has_walks.then_some(Call::Abandon));
+        calls.extend(undos);
     }
     calls
 }

@@ -27,10 +27,12 @@ pub const NOTHING_TO_TAKE_BACK: Refusal = 16;
 pub const LEFTOVER: Refusal = 17;
 pub const CLOSED_BLOCK: Refusal = 18;
 pub const CROOKED_REGISTER: Refusal = 19;
+pub const WALK_OPEN: Refusal = 20;
+pub const NO_WALK: Refusal = 21;
 
 /// The declarations of reference.h.
 mod c {
-    use super::{c_char, Answer, Book, Counted, Refusal};
+    use super::{c_char, Answer, Book, Counted, Opened, Refusal};
 
     #[repr(C)]
     pub struct Operation {
@@ -77,7 +79,7 @@ mod c {
         pub fn ref_check(file: *const u8, len: usize) -> i64;
         pub fn ref_is_text(bytes: *const u8, len: usize) -> bool;
         pub fn ref_list_counts(file: *const u8, len: usize) -> Counted;
-        pub fn ref_open(book: *mut LentBook, file: *const u8, len: usize, rates: Rates) -> Answer;
+        pub fn ref_open(book: *mut LentBook, file: *const u8, len: usize, rates: Rates) -> Opened;
         pub fn ref_step(book: *mut LentBook, call: *const Call) -> Answer;
         pub fn ref_charge(book: *const LentBook, rates: Rates) -> ChargeLook;
         pub fn ref_machine_start(
@@ -101,14 +103,26 @@ pub struct Book {
     pub used: u64,
     pub rates: Rates,
     pub sum: u64,
+    pub walk: u64,
 }
 
-/// What a call answers: the refusal (0: accepted), and the book after it.
+/// What an opening answers: the refusal (0: accepted), and the book.
+#[repr(C)]
+#[derive(Clone, Copy, Debug, PartialEq)]
+pub struct Opened {
+    pub refusal: Refusal,
+    pub book: Book,
+}
+
+/// What a call answers: the refusal (0: accepted), the book after it, and where the block that it hands out begins in
+/// the image and how long it is. Both are 0 where it hands out none.
 #[repr(C)]
 #[derive(Clone, Copy, Debug, PartialEq)]
 pub struct Answer {
     pub refusal: Refusal,
     pub book: Book,
+    pub offset: u64,
+    pub length: u64,
 }
 
 /// The sums of the counts that were read, for the lists that the Rust reserves memory for. (It reserves none for the
@@ -162,7 +176,7 @@ fn lent(numbers: Book, image: &mut [u8], journal: &mut [u8]) -> c::LentBook {
 }
 
 /// Opens a file into an image and a journal, at these rates.
-pub fn open(file: &[u8], image: &mut [u8], journal: &mut [u8], rate: Rates) -> Answer {
+pub fn open(file: &[u8], image: &mut [u8], journal: &mut [u8], rate: Rates) -> Opened {
     let mut book = lent(Book::default(), image, journal);
     unsafe { c::ref_open(&mut book, file.as_ptr(), file.len(), c::Rates { rate }) }
 }
@@ -207,6 +221,9 @@ pub enum Call {
     Remove(u64),
     Append(u64, Vec<u8>),
     Undo,
+    Start,
+    Next,
+    Abandon,
 }
 
 /// The struct points to the call's bytes.
@@ -216,6 +233,9 @@ fn as_c(call: &Call) -> c::Call {
         Call::Remove(vip) => (1, *vip, &[]),
         Call::Append(vip, bytes) => (2, *vip, bytes),
         Call::Undo => (3, 0, &[]),
+        Call::Start => (4, 0, &[]),
+        Call::Next => (5, 0, &[]),
+        Call::Abandon => (6, 0, &[]),
     };
     c::Call { kind, vip, bytes: bytes.as_ptr(), len: bytes.len() }
 }

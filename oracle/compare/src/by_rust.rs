@@ -15,6 +15,7 @@ pub fn edit(routine: &mut Routine, call: &Call) -> Result<(), Answer> {
         Call::Remove(vip) => routine.remove_block(Vip(*vip)).map(|_| ()).ok_or(Refused(NO_SUCH_BLOCK)),
         Call::Append(vip, bytes) => push(routine, *vip, bytes),
         Call::Undo => unreachable!("the Rust takes nothing back"),
+        Call::Start | Call::Next | Call::Abandon => unreachable!("a walk edits nothing"),
     }
 }
 
@@ -35,11 +36,8 @@ fn is_closed(block: &BasicBlock) -> bool {
     matches!(last, Some(Op::Js(..) | Op::Jmp(..) | Op::Vexit(..) | Op::Vxcall(..)))
 }
 
-/// The routine is the one before the call. It knows no lent memory, and so has to do what does not fit there.
+/// Of an edit that no walk keeps waiting. The routine is the one before it. It knows no lent memory, and so has to do what does not fit there.
 pub fn refusal_difference(mut routine: Routine, call: &Call, refusal: Refusal) -> Option<String> {
-    if matches!(call, Call::Undo) {
-        return None;
-    }
     let rust = edit(&mut routine, call);
     let is_same = match &rust {
         Ok(()) => [IMAGE_FULL, JOURNAL_FULL].contains(&refusal),

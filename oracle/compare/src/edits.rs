@@ -1,18 +1,21 @@
 //! Lists of calls: after every call the answer, the book, the image and the journal beside the reference's routine
-//! machine, and the written bytes, the sum and the charge beside the Rust, which has create_block and remove_block of
-//! its own. Then the whole list again, in one call, and in two: from the opening to its middle, and on from there.
-//! Every call and every list is also made on books with sums made by hand.
+//! machine, and the written bytes, the sum, the charge and the walk beside the Rust, which has create_block and
+//! remove_block of its own. Then the whole list again, in one call, and in two: from the opening to its middle, and on
+//! from there. Every call and every list is also made on books with sums and walks made by hand.
 
 use crate::by_rust::{edit, refusal_difference, Crooked};
-use crate::calls::{self, Answer};
+use crate::calls::{self, Answer, Handed};
 use crate::charges;
-use crate::report::{hex, number, numbers, shrink, Report};
+use crate::report::{for_reference, held, hex, shrink, Report};
 use crate::sums::{self, Change};
+use crate::to_c;
+use crate::walks::{self, finished_difference, Walks};
 use oracle::charge::{counts, Counts};
 use oracle::lists::{self, List};
 use oracle::original;
-use oracle::reference::{Call, Machine, Refusal};
+use oracle::reference::{self, Call, Machine, Refusal, NOTHING_TO_TAKE_BACK};
 use oracle::rng::Rng;
+use oracle::walk::{blocks, Block};
 use std::cmp::Ordering;
 use std::collections::BTreeMap;
 use vtil::{Book, Numbers, Rates};
@@ -24,6 +27,7 @@ fn note(history: &mut Vec<Call>, call: &Call) {
         Call::Undo => {
             history.pop();
         }
+        Call::Start | Call::Next | Call::Abandon => {}
         edit => history.push(edit.clone()),
     }
 }
@@ -34,10 +38,15 @@ struct Run<'a> {
     machine: Machine,
     history: Vec<Call>,
     book: Book<Vec<u8>>,
-    /// How many instructions of each group the Rust's routine has.
+    /// How many instructions of each group the Rust's routine has, and its blocks.
     counts: Counts,
+    blocks: Vec<Block>,
+    /// What the library has handed out since the last walk was started.
+    sent: Vec<Handed>,
     /// What the last call answered, or the opening.
     last: Answer,
+    /// What the machine says of the last call.
+    step: reference::Answer,
 }
 
 /// An image and a journal of exactly the list's lengths, in which nothing is open.
@@ -67,8 +76,10 @@ struct Tally {
     larger: usize,
     smaller: usize,
     same: usize,
-    by_hand: sums::Tally,
     crooked: Crooked,
+    walks: Walks,
+    sums_by_hand: sums::Tally,
+    walks_by_hand: walks::ByHand,
 }
 
 impl Tally {
@@ -82,17 +93,28 @@ impl Tally {
 
     fn print(&self) {
         println!("{}", self.crooked);
+        println!("{}", self.walks);
         println!("sums after a call: larger {}, smaller {}, as before {}", self.larger, self.smaller, self.same);
-        self.by_hand.print();
+        self.sums_by_hand.print();
+        println!("{}", self.walks_by_hand);
     }
 }
 
 impl Run<'_> {
     fn start(list: &List) -> Run<'_> {
         let book = opened(list);
-        let last = (0, book.numbers());
-        let counts = counts(&read(list));
-        Run { list, machine: machine_for(list), history: vec![], book, counts, last }
+        let numbers = book.numbers();
+        Run {
+            list,
+            machine: machine_for(list),
+            history: vec![],
+            book,
+            counts: counts(&read(list)),
+            blocks: blocks(read(list)),
+            sent: vec![],
+            last: Answer::plain(0, numbers),
+            step: reference::Answer { refusal: 0, book: for_reference(numbers), offset: 0, length: 0 },
+        }
     }
 
     /// The Rust's routine is no value to keep: it is read again, and every edit that still stands is done again.
@@ -107,37 +129,74 @@ impl Run<'_> {
         charges::sum_difference(&self.book, &self.counts, self.list.rates)
     }
 
-    fn difference_after(&mut self, call: &Call, tally: &mut Tally) -> Option<String> {
-        let step = self.machine.step(call);
-        if step.refusal == 0 {
+    /// Makes the call, by all sides.
+    fn make(&mut self, call: &Call, tally: &mut Tally) -> Result<(), String> {
+        let before = self.book.numbers();
+        self.step = self.machine.step(call);
+        let due = Answer::due(&self.step, before, &self.machine.image());
+        held(self.rust_difference(call, &due, tally))?;
+        if due.refusal == 0 {
             note(&mut self.history, call);
         }
-        let rust = match self.replayed() {
-            Ok(rust) => rust,
-            Err(answer) => return Some(format!("document 01 does what the Rust refuses: {answer:?}")),
-        };
-        if step.refusal != 0 {
-            let routine = self.replayed().expect("the Rust did the same edits");
-            tally.crooked.count(&routine, call, step.refusal);
-            let refused = refusal_difference(routine, call, step.refusal);
-            if refused.is_some() {
-                return refused;
+        let refused = |answer| format!("document 01 does what the Rust refuses: {answer:?}");
+        let rust = self.replayed().map_err(refused)?;
+        let change = Change { before: self.counts, after: counts(&rust) };
+        held(sums::call_difference(&self.book, call, &due, &change, &mut tally.sums_by_hand))?;
+        held(walks::call_difference(&self.book, call, &due, &self.blocks, &mut tally.walks_by_hand))?;
+        held(self.library_difference(call, &due))?;
+        self.counts = change.after;
+        tally.count(before.sum, due.numbers.sum);
+        if due.refusal == 0 {
+            tally.walks.count(call, before.walk, &due, &rust);
+            held(self.accepted_difference(call, &due))?;
+        }
+        self.last = due;
+        held(self.memory_difference(rust))
+    }
+
+    /// What the Rust's values before the call make of it: of the walk, and of the refusals of an edit.
+    fn rust_difference(&self, call: &Call, due: &Answer, tally: &mut Tally) -> Option<String> {
+        let before = self.book.numbers();
+        if let Some(rust) = walks::by_rust(before, call, &self.blocks) {
+            return (*due != rust).then(|| format!("document 02 {due:?}, Rust {rust:?}"));
+        }
+        if due.numbers.walk != before.walk {
+            return Some(format!("document 02 leaves walk {} of {}", due.numbers.walk, before.walk));
+        }
+        if matches!(call, Call::Undo) {
+            let rust = if self.history.is_empty() { NOTHING_TO_TAKE_BACK } else { 0 };
+            return (due.refusal != rust).then(|| format!("document 01 refuses {}, Rust {rust}", due.refusal));
+        }
+        if due.refusal == 0 {
+            return None;
+        }
+        let routine = self.replayed().expect("the Rust did the same edits");
+        tally.crooked.count(&routine, call, due.refusal);
+        refusal_difference(routine, call, due.refusal)
+    }
+
+    fn library_difference(&mut self, call: &Call, due: &Answer) -> Option<String> {
+        if matches!(call, Call::Next) {
+            let to_c = to_c::next_difference(&self.book, &self.step);
+            if to_c.is_some() {
+                return to_c;
             }
         }
-        let change = Change { before: self.counts, after: counts(&rust) };
-        let by_hand = sums::call_difference(&self.book, call, &step, &change, &mut tally.by_hand);
-        if by_hand.is_some() {
-            return by_hand;
-        }
-        self.counts = change.after;
-        let due = (step.refusal, numbers(step.book));
         let got = calls::made(&mut self.book, call);
-        if got != due {
-            return Some(format!("library {got:?}, document 01 {due:?}"));
+        (got != *due).then(|| format!("library {got:?}, document 01 {due:?}"))
+    }
+
+    /// Keeps what an accepted call changed: the Rust's blocks, and what was handed out.
+    fn accepted_difference(&mut self, call: &Call, answer: &Answer) -> Option<String> {
+        let routine = self.replayed().expect("the Rust did the same edits");
+        match call {
+            Call::Start => self.sent.clear(),
+            Call::Next if answer.handed.is_none() => return finished_difference(&self.sent, routine),
+            Call::Next => self.sent.extend(answer.handed.clone()),
+            Call::Abandon => {}
+            Call::Create(_) | Call::Remove(_) | Call::Append(..) | Call::Undo => self.blocks = blocks(routine),
         }
-        tally.count(self.last.1.sum, got.1.sum);
-        self.last = got;
-        self.memory_difference(rust)
+        None
     }
 
     fn memory_difference(&self, rust: Routine) -> Option<String> {
@@ -164,26 +223,28 @@ fn difference_at_once(run: &Run) -> Option<String> {
     let mut halves = memory_for(run.list);
     let first = halves.run(file, first, rates).expect("lists have room for their files");
     let second = if second.is_empty() { first } else { halves.run_on(second) };
-    difference_of(run, "at once", &whole, last).or_else(|| difference_of(run, "in halves", &halves, second))
+    let due = (&run.last, &run.book);
+    calls::difference_at_once("at once", (last, &whole), due)
+        .or_else(|| calls::difference_at_once("in halves", (second, &halves), due))
+        .or_else(|| to_c::file_list_difference(run.list, &run.step))
+        .or_else(|| to_c::list_difference(&opened(run.list), &run.list.calls, &run.step))
 }
 
-fn difference_of(run: &Run, way: &str, book: &Book<Vec<u8>>, last: vtil::Last) -> Option<String> {
-    let got = (number(last), book.numbers());
-    if got != run.last {
-        return Some(format!("{way} {got:?}, one by one {:?}", run.last));
-    }
-    if !calls::same(book, &run.book) {
-        return Some(format!("{way} another image or journal than one by one"));
-    }
-    None
+/// The list from its opening, on books made by hand.
+fn difference_by_hand(list: &List, tally: &mut Tally) -> Option<String> {
+    let (opened, calls) = (opened(list), &list.calls);
+    sums::list_difference(&opened, calls, &mut tally.sums_by_hand).or_else(|| {
+        let blocks = read(list).explored_blocks.len();
+        walks::list_difference(&opened, calls, blocks, &mut tally.walks_by_hand)
+    })
 }
 
 fn difference(list: &List, tally: &mut Tally) -> Option<String> {
     let mut run = Run::start(list);
     run.sum_difference()
-        .or_else(|| list.calls.iter().find_map(|call| run.difference_after(call, tally)))
+        .or_else(|| list.calls.iter().find_map(|call| run.make(call, tally).err()))
         .or_else(|| difference_at_once(&run))
-        .or_else(|| sums::list_difference(&opened(list), &list.calls, &mut tally.by_hand))
+        .or_else(|| difference_by_hand(list, tally))
 }
 
 fn with_calls(list: &List, calls: &[Call]) -> List {

@@ -5,6 +5,7 @@ use crate::charges;
 use crate::opens;
 use crate::reads;
 use crate::report::{hex, shrink, Report};
+use crate::walks;
 use oracle::generate::{Class, Generator, CLASSES};
 use oracle::original::{self, Answer};
 use oracle::reference::{self, Refusal, REPEATED_BLOCK};
@@ -32,7 +33,10 @@ fn beside_the_rust(file: &[u8], due: Result<usize, Refusal>) -> Verdict {
     if !is_same {
         return Verdict::Different(format!("document 01 {due:?}, Rust {answer:?}"));
     }
-    let within = |length| reads::difference(file).or_else(|| charges::file_difference(file, length));
+    let within = |length| {
+        let parts = reads::difference(file).or_else(|| walks::file_difference(file, length));
+        parts.or_else(|| charges::file_difference(file, length))
+    };
     match due.ok().and_then(within) {
         Some(text) => Verdict::Different(text),
         None => Verdict::Same,

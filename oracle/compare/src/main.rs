@@ -2,6 +2,7 @@
 //! The exit status is 0 where nothing differs, 1 where something does, 2 on a bad command line.
 
 mod aborts;
+mod by_hand;
 mod by_rust;
 mod calls;
 mod charges;
@@ -14,6 +15,8 @@ mod options;
 mod reads;
 mod report;
 mod sums;
+mod to_c;
+mod walks;
 
 use options::{Options, USAGE};
 use report::Report;

@@ -13,7 +13,7 @@ const IMAGE_BEFORE: u8 = 0xa5;
 const JOURNAL_BEFORE: u8 = 0x5a;
 
 /// What the book says before the opening, to see that a refused one answers zeros.
-const NUMBERS_BEFORE: Numbers = Numbers { written: 1, used: 1, rates: vtil::Rates([1; 6]), sum: 1 };
+const NUMBERS_BEFORE: Numbers = Numbers { written: 1, used: 1, rates: vtil::Rates([1; 6]), sum: 1, walk: 1 };
 
 /// What an opening is given beside the file.
 #[derive(Clone, Copy, Debug)]
@@ -53,6 +53,11 @@ impl Given {
     }
 }
 
+/// What a list without calls says of its last one.
+fn of_no_call(last: vtil::Last) {
+    assert_eq!(last, Ok(None), "no call was made");
+}
+
 fn difference_between(got: &Opened, due: &Opened) -> Option<String> {
     if got == due {
         return None;
@@ -66,7 +71,7 @@ fn difference_between(got: &Opened, due: &Opened) -> Option<String> {
 fn difference_at(file: &[u8], given: Given) -> Option<String> {
     let due = given.due(file);
     let single = given.opened(|book, rates| book.reopen(file, rates));
-    let list = given.opened(|book, rates| book.run(file, &[], rates).map(|last| last.expect("no call was refused")));
+    let list = given.opened(|book, rates| book.run(file, &[], rates).map(of_no_call));
     let named = |way, got| difference_between(got, &due).map(|what| format!("{way} with {given:?}: {what}"));
     named("open", &single).or_else(|| named("list without calls", &list))
 }

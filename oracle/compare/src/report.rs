@@ -17,14 +17,19 @@ pub fn number(answer: Result<(), vtil::Refusal>) -> u64 {
 
 /// The reference's book as the library's crate has it.
 pub fn numbers(book: reference::Book) -> Numbers {
-    let reference::Book { written, used, rates, sum } = book;
-    Numbers { written, used, rates: Rates(rates), sum }
+    let reference::Book { written, used, rates, sum, walk } = book;
+    Numbers { written, used, rates: Rates(rates), sum, walk }
 }
 
 /// And the library's as the reference has it.
 pub fn for_reference(numbers: Numbers) -> reference::Book {
-    let Numbers { written, used, rates: Rates(rates), sum } = numbers;
-    reference::Book { written, used, rates, sum }
+    let Numbers { written, used, rates: Rates(rates), sum, walk } = numbers;
+    reference::Book { written, used, rates, sum, walk }
+}
+
+/// Nothing, or the difference.
+pub fn held(difference: Option<String>) -> Result<(), String> {
+    difference.map_or(Ok(()), Err)
 }
 
 pub fn hex(bytes: &[u8]) -> String {

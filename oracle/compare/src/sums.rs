@@ -1,11 +1,10 @@
-//! Books whose sum or rates were made by hand. The routine machine is fed no book and so says nothing of these: a call
-//! on one has to answer and to leave what the reference's call on a book does. And where the machine accepts the call,
-//! the sum has to become what the Rust's routine makes of it.
+//! Books whose sum or rates were made by hand. Where the machine accepts a call, the sum has to become what the Rust's
+//! routine makes of it.
 
-use crate::calls::{self, Answer};
-use crate::report::{for_reference, number, numbers};
+use crate::by_hand::{self, made_as_due};
+use crate::calls::Answer;
 use oracle::charge::{sum, Counts, Rates};
-use oracle::reference::{self, Call, Refusal, SPOILED_BOOK};
+use oracle::reference::{Call, Refusal, SPOILED_BOOK};
 use std::array::from_fn;
 use std::collections::BTreeMap;
 use vtil::{Book, Numbers};
@@ -20,7 +19,8 @@ pub struct Tally {
 }
 
 impl Tally {
-    /// But for sum and rates the books are those of lists, which are never refused 13.
+    /// But for sum and rates the books are those of lists, which are never refused 13. The book is the one before the
+    /// call, or after it where it was refused.
     fn count(&mut self, book: &Book<Vec<u8>>, call: &Call, refusal: Refusal) {
         match refusal {
             0 => self.accepted += 1,
@@ -49,6 +49,7 @@ fn name(book: &Book<Vec<u8>>, call: &Call) -> &'static str {
             2 => "undo of remove",
             _ => "undo of append",
         },
+        Call::Start | Call::Next | Call::Abandon => "walk",
     }
 }
 
@@ -83,54 +84,27 @@ impl Change {
     }
 
     /// What is due of the call where these numbers are handed in, and the machine answers `step`.
-    fn due(&self, step: &reference::Answer, handed_in: Numbers) -> Answer {
+    fn due(&self, step: &Answer, handed_in: Numbers) -> Answer {
         if step.refusal != 0 {
-            return (step.refusal, handed_in);
+            return Answer::plain(step.refusal, handed_in);
         }
         match self.applied(handed_in.rates.0, handed_in.sum) {
-            Some(sum) => (0, Numbers { written: step.book.written, used: step.book.used, sum, ..handed_in }),
-            None => (SPOILED_BOOK, handed_in),
+            Some(sum) => Answer { numbers: Numbers { rates: handed_in.rates, sum, ..step.numbers }, ..step.clone() },
+            None => Answer::plain(SPOILED_BOOK, handed_in),
         }
     }
 }
 
 /// A copy of the book at another sum and other rates.
 fn with(book: &Book<Vec<u8>>, rates: Rates, sum: u64) -> Book<Vec<u8>> {
-    let numbers = Numbers { rates: vtil::Rates(rates), sum, ..book.numbers() };
-    Book::resume(numbers, book.image().to_vec(), book.journal().to_vec())
-}
-
-/// Makes the call by the library and by the reference: what both answered, or where they differ.
-fn made_by_both(book: &mut Book<Vec<u8>>, call: &Call, tally: &mut Tally) -> Result<Answer, String> {
-    let before = book.numbers();
-    let (mut image, mut journal) = (book.image().to_vec(), book.journal().to_vec());
-    let step = reference::step(for_reference(before), &mut image, &mut journal, call);
-    let due = (step.refusal, numbers(step.book));
-    tally.count(book, call, step.refusal);
-    let got = calls::made(book, call);
-    if got != due {
-        return Err(format!("on {before:?} library {got:?}, document 02 {due:?}"));
-    }
-    if (book.image(), book.journal()) != (&image[..], &journal[..]) {
-        return Err(format!("on {before:?} another image or journal than document 02's"));
-    }
-    Ok(got)
-}
-
-fn difference_at(mut book: Book<Vec<u8>>, call: &Call, due: Answer, tally: &mut Tally) -> Option<String> {
-    let before = book.numbers();
-    match made_by_both(&mut book, call, tally) {
-        Ok(got) if got == due => None,
-        Ok(got) => Some(format!("on {before:?} library and document 02 {got:?}, Rust {due:?}")),
-        Err(text) => Some(text),
-    }
+    by_hand::with(book, Numbers { rates: vtil::Rates(rates), sum, ..book.numbers() })
 }
 
 /// A call on copies of the book at other sums, with the book's rates and with others. `step` is the machine's answer.
 pub fn call_difference(
     book: &Book<Vec<u8>>,
     call: &Call,
-    step: &reference::Answer,
+    step: &Answer,
     change: &Change,
     tally: &mut Tally,
 ) -> Option<String> {
@@ -139,9 +113,10 @@ pub fn call_difference(
     let mut tries =
         [own, other].into_iter().flat_map(|rates| change.edges(rates).into_iter().map(move |sum| (rates, sum)));
     tries.find_map(|(rates, sum)| {
-        let book = with(book, rates, sum);
-        let due = change.due(step, book.numbers());
-        difference_at(book, call, due, tally)
+        let copy = with(book, rates, sum);
+        let due = change.due(step, copy.numbers());
+        let answer = made_as_due(copy, call, &due);
+        answer.map(|answer| tally.count(book, call, answer.refusal)).err()
     })
 }
 
@@ -154,20 +129,11 @@ fn look_difference(book: &Book<Vec<u8>>, opened: &Book<Vec<u8>>) -> Result<(), S
     Err(format!("looks {:?}, with the opening's sum {:?}", looks(book), looks(opened)))
 }
 
-/// A whole list, from its opening at another sum: each call in turn, and then all at once.
+/// A whole list, from its opening at another sum.
 fn list_difference_from(sum: u64, opened: &Book<Vec<u8>>, calls: &[Call], tally: &mut Tally) -> Result<(), String> {
-    let mut book = with(opened, opened.rates().0, sum);
-    let mut at_once = book.clone();
+    let book = with(opened, opened.rates().0, sum);
     look_difference(&book, opened)?;
-    let mut last = 0;
-    for call in calls {
-        (last, _) = made_by_both(&mut book, call, tally)?;
-    }
-    let got = number(at_once.run_on(&calls::listed(calls)));
-    if got == last && calls::same(&at_once, &book) {
-        return Ok(());
-    }
-    Err(format!("at once {got} {:?}, one by one {last} {:?}", at_once.numbers(), book.numbers()))
+    by_hand::list_difference(&book, calls, |book, call, answer| tally.count(book, call, answer.refusal))
 }
 
 pub fn list_difference(opened: &Book<Vec<u8>>, calls: &[Call], tally: &mut Tally) -> Option<String> {
