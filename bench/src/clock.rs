@@ -1,8 +1,11 @@
-//! Times: the best of several runs, the two sides in turn, so that both meet the same machine.
+//! Times: the best of several runs, or the middle one, the two sides in turn, so that both meet the same machine.
 
 use std::time::{Duration, Instant};
 
 pub const RUNS: usize = 9;
+
+/// How many runs there are where the middle one counts.
+pub const ROUNDS: usize = 101;
 
 /// No more runs are begun once they took this long together.
 const TIME_LIMIT: Duration = Duration::from_secs(4);
@@ -29,6 +32,16 @@ pub fn best_of_both(mut left: impl FnMut() -> Duration, mut right: impl FnMut() 
     (best_left, best_right)
 }
 
+pub fn middle_of_both(mut left: impl FnMut() -> Duration, mut right: impl FnMut() -> Duration) -> (Duration, Duration) {
+    let (lefts, rights): (Vec<_>, Vec<_>) = (0..ROUNDS).map(|_| (left(), right())).unzip();
+    (middle(lefts), middle(rights))
+}
+
+fn middle(mut times: Vec<Duration>) -> Duration {
+    times.sort_unstable();
+    times[times.len() / 2]
+}
+
 fn shown(time: Duration) -> String {
     let nanos = time.as_nanos() as f64;
     match nanos {
@@ -43,16 +56,25 @@ fn rate(bytes: usize, time: Duration) -> String {
     format!("{:.0} MB/s", bytes as f64 / 1e6 / time.as_secs_f64())
 }
 
-/// A line: both times, both rates, and how many times longer the left side takes.
-pub fn print(name: &str, bytes: usize, (left, right): (Duration, Duration)) {
+fn line(name: &str, bytes: usize, (left, right): (Duration, Duration)) -> String {
     let ratio = left.as_secs_f64() / right.as_secs_f64();
-    println!(
+    format!(
         "{name:<44}{:>11}{:>12}{:>11}{:>12}{ratio:>9.2}",
         shown(left),
         rate(bytes, left),
         shown(right),
         rate(bytes, right)
-    );
+    )
+}
+
+/// A line: both times, both rates, and how many times longer the left side takes.
+pub fn print(name: &str, bytes: usize, times: (Duration, Duration)) {
+    println!("{}", line(name, bytes, times));
+}
+
+/// The same, with the least that the ratio should be.
+pub fn print_with_goal(name: &str, bytes: usize, times: (Duration, Duration), goal: f64) {
+    println!("{}   goal {goal:.2}", line(name, bytes, times));
 }
 
 /// A line on small works of which `count` were timed together: both times of one, without rates.
@@ -66,6 +88,13 @@ pub fn print_each(name: &str, count: usize, (left, right): (Duration, Duration))
 pub fn print_one_side(name: &str, left: Option<Duration>, right: Option<Duration>) {
     let show = |side: Option<Duration>| side.map_or("-".to_string(), shown);
     println!("{name:<44}{:>11}{:>12}{:>11}", show(left), "", show(right));
+}
+
+/// A line on many works of the right side that were timed together: the time of one, how many there were, and the time
+/// of all.
+pub fn print_one_of(name: &str, count: usize, all: Duration) {
+    let one = all / count as u32;
+    println!("{name:<44}{:>11}{:>12}{:>11}   of {count}, together {}", "-", "", shown(one), shown(all));
 }
 
 pub fn heading(title: &str, left: &str, right: &str) {

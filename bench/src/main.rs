@@ -6,6 +6,7 @@ mod editing;
 mod inputs;
 mod names;
 mod reading;
+mod walking;
 
 use std::process::ExitCode;
 
@@ -43,5 +44,6 @@ fn main() -> ExitCode {
     reading::repeated_vips(most_blocks);
     editing::edits();
     editing::charges_after_edits();
+    walking::walks(most_blocks);
     ExitCode::SUCCESS
 }

@@ -91,7 +91,7 @@ pub fn opens(most_blocks: usize) {
     }
 }
 
-fn library_looks(book: &Book<&mut [u8]>) -> Duration {
+pub fn library_looks<M: AsRef<[u8]>>(book: &Book<M>) -> Duration {
     let mut is_accepted = false;
     let took = time(|| is_accepted = book.overview().is_ok());
     assert!(is_accepted, "an opened book can be looked at");
