@@ -226,9 +226,9 @@ pub enum Call {
     Abandon,
 }
 
-/// The struct points to the call's bytes.
-fn as_c(call: &Call) -> c::Call {
-    let (kind, vip, bytes): (u32, u64, &[u8]) = match call {
+/// The call's kind, its vip, and what it appends.
+fn parts(call: &Call) -> (u32, u64, &[u8]) {
+    match call {
         Call::Create(vip) => (0, *vip, &[]),
         Call::Remove(vip) => (1, *vip, &[]),
         Call::Append(vip, bytes) => (2, *vip, bytes),
@@ -236,8 +236,24 @@ fn as_c(call: &Call) -> c::Call {
         Call::Start => (4, 0, &[]),
         Call::Next => (5, 0, &[]),
         Call::Abandon => (6, 0, &[]),
-    };
+    }
+}
+
+/// The struct points to the call's bytes.
+fn as_c(call: &Call) -> c::Call {
+    let (kind, vip, bytes) = parts(call);
     c::Call { kind, vip, bytes: bytes.as_ptr(), len: bytes.len() }
+}
+
+/// A list as C hands it over: four words for each call, and the bytes of what is appended.
+pub fn as_words(calls: &[Call]) -> (Vec<u64>, Vec<u8>) {
+    let (mut words, mut bytes) = (vec![], vec![]);
+    for (kind, vip, appended) in calls.iter().map(parts) {
+        let begin = bytes.len() as u64;
+        bytes.extend(appended);
+        words.extend([kind.into(), vip, begin, bytes.len() as u64]);
+    }
+    (words, bytes)
 }
 
 /// The routine machine.

@@ -3,7 +3,7 @@
 
 use crate::report::numbers;
 use oracle::lists::List;
-use oracle::reference::{Answer, Call};
+use oracle::reference::{as_words, Answer, Call};
 use vtil::c::{self, RunAnswer, WalkAnswer};
 use vtil::{Book, Rates};
 
@@ -18,33 +18,6 @@ pub fn next_difference(book: &Book<Vec<u8>>, due: &Answer) -> Option<String> {
     (got != due).then(|| format!("next to C {got:?}, due {due:?}"))
 }
 
-/// A list as the library takes it: four words for each call, and the instructions of all of them.
-struct Encoded {
-    words: Vec<u64>,
-    bytes: Vec<u8>,
-}
-
-fn encoded(calls: &[Call]) -> Encoded {
-    let mut list = Encoded { words: vec![], bytes: vec![] };
-    for call in calls {
-        let begin = list.bytes.len() as u64;
-        let (kind, vip) = match call {
-            Call::Create(vip) => (0, *vip),
-            Call::Remove(vip) => (1, *vip),
-            Call::Append(vip, bytes) => {
-                list.bytes.extend(bytes);
-                (2, *vip)
-            }
-            Call::Undo => (3, 0),
-            Call::Start => (4, 0),
-            Call::Next => (5, 0),
-            Call::Abandon => (6, 0),
-        };
-        list.words.extend([kind, vip, begin, list.bytes.len() as u64]);
-    }
-    list
-}
-
 /// Of a list whose last call is due to answer this.
 fn run_difference(got: RunAnswer, last: &Answer) -> Option<String> {
     let Answer { refusal, book, offset, length } = *last;
@@ -54,7 +27,7 @@ fn run_difference(got: RunAnswer, last: &Answer) -> Option<String> {
 
 /// A list on a copy of the book, whose last call is due to answer this.
 pub fn list_difference(book: &Book<Vec<u8>>, calls: &[Call], last: &Answer) -> Option<String> {
-    let Encoded { words, bytes } = encoded(calls);
+    let (words, bytes) = as_words(calls);
     let (mut image, mut journal) = (book.image().to_vec(), book.journal().to_vec());
     let got = unsafe {
         c::vtil_run_on(
@@ -74,7 +47,7 @@ pub fn list_difference(book: &Book<Vec<u8>>, calls: &[Call], last: &Answer) -> O
 
 /// The same on the list's file.
 pub fn file_list_difference(list: &List, last: &Answer) -> Option<String> {
-    let Encoded { words, bytes } = encoded(&list.calls);
+    let (words, bytes) = as_words(&list.calls);
     let (mut image, mut journal) = (vec![0xa5; list.image_length], vec![0x5a; list.journal_length]);
     let got = unsafe {
         c::vtil_run(

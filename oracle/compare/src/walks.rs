@@ -242,7 +242,7 @@ fn next_difference(book: &mut Book<Vec<u8>>, blocks: &[Block]) -> Option<String>
 /// From the start to the end, and once more.
 fn whole_difference(mut book: Book<Vec<u8>>, blocks: &[Block]) -> Option<String> {
     if let Err(refusal) = book.walk_start() {
-        return Some(format!("a walk is refused {refusal} on an opened book"));
+        return Some(format!("a walk on an opened book is {refusal}"));
     }
     (0..blocks.len() + 2).find_map(|_| next_difference(&mut book, blocks))
 }
