@@ -50,7 +50,7 @@ thread_local! {
 }
 
 /// Notes where the Rust panics, in place of the message on standard error. The panics of the crate over the library,
-/// where a part is refused within what was accepted, are told by who catches them.
+/// where a part is refused within what was accepted or lies outside it, are told by who catches them.
 pub fn note_panics() {
     set_hook(Box::new(|info| {
         let Some(place) = info.location() else { return };
@@ -58,7 +58,7 @@ pub fn note_panics() {
             PANIC_LINE.set(place.line());
             return;
         }
-        if place.file().ends_with("bindings/rust/src/read.rs") {
+        if ["read.rs", "walk.rs"].iter().any(|name| place.file().ends_with(&format!("bindings/rust/src/{name}"))) {
             return;
         }
         eprintln!("{info}");

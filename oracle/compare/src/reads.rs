@@ -18,10 +18,10 @@ pub fn same<T: PartialEq + Debug>(what: &str, got: T, due: T) -> Same {
     Err(format!("{what} {got:?}, Rust {due:?}"))
 }
 
-/// Where a part is refused within what was accepted as a whole, the crate panics: a difference too.
+/// Where a part is refused within what was accepted as a whole, or lies outside it, the crate panics: a difference too.
 pub fn caught(compare: impl FnOnce() -> Same) -> Same {
     let outcome = catch_unwind(AssertUnwindSafe(compare));
-    outcome.unwrap_or_else(|_| Err("a part of what was accepted is refused".to_string()))
+    outcome.unwrap_or_else(|_| Err("a part of what was accepted is refused, or lies outside it".to_string()))
 }
 
 /// Lists have to be of one length, and the same at every place.

@@ -2,7 +2,9 @@
 //! routine that stands at its end; and books whose walk was made by hand.
 
 use crate::by_hand::{list_difference as list_by_hand, made_as_due, made_by_both, with};
-use crate::calls::{Answer, Handed};
+use crate::calls::{made, Answer, Handed};
+use crate::reads::caught;
+use crate::report::held;
 use oracle::original;
 use oracle::reference::{Call, Refusal, NO_WALK, SPOILED_BOOK, WALK_OPEN};
 use oracle::walk::{blocks, written, Block, Walk};
@@ -222,6 +224,10 @@ pub fn list_difference(opened: &Book<Vec<u8>>, calls: &[Call], blocks: usize, ta
 
 /// The walk over a file that both accept, which consumes this many bytes.
 pub fn file_difference(file: &[u8], consumed: usize) -> Option<String> {
+    caught(|| held(walked_difference(file, consumed))).err()
+}
+
+fn walked_difference(file: &[u8], consumed: usize) -> Option<String> {
     let due = blocks(Routine::from_vec(file).expect("the Rust accepted the same bytes"));
     let opened = Book::open(file, vec![0; consumed], vec![], Rates::default());
     let book = opened.expect("the library opened the same bytes");
@@ -229,20 +235,19 @@ pub fn file_difference(file: &[u8], consumed: usize) -> Option<String> {
         return whole_difference(book, &due);
     }
     let places = [0, 1, due.len() / 2, due.len() - 1, due.len(), due.len() + 1];
-    places.into_iter().find_map(|place| next_difference(&mut at_walk(&book, place as u64 + 1), &due))
-}
-
-/// One next, wherever the walk stands.
-fn next_difference(book: &mut Book<Vec<u8>>, blocks: &[Block]) -> Option<String> {
-    let due = by_rust(book.numbers(), &Call::Next, blocks).expect("the walk decides a next");
-    let got = crate::calls::made(book, &Call::Next);
-    (got != due).then(|| format!("next: library {got:?}, Rust {due:?}"))
+    places.into_iter().find_map(|place| difference_of(&mut at_walk(&book, place as u64 + 1), &Call::Next, &due))
 }
 
 /// From the start to the end, and once more.
 fn whole_difference(mut book: Book<Vec<u8>>, blocks: &[Block]) -> Option<String> {
-    if let Err(refusal) = book.walk_start() {
-        return Some(format!("a walk on an opened book is {refusal}"));
-    }
-    (0..blocks.len() + 2).find_map(|_| next_difference(&mut book, blocks))
+    let nexts = vec![Call::Next; blocks.len() + 2];
+    let start = difference_of(&mut book, &Call::Start, blocks);
+    start.or_else(|| nexts.iter().find_map(|next| difference_of(&mut book, next, blocks)))
+}
+
+/// A call of the walk, beside what the Rust's blocks make of it.
+fn difference_of(book: &mut Book<Vec<u8>>, call: &Call, blocks: &[Block]) -> Option<String> {
+    let due = by_rust(book.numbers(), call, blocks).expect("the walk decides its own calls");
+    let got = made(book, call);
+    (got != due).then(|| format!("{call:?}: library {got:?}, Rust {due:?}"))
 }
