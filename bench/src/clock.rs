@@ -74,7 +74,7 @@ pub fn print(name: &str, bytes: usize, times: (Duration, Duration)) {
 
 /// The same, with the least that the ratio should be.
 pub fn print_with_goal(name: &str, bytes: usize, times: (Duration, Duration), goal: f64) {
-    println!("{}   goal {goal:.2}", line(name, bytes, times));
+    println!("{}   goal: at least {goal:.2}", line(name, bytes, times));
 }
 
 /// A line on small works of which `count` were timed together: both times of one, without rates.

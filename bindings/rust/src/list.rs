@@ -10,6 +10,7 @@ pub enum Call<'a> {
     Append(Vip, &'a [u8]),
     Undo,
     WalkStart,
+    /// What it hands out is told where it is the last call of the list: see [`Last`](crate::Last).
     WalkNext,
     WalkAbandon,
 }

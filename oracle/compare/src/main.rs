@@ -33,6 +33,7 @@ fn compare(options: &Options) -> Report {
     large::run(options.large, options.seed, &mut report);
     offsets::run(options.files / FILES_FOR_OFFSETS, options.seed, &mut report);
     opens::limits(&mut report);
+    walks::limits(&mut report);
     edits::run(options.lists, options.seed, &mut report);
     println!("differences {}", report.differences);
     report

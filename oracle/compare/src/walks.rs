@@ -4,16 +4,22 @@
 use crate::by_hand::{list_difference as list_by_hand, made_as_due, made_by_both, with};
 use crate::calls::{made, Answer, Handed};
 use crate::reads::caught;
-use crate::report::held;
+use crate::report::{held, Report};
+use oracle::blocks::empty_blocks;
+use oracle::draft::{minimal_routine, Draft};
 use oracle::original;
 use oracle::reference::{Call, Refusal, NO_WALK, SPOILED_BOOK, WALK_OPEN};
+use oracle::rng::Rng;
 use oracle::walk::{blocks, written, Block, Walk};
 use std::fmt;
-use vtil::{Book, Links, Numbers, Rates, Registers};
+use vtil::{Book, Links, Numbers, Rates, Registers, MOST_LENT};
 use vtil_parser::{BasicBlock, Routine, Vip};
 
 /// Files with more blocks are walked at their ends and in the middle alone: every next is a pass over the image.
 const MOST_WALKED: usize = 64;
+
+/// The bytes of a block with nothing in it.
+const EMPTY_BLOCK: usize = 36;
 
 fn handed_out(place: u64, blocks: &[Block]) -> Handed {
     let Block { offset, bytes } = &blocks[place as usize];
@@ -250,4 +256,33 @@ fn difference_of(book: &mut Book<Vec<u8>>, call: &Call, blocks: &[Block]) -> Opt
     let due = by_rust(book.numbers(), call, blocks).expect("the walk decides its own calls");
     let got = made(book, call);
     (got != due).then(|| format!("{call:?}: library {got:?}, Rust {due:?}"))
+}
+
+/// As many blocks as an image has room for.
+fn most_blocks() -> Vec<u8> {
+    let count = (MOST_LENT - minimal_routine().len()) / EMPTY_BLOCK;
+    empty_blocks(&(0..count as u64).collect::<Vec<_>>())
+}
+
+/// One block, with as many instructions as an image has room for.
+fn longest_block() -> Vec<u8> {
+    let Draft { mut bytes, .. } = Draft::up_to_an_instruction();
+    let count_at = bytes.len() - 4;
+    let mut nop = Draft::default();
+    nop.operation(b"nop", 0);
+    nop.operands_and_rest(&mut Rng::new(1), 0);
+    let count = (MOST_LENT - minimal_routine().len() - EMPTY_BLOCK) / nop.bytes.len();
+    bytes[count_at..].copy_from_slice(&(count as u32).to_le_bytes());
+    bytes.extend(nop.bytes.repeat(count));
+    bytes.extend([0; 8]);
+    bytes
+}
+
+/// Offsets, lengths and places at the limit of what is lent.
+pub fn limits(report: &mut Report) {
+    for (name, file) in [("the most blocks", most_blocks()), ("the longest block", longest_block())] {
+        if file_difference(&file, file.len()).is_some() {
+            report.difference(|| format!("{name} that an image holds: a walk hands out what the Rust does not have"));
+        }
+    }
 }
