@@ -6,8 +6,8 @@
  *
  * The rules behind it are in docs/SPEC.md: sections 2 the refusals, 3 and 4 the
  * files, 5 the writer, 6 the check and reading by offset, 7 opening, 8 every call
- * on a book, 9 looking and the charge, 10 the edits, 11 the journal and undo, 13
- * lists of calls.
+ * on a book, 9 looking, the charge and sending block by block, 10 the edits, 11 the
+ * journal and undo, 13 lists of calls.
  *
  * No function allocates memory, writes a file, prints, keeps a pointer after it
  * returns, or has state between calls. So every function may be called from
@@ -306,7 +306,7 @@ typedef struct {
     uint64_t used;    /* bytes of the journal that are used */
     vtil_rates rates; /* those of the opening */
     uint64_t sum;     /* of all instructions at these rates, in hundredths of a cent */
-    uint64_t walk;    /* 0 where no walk is open; else 1 and the place of the block to be handed out next */
+    uint64_t walk;    /* 0 where no walk is open; else 1 + the place of the block to be handed out next */
 } vtil_book;
 
 typedef struct {
@@ -512,10 +512,11 @@ vtil_answer vtil_append(vtil_book book, uint8_t *image, size_t image_len, uint8_
 
 /*
  * vtil_undo takes back the last accepted edit that was not taken back yet: image
- * and book are then as they were before it, and its entry in the journal is 0.
- * Every edit since vtil_open can be taken back, one call for each. The sum of a block
- * that comes back is added, the rate of an instruction that goes is subtracted, both
- * at the book's rates; where a created block goes the sum stays, whatever it is.
+ * and book are then as they were before it, but for a walk that was open then: none
+ * is now. Its entry in the journal is 0. Every edit since vtil_open can be taken back,
+ * one call for each. The sum of a block that comes back is added, the rate of an
+ * instruction that goes is subtracted, both at the book's rates; where a created block
+ * goes the sum stays, whatever it is.
  *
  * Refusals, in this order: 10, 13; 20 when a walk is open; 16 when nothing of the
  * journal is used; 13 when its used part does not end in an entry that fits the image;
