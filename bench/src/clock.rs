@@ -90,11 +90,16 @@ pub fn print_one_side(name: &str, left: Option<Duration>, right: Option<Duration
     println!("{name:<44}{:>11}{:>12}{:>11}", show(left), "", show(right));
 }
 
-/// A line on many works of the right side that were timed together: the time of one, how many there were, and the time
-/// of all.
-pub fn print_one_of(name: &str, count: usize, all: Duration) {
-    let one = all / count as u32;
-    println!("{name:<44}{:>11}{:>12}{:>11}   of {count}, together {}", "-", "", shown(one), shown(all));
+/// A line on many works of the right side: the time of the middle one, how many there were, and the time of all.
+pub fn print_middle(name: &str, times: Vec<Duration>) {
+    let (count, all) = (times.len(), times.iter().sum());
+    println!(
+        "{name:<44}{:>11}{:>12}{:>11}   the middle of {count}, together {}",
+        "-",
+        "",
+        shown(middle(times)),
+        shown(all)
+    );
 }
 
 pub fn heading(title: &str, left: &str, right: &str) {

@@ -1,7 +1,7 @@
 //! A walk over the blocks of the 8 MB routine: one next, wherever the walk stands, beside a look at the same book, since
 //! both pass over the image once; and a walk from its start to its end.
 
-use crate::clock::{heading, middle_of_both, print_one_of, print_with_goal, time, ROUNDS};
+use crate::clock::{heading, middle_of_both, print_middle, print_with_goal, time, ROUNDS};
 use crate::inputs::RATES;
 use crate::reading::{library_looks, routine_of_instructions, Input};
 use std::time::Duration;
@@ -19,12 +19,14 @@ fn library_next(book: &Book<&[u8]>, place: u64) -> Duration {
     took
 }
 
-/// How long the nexts of a whole walk took, that of the end too.
-fn whole_walk(book: &mut Book<&[u8]>, blocks: usize) -> Duration {
-    let mut handed_out = 0;
+/// How long each next of a whole walk took, that of the end too.
+fn whole_walk(book: &mut Book<&[u8]>, blocks: usize) -> Vec<Duration> {
     let mut walk = book.walk().expect("an opened book can be walked");
-    let took = time(|| handed_out = walk.rest().count());
-    assert_eq!(handed_out, blocks, "every block is handed out");
+    let mut places = vec![];
+    let one = |_| time(|| places.extend(walk.next().expect("the walk is open").map(|sent| sent.place)));
+    let took = (0..=blocks).map(one).collect();
+    assert!(places.into_iter().eq(0..blocks as u64), "every block is handed out, in order");
+    assert_eq!(walk.book().walk_place(), None, "the walk has come to its end");
     took
 }
 
@@ -43,5 +45,5 @@ pub fn walks(most_blocks: usize) {
         let times = middle_of_both(|| library_looks(&book), || library_next(&book, place as u64));
         print_with_goal(&format!("next, the {name} of 4,000 blocks"), file.len(), times, GOAL);
     }
-    print_one_of("a whole walk, each of its nexts", blocks + 1, whole_walk(&mut book, blocks));
+    print_middle("a whole walk, one of its nexts", whole_walk(&mut book, blocks));
 }
