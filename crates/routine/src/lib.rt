@@ -149,7 +149,7 @@ fn turn_of(count: u32, place: u64) -> u32
     }
 }
 
-// The first of two offsets, or the second. Without a branch, so that the run over the blocks stays as quick as it was.
+// The first of two offsets, or the second. In a function of its own, so that the loop over the blocks has one way through it.
 fn either(first: bool, a: usize, b: usize) -> usize
     ensures { λ r. ⌜ r ≡ choose first a b ⌝ }
 {
