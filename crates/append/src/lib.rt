@@ -1,6 +1,8 @@
 // The edit append, in place. Its journal entry is a trailer alone.
 //
 // append has a `requires` that the state is sound: it is for the crate above, whose call inspects the lent image and the book first.
+#![tactic(auto)]
+
 ghost use Rattle.std.specs.Prelude.{◌≡◌, ℕ, ◌+◌, ◌≤◌, ◌<◌, length};
 ghost use Rattle.fields.specs.Bytes.{put};
 ghost use Rattle.laws.specs.Normal.{normalise, last_flag};

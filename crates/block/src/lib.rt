@@ -1,4 +1,6 @@
 // Blocks.
+#![tactic(auto)]
+
 ghost use Rattle.std.specs.Prelude.{◌≡◌, true, ◌+◌, ◌≤◌, length};
 ghost use Rattle.fields.specs.Parse.{ok, part, many, counted, bind, span, u64};
 ghost use Rattle.fields.specs.Lists.{every};

@@ -1,5 +1,7 @@
 // The book that a caller keeps, what a call on it answers, and the rates of a charge. Books and answers are built here, and nowhere else; and what edits
 // test last is tested here: 11 and 12, and of a sum whether it can be added to.
+#![tactic(auto)]
+
 ghost use Rattle.std.specs.Prelude.{◌≡◌, List, ℕ, ◌+◌, ◌<◌, ◌^◌, ltb};
 ghost use Rattle.fields.specs.Outcome.{refused};
 ghost use Rattle.machine.specs.Book.{unopened, with_walk};
@@ -9,7 +11,7 @@ ghost use Rattle.book.specs.Says.{state, outcome, leaving, refusal_of, walk_outc
 
 // The rates of the six groups of operations, in hundredths of a cent per instruction.
 #[repr(C)]
-#[derive(Drop)]
+#[derive(Clone, Copy)]
 pub struct Rates {
     pub rate: [u32; 6],
 }
@@ -17,7 +19,7 @@ pub struct Rates {
 // Document 01's book: the written length of the routine in the image, and the journal bytes used. And document 02's, d: the rates, fixed at opening, and
 // the running sum in hundredths of a cent; and f: the walk, 0 where none is open, else 1 + the place of the block that next hands out.
 #[repr(C)]
-#[derive(Drop)]
+#[derive(Clone, Copy)]
 pub struct Book {
     pub written: u64,
     pub used: u64,
@@ -29,7 +31,7 @@ pub struct Book {
 // What opening, an edit or an undo answers: refusal 0 with the new book, or a refusal's number with the book as handed in (of an opening: a book
 // of zeros).
 #[repr(C)]
-#[derive(Drop)]
+#[derive(Clone, Copy)]
 pub struct Answer {
     pub refusal: u64,
     pub book: Book,
@@ -37,7 +39,7 @@ pub struct Answer {
 
 // What next answers beside: the part of the image that it hands out, by its offset and length. At the end, and where it is refused, both are 0.
 #[repr(C)]
-#[derive(Drop)]
+#[derive(Clone, Copy)]
 pub struct WalkAnswer {
     pub refusal: u64,
     pub book: Book,

@@ -1,6 +1,8 @@
 // Bytes in lent memory: cleared, copied, stored, moved, and compared with zeros.
 //
 // A function that has a `requires` is for the crates above, which call it only with numbers that they have tested against the slices' lengths.
+#![tactic(auto)]
+
 ghost use Rattle.std.specs.Prelude.{◌≡◌, ◌+◌, ◌-◌, ◌≤◌, length, take, drop};
 ghost use Rattle.fields.specs.Bytes.{put, zeros};
 ghost use Rattle.fields.specs.Lists.{same};

@@ -1,4 +1,6 @@
 // A list of calls, run on a book that is there, or on a file from its opening on.
+#![tactic(auto)]
+
 ghost use Rattle.std.specs.Prelude.{◌≡◌, true, List, ℕ};
 ghost use Rattle.book.specs.Says.{state, walk_outcome};
 ghost use Rattle.machine.specs.CallList.{is_call_list, call_of, call_at, Sits, calls, told_step, nothing_told, ran, run_on};
@@ -12,7 +14,7 @@ use pod::Vip;
 // call, or 0 where it was accepted or the list is empty. The book is the one after the list. Offset and length are those that the last call handed out, where it
 // is an accepted next, else 0.
 #[repr(C)]
-#[derive(Drop)]
+#[derive(Clone, Copy)]
 pub struct RunAnswer {
     pub refusal: u64,
     pub last: u64,

@@ -1,5 +1,7 @@
 // The calls on a book. Each first inspects the lent image and the book, so a caller may hand in any bytes and any numbers: 10 and 13 come before
 // all else, and nothing is required.
+#![tactic(auto)]
+
 ghost use Rattle.std.specs.Prelude.{◌≡◌};
 ghost use Rattle.machine.specs.Edits.{create, remove, append};
 ghost use Rattle.machine.specs.Machine.{edit, undo};

@@ -1,5 +1,7 @@
 // The charge for a routine, document 02, a. One walk over an inspected image: each instruction counts the rate of its operation's group, in hundredths of
 // a cent, and the sum is rounded up once. And what an instruction and a block come to, for the sum that a book carries.
+#![tactic(auto)]
+
 ghost use Rattle.std.specs.Prelude.{◌≡◌, ℕ, length};
 ghost use Rattle.pod.specs.Values.{BasicBlock};
 ghost use Rattle.fields.specs.Parse.{ok, many};
@@ -16,14 +18,14 @@ use book::{Book, Rates};
 
 // The charge in whole cents. With a refusal they are 0.
 #[repr(C)]
-#[derive(Drop)]
+#[derive(Clone, Copy)]
 pub struct ChargeLook {
     pub refusal: u64,
     pub cents: u64,
 }
 
 // What was passed: its sum, in hundredths of a cent, and the offset past it.
-#[derive(Drop)]
+#[derive(Clone, Copy)]
 pub struct Summed {
     pub sum: u64,
     pub end: usize,

@@ -1,4 +1,6 @@
 // Calling conventions.
+#![tactic(auto)]
+
 ghost use Rattle.std.specs.Prelude.{◌≡◌, ◌&&◌, ◌≤◌};
 ghost use Rattle.fields.specs.Parse.{ok, bind, span, uint, counted};
 ghost use Rattle.fields.specs.Lists.{every};

@@ -1,6 +1,8 @@
 // The edit create, in place. Its journal entry is a trailer alone.
 //
 // create_block has a `requires` that the state is sound: it is for the crate above, whose call inspects the lent image and the book first.
+#![tactic(auto)]
+
 ghost use Rattle.std.specs.Prelude.{◌≡◌, ◌+◌, ◌≤◌, length};
 ghost use Rattle.pod.specs.Values.{Routine};
 ghost use Rattle.machine.specs.Edits.{create};

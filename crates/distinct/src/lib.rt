@@ -1,5 +1,7 @@
 // Whether two blocks share a vip: document 01's refusal 9. The blocks were accepted before, the file is only read, and the memory is 64,000
 // bytes of stack. n blocks take at most n / 8000 + 2 walks, whatever their vips and their order; no contract says this.
+#![tactic(auto)]
+
 ghost use Rattle.std.specs.Prelude.{◌≡◌, true, false, List, ℕ, ◌<◌, length};
 ghost use Rattle.fields.specs.Parse.{ok, many};
 ghost use Rattle.pod.specs.Values.{BasicBlock};

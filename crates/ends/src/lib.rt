@@ -1,5 +1,7 @@
 // The walk over blocks and conventions that were accepted before. It looks at counts, kinds and the size of a name alone, and reads no name, text or register
 // again: the search for repeated vips passes each block many times, and this saves most of its time.
+#![tactic(auto)]
+
 ghost use Rattle.std.specs.Prelude.{◌≡◌, ◌+◌, ◌≤◌, ◌<◌, length};
 ghost use Rattle.ends.specs.Ends.{word, operandEnd, times, instructionEnd, vipsEnd, blockEnd, registersEnd, conventionEnd};
 
@@ -54,7 +56,7 @@ pub const PURGE_AT: usize = SHADOW_SPACE_AT + 8;
 pub const CONVENTION_TAIL: usize = PURGE_AT + 1;
 
 // A block that was passed: its vip, and the offset past it.
-#[derive(Drop)]
+#[derive(Clone, Copy)]
 pub struct PassedBlock {
     pub vip: Vip,
     pub next: usize,

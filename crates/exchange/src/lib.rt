@@ -1,6 +1,8 @@
 // Two parts of lent memory change places.
 //
 // A function that has a `requires` is for the crates above, which call it only with numbers that they have tested against the slice's length.
+#![tactic(auto)]
+
 ghost use Rattle.std.specs.Prelude.{◌≡◌, ◌+◌, ◌≤◌, length, take, drop};
 ghost use Rattle.fields.specs.Bytes.{put};
 ghost use Rattle.bytes.specs.Bytes.{rev};

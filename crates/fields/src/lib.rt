@@ -1,4 +1,6 @@
 // Little-endian fields at an offset of a slice: the value and the offset past it, or the refusal.
+#![tactic(auto)]
+
 ghost use Rattle.std.specs.Prelude.{◌≡◌, ◌+◌, ◌≤◌, length, take, drop, leb};
 ghost use Rattle.std.specs.Int.{w32, w64};
 ghost use Rattle.fields.specs.Bytes.{most_lent};
@@ -58,38 +60,38 @@ pub fn is_lent(len: usize) -> bool
     len <= MOST_LENT
 }
 
-#[derive(Drop)]
+#[derive(Clone, Copy)]
 pub enum U8Read {
     Value(u8, usize),
     Refused(u8),
 }
 
-#[derive(Drop)]
+#[derive(Clone, Copy)]
 pub enum U32Read {
     Value(u32, usize),
     Refused(u8),
 }
 
-#[derive(Drop)]
+#[derive(Clone, Copy)]
 pub enum U64Read {
     Value(u64, usize),
     Refused(u8),
 }
 
-#[derive(Drop)]
+#[derive(Clone, Copy)]
 pub enum I32Read {
     Value(i32, usize),
     Refused(u8),
 }
 
-#[derive(Drop)]
+#[derive(Clone, Copy)]
 pub enum I64Read {
     Value(i64, usize),
     Refused(u8),
 }
 
 // A part of the file that is passed over: the offset past it, or the refusal.
-#[derive(Drop)]
+#[derive(Clone, Copy)]
 pub enum Skip {
     Past(usize),
     Refused(u8),
@@ -97,7 +99,7 @@ pub enum Skip {
 
 // A part with flags or registers in it that is walked over: the offset past it, whether its bytes are its written form, and whether every register in it
 // is sound; or the refusal.
-#[derive(Drop)]
+#[derive(Clone, Copy)]
 pub enum Walked {
     Past(usize, bool, bool),
     Refused(u8),

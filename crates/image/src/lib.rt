@@ -1,5 +1,7 @@
 // A lent image: document 01's test for 10 and 13, and where things stand in an image that holds a routine. What is looked for in an image was
 // inspected before, so the walk that reads no name, text or register again is enough.
+#![tactic(auto)]
+
 ghost use Rattle.std.specs.Prelude.{◌≡◌, ◌-◌, ℕ, ◌≤◌, ◌<◌, length};
 ghost use Rattle.pod.specs.Values.{Routine};
 ghost use Rattle.machine.specs.Edits.{block_at};
@@ -16,7 +18,7 @@ use pod::Vip;
 use routine::Noted;
 
 // What the test for 13 says of bytes: whether they are exactly one accepted routine in written form; and where the block that was asked for begins and ends.
-#[derive(Drop)]
+#[derive(Clone, Copy)]
 struct Passed {
     whole: bool,
     from: usize,
@@ -62,7 +64,7 @@ fn walk_fits(image: &[u8], walk: u64) -> bool
 
 // What a call on a book finds first: its refusal, or 0; and, where a walk is open, where the block begins and ends that next hands out, which are equal where
 // there is none.
-#[derive(Drop)]
+#[derive(Clone, Copy)]
 pub struct Inspected {
     pub refusal: u64,
     pub from: usize,
@@ -140,7 +142,7 @@ pub fn inspect_unwalked(book: Book, image: &[u8], journal: &[u8]) -> u64
 }
 
 // Where the blocks begin, and how many there are.
-#[derive(Drop)]
+#[derive(Clone, Copy)]
 pub struct Blocks {
     pub start: usize,
     pub count: u32,
@@ -148,7 +150,7 @@ pub struct Blocks {
 
 // A block's place and the offset at which it begins; where no block has the vip, the number of blocks and the offset past them. And the number
 // of blocks, which tells the two apart.
-#[derive(Drop)]
+#[derive(Clone, Copy)]
 pub struct Found {
     pub place: usize,
     pub at: usize,
@@ -156,7 +158,7 @@ pub struct Found {
 }
 
 // Where the last instruction of a block begins and ends; in a block without instructions both are where its first would begin.
-#[derive(Drop)]
+#[derive(Clone, Copy)]
 pub struct LastInstruction {
     pub from: usize,
     pub end: usize,

@@ -1,4 +1,6 @@
 // Instructions.
+#![tactic(auto)]
+
 ghost use Rattle.std.specs.Prelude.{◌≡◌, ℕ, ◌≤◌, ◌<◌};
 ghost use Rattle.fields.specs.Parse.{ok, bind, uint, many, span, refusal_in};
 ghost use Rattle.fields.specs.Sight.{sight};
@@ -12,7 +14,7 @@ ghost use Rattle.instruction.specs.Answers.{of_op, Found, of_asked, when_asked};
 use fields::{Skip, U32Read, Walked};
 use pod::OperandRead;
 
-#[derive(Drop)]
+#[derive(Clone, Copy)]
 pub enum OpRead {
     Value(usize, usize),
     Refused(u8),
@@ -28,7 +30,7 @@ pub fn op_refusal(op: OpRead) -> u8
 
 // Operands, or an instruction, that are passed over: the offset past them, and whether every register is sound; or the refusal, and whether every register
 // before the fault is. So the answer also says what append is refused, which asks a register as soon as it has been read.
-#[derive(Drop)]
+#[derive(Clone, Copy)]
 pub enum Asked {
     Past(usize, bool),
     Refused(u8, bool),
@@ -53,7 +55,7 @@ pub fn asked_refusal(far: Asked) -> u8
 
 // An instruction that is walked over the fast way: the offset past it, or 0 where this does not tell; whether it is in written form, and whether every
 // register in it is sound.
-#[derive(Drop)]
+#[derive(Clone, Copy)]
 pub struct FastInstruction {
     pub end: usize,
     pub written: bool,

@@ -2,6 +2,8 @@
 //
 // These functions have a `requires`: they are for the crates above, which call them only with numbers that they have tested against the journal's
 // length.
+#![tactic(auto)]
+
 ghost use Rattle.std.specs.Prelude.{◌≡◌, ◌+◌, ◌-◌, ◌≤◌, length};
 ghost use Rattle.machine.specs.Trailer.{trailer, trailer_bytes};
 ghost use Rattle.fields.specs.Parse.{ok};
@@ -11,7 +13,7 @@ ghost use Rattle.journal.specs.Says.{trailer_with, trailer_of};
 use pod::Vip;
 
 // `place` is the block's, and `len`, document 01's length, the size of what was removed or appended.
-#[derive(Drop)]
+#[derive(Clone, Copy)]
 pub struct Trailer {
     pub vip: Vip,
     pub place: u32,

@@ -1,6 +1,8 @@
 // Looking at a book, by place from 0: at its routine, at a block and its instructions and vips, at a convention and its registers. Each look inspects
 // the book first, so the order is 10, 13, 15; it hands no book back, and image and journal are lent read-only. With a refusal the other fields of an
 // answer are 0.
+#![tactic(auto)]
+
 pub mod blocks;
 pub mod conventions;
 
@@ -14,7 +16,7 @@ use pod::{InstructionDesc, RegisterDesc, Vip};
 
 // The machine, the entry vip, and the numbers of special conventions and of blocks.
 #[repr(C)]
-#[derive(Drop)]
+#[derive(Clone, Copy)]
 pub struct RoutineLook {
     pub refusal: u64,
     pub arch_id: u64,
@@ -25,7 +27,7 @@ pub struct RoutineLook {
 
 // A block's four numbers and three counts.
 #[repr(C)]
-#[derive(Drop)]
+#[derive(Clone, Copy)]
 pub struct BlockLook {
     pub refusal: u64,
     pub vip: Vip,
@@ -38,14 +40,14 @@ pub struct BlockLook {
 }
 
 #[repr(C)]
-#[derive(Drop)]
+#[derive(Clone, Copy)]
 pub struct InstructionLook {
     pub refusal: u64,
     pub instruction: InstructionDesc,
 }
 
 #[repr(C)]
-#[derive(Drop)]
+#[derive(Clone, Copy)]
 pub struct VipLook {
     pub refusal: u64,
     pub vip: Vip,
@@ -53,7 +55,7 @@ pub struct VipLook {
 
 // A convention's frame register, shadow space and purge, and three counts.
 #[repr(C)]
-#[derive(Drop)]
+#[derive(Clone, Copy)]
 pub struct ConventionLook {
     pub refusal: u64,
     pub frame_register: RegisterDesc,
@@ -65,14 +67,14 @@ pub struct ConventionLook {
 }
 
 #[repr(C)]
-#[derive(Drop)]
+#[derive(Clone, Copy)]
 pub struct RegisterLook {
     pub refusal: u64,
     pub register: RegisterDesc,
 }
 
 // Refusal 0, and the offset of what stands at a place; or the refusal.
-#[derive(Drop)]
+#[derive(Clone, Copy)]
 struct Reached {
     pub refusal: u64,
     pub at: usize,
@@ -85,7 +87,7 @@ const NOWHERE: Reached = Reached {
 };
 
 // A list of vips or registers: where its first element begins, and how many there are.
-#[derive(Drop)]
+#[derive(Clone, Copy)]
 struct Elements {
     pub first: usize,
     pub count: u64,

@@ -3,6 +3,8 @@
 // the instructions: opening needs both, and a second walk would take as long again.
 //
 // Bytes that are no routine come to no harm, and only of accepted bytes is anything promised. What adds up blocks requires that the whole fits.
+#![tactic(auto)]
+
 ghost use Rattle.std.specs.Prelude.{◌≡◌, ◌-◌, ◌≤◌, ◌<◌, ◌^◌, length, get_or, set};
 ghost use Rattle.fields.specs.Parse.{counted};
 ghost use Rattle.pod.specs.Layout.{instruction, convention, block, routine};

@@ -1,4 +1,6 @@
 // The names of the operations, and text.
+#![tactic(auto)]
+
 ghost use Rattle.std.specs.Prelude.{◌≡◌, List, [], ℕ, ◌<◌, ◌≤◌, ◌+◌, ◌*◌, ◌/◌, ◌%◌, ◌^◌, length, get_or, take, drop};
 ghost use Rattle.fields.specs.Bytes.{Bytes};
 ghost use Rattle.fields.specs.Lists.{same};
@@ -113,7 +115,7 @@ fn listed_at(i: usize) -> usize
 }
 
 // A part of the list by length, from place `first` to before place `end`.
-#[derive(Drop)]
+#[derive(Clone, Copy)]
 struct Part {
     first: usize,
     end: usize,
@@ -167,7 +169,7 @@ pub fn number_of(w: &[u8]) -> usize
 
 // An entry of the table. Of an operation, the key is its name as one number, the bytes from the lowest up, and the code is its operand count and four times
 // its number. Of no operation, the key has seven bytes, as no name has.
-#[derive(Drop)]
+#[derive(Clone, Copy)]
 struct Slot {
     key: u64,
     code: u64,
@@ -341,7 +343,7 @@ pub fn fast_lookup(word: u64, n: usize) -> u64
 }
 
 // A place in a text: how many bytes the sequence begun there still has, and the range of the next. With 4 there is no such sequence.
-#[derive(Drop)]
+#[derive(Clone, Copy)]
 pub struct Utf8State {
     pub more: u8,
     pub low: u8,

@@ -1,5 +1,7 @@
 // Opening: a file's routine goes into the lent image in its written form, with zeros after it, the lent journal is cleared, and the book carries the rates
 // and what the routine comes to at them.
+#![tactic(auto)]
+
 ghost use Rattle.std.specs.Prelude.{◌≡◌, ◌≤◌, length};
 ghost use Rattle.fields.specs.Parse.{ok};
 ghost use Rattle.fields.specs.Bytes.{put};

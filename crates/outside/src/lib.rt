@@ -2,6 +2,8 @@
 // immediate. Nothing else of a written form depends on these values, and masking moves nothing, so one copy and one walk suffice.
 //
 // The walk knows that a written form stands where it goes, so it tests no length on its way.
+#![tactic(auto)]
+
 ghost use Rattle.std.specs.Prelude.{◌≡◌, ◌≤◌, map, length};
 ghost use Rattle.fields.specs.Outcome.{refused};
 ghost use Rattle.pod.specs.Values.{Routine};

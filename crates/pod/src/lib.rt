@@ -1,4 +1,6 @@
 // The values of src/pod.rs, and registers, immediates and operands read at an offset of a slice.
+#![tactic(auto)]
+
 ghost use Rattle.std.specs.Prelude.{◌≡◌, ◌+◌, ◌≤◌, ◌<◌, length};
 ghost use Rattle.pod.specs.Layout.{register, immediate, operand};
 ghost use Rattle.pod.specs.Sound.{is_slice, is_sound, operand_sound};
@@ -11,11 +13,11 @@ use fields::{I32Read, U32Read, U64Read};
 
 // A block's address. It is a type of its own, so that it can't stand where a byte offset is due.
 #[repr(C)]
-#[derive(Drop)]
+#[derive(Clone, Copy)]
 pub struct Vip(pub u64);
 
 #[repr(C)]
-#[derive(Drop)]
+#[derive(Clone, Copy)]
 pub struct RegisterDesc {
     pub flags: u64,
     pub combined_id: u64,
@@ -25,7 +27,7 @@ pub struct RegisterDesc {
 
 // The 64 bits of the value, whether they are meant signed or not.
 #[repr(C)]
-#[derive(Drop)]
+#[derive(Clone, Copy)]
 pub struct ImmediateDesc {
     pub value: u64,
     pub bit_count: u32,
@@ -44,7 +46,7 @@ pub const NO_IMMEDIATE: ImmediateDesc = ImmediateDesc {
     bit_count: 0,
 };
 
-#[derive(Drop)]
+#[derive(Clone, Copy)]
 pub enum Operand {
     Imm(ImmediateDesc),
     Reg(RegisterDesc),
@@ -53,7 +55,7 @@ pub enum Operand {
 // An operand in its place in an instruction value: kind 0 is the immediate, 1 the register. The other's fields are 0 when read, and ignored
 // when written.
 #[repr(C)]
-#[derive(Drop)]
+#[derive(Clone, Copy)]
 pub struct OperandDesc {
     pub kind: u32,
     pub immediate: ImmediateDesc,
@@ -63,7 +65,7 @@ pub struct OperandDesc {
 // An instruction by value: document 01's instruction value. `op` is the operation's number; `count` says how many places are used. A nonzero
 // `sp_reset` is true.
 #[repr(C)]
-#[derive(Drop)]
+#[derive(Clone, Copy)]
 pub struct InstructionDesc {
     pub op: u32,
     pub count: u32,
@@ -75,34 +77,34 @@ pub struct InstructionDesc {
 }
 
 // A register, the offset past it, and whether it is sound; or the refusal.
-#[derive(Drop)]
+#[derive(Clone, Copy)]
 pub enum RegisterRead {
     Value(RegisterDesc, usize, bool),
     Refused(u8),
 }
 
-#[derive(Drop)]
+#[derive(Clone, Copy)]
 enum ImmediateRead {
     Value(ImmediateDesc, usize),
     Refused(u8),
 }
 
 // An operand, the offset past it, and whether its register, if it is one, is sound; or the refusal.
-#[derive(Drop)]
+#[derive(Clone, Copy)]
 pub enum OperandRead {
     Value(Operand, usize, bool),
     Refused(u8),
 }
 
 // A part with registers in it that is passed over: the offset past it, and whether every register is sound; or the refusal.
-#[derive(Drop)]
+#[derive(Clone, Copy)]
 pub enum Passed {
     Past(usize, bool),
     Refused(u8),
 }
 
 // An operand that is passed over the fast way: the offset past it, or 0 where this does not tell; and whether its register, if it is one, is sound.
-#[derive(Drop)]
+#[derive(Clone, Copy)]
 pub struct FastOperand {
     pub end: usize,
     pub sound: bool,

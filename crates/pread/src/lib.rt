@@ -1,6 +1,8 @@
 // Reading by offset, as scroll's `pread`: a part of a routine at any offset of any bytes, by value, with the offset past it, and of each list the offset
 // past its count and how many elements there are. A part is accepted and refused as in a file; with a refusal the other fields of an answer are 0. An
 // instruction is read by value::instruction_at.
+#![tactic(auto)]
+
 ghost use Rattle.std.specs.Prelude.{◌≡◌, ℕ, ◌+◌, ◌≤◌, ◌<◌, length};
 ghost use Rattle.fields.specs.Parse.{ok, u64};
 ghost use Rattle.fields.specs.Answers.{of_walked};
@@ -15,7 +17,7 @@ use pod::{RegisterDesc, Vip};
 // The machine and the entry vip, where the conventions begin, and the numbers of special conventions and of blocks. The routine's convention is the first,
 // the subroutine's follows it; the special ones stand after their count.
 #[repr(C)]
-#[derive(Drop)]
+#[derive(Clone, Copy)]
 pub struct RoutineRead {
     pub refusal: u64,
     pub end: usize,
@@ -29,7 +31,7 @@ pub struct RoutineRead {
 
 // A convention's frame register, shadow space and purge, and its three lists of registers.
 #[repr(C)]
-#[derive(Drop)]
+#[derive(Clone, Copy)]
 pub struct ConventionRead {
     pub refusal: u64,
     pub end: usize,
@@ -45,7 +47,7 @@ pub struct ConventionRead {
 }
 
 #[repr(C)]
-#[derive(Drop)]
+#[derive(Clone, Copy)]
 pub struct RegisterRead {
     pub refusal: u64,
     pub end: usize,
@@ -54,7 +56,7 @@ pub struct RegisterRead {
 
 // A block's four numbers, its instructions and its two lists of vips.
 #[repr(C)]
-#[derive(Drop)]
+#[derive(Clone, Copy)]
 pub struct BlockRead {
     pub refusal: u64,
     pub end: usize,
@@ -71,7 +73,7 @@ pub struct BlockRead {
 }
 
 #[repr(C)]
-#[derive(Drop)]
+#[derive(Clone, Copy)]
 pub struct VipRead {
     pub refusal: u64,
     pub end: usize,

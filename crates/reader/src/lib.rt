@@ -2,6 +2,8 @@
 // borrow checker covers no function over a struct that holds a reference, so each one here is thin: it takes the record apart
 // and leaves the work to covered functions on slice and numbers. Each has an entry with plain parameters, so a caller's proof
 // needs no steps by hand.
+#![tactic(auto)]
+
 ghost use Rattle.std.specs.Prelude.{◌≡◌};
 ghost use Rattle.fields.specs.Parse.{u64};
 ghost use Rattle.fields.specs.Answers.{of_walked};
@@ -17,7 +19,7 @@ use pread::{BlockRead, ConventionRead, RegisterRead, RoutineRead, VipRead};
 use value::InstructionRead;
 
 // Document 01: "one record carries the lent file and the offset reached".
-#[derive(Drop)]
+#[derive(Clone, Copy)]
 pub struct Reader<'a> {
     pub src: &'a [u8],
     pub at: usize,

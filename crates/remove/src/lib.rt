@@ -1,6 +1,8 @@
 // Removing a block from the routine in an image, in place.
 //
 // `remove_block` requires that the state is sound and that no walk is open: it is for the crate above, whose call inspects the lent image and the book first.
+#![tactic(auto)]
+
 ghost use Rattle.std.specs.Prelude.{◌≡◌, ◌++◌, ℕ, ◌+◌, ◌≤◌, length};
 ghost use Rattle.fields.specs.Bytes.{put};
 ghost use Rattle.pod.specs.Values.{Routine};

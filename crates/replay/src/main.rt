@@ -1,6 +1,8 @@
 // Runs a fixed sample of the Rust's answers, data/answers.bin, which oracle/ made: the library's check has to give
 // each of them. A record is the file's length (u32), the file, and the consumed length or minus the refusal (i64), all
 // little-endian.
+#![tactic(auto)]
+
 ghost use Rattle.std.specs.Prelude.{◌<◌, ◌≤◌};
 
 use libc::STDOUT_FILENO;

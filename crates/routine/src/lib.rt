@@ -1,4 +1,6 @@
 // The whole routine.
+#![tactic(auto)]
+
 ghost use Rattle.std.specs.Prelude.{◌≡◌, true, ◌+◌, ◌-◌, ◌≤◌, ◌<◌};
 ghost use Rattle.fields.specs.Parse.{ok, many, counted, bind, span, u64, refusal_in};
 ghost use Rattle.fields.specs.Lists.{choose, every};
@@ -111,7 +113,7 @@ fn conventions_run(s: &[u8], at: usize, count: u32) -> Walked
 
 // Blocks that were walked over: the offset past them, whether their vips were seen to rise, whether all are in written form, and whether every register in
 // them is sound; and where the block that was asked for begins and ends. Or the refusal.
-#[derive(Drop)]
+#[derive(Clone, Copy)]
 enum BlocksSkip {
     Past(usize, bool, bool, bool, usize, usize),
     Refused(u8),
@@ -119,7 +121,7 @@ enum BlocksSkip {
 
 // The blocks of a routine, or a routine, that was walked over: what `Walked` says, and where the block at the place that was asked for begins and ends, 0 and
 // 0 where there is none. Or the refusal.
-#[derive(Drop)]
+#[derive(Clone, Copy)]
 pub enum Noted {
     Past(usize, bool, bool, usize, usize),
     Refused(u8),

@@ -1,4 +1,6 @@
 // Document 01's instances that are not starred, run: each line says what the library answers.
+#![tactic(auto)]
+
 use book::{Answer, Rates};
 use libc::STDOUT_FILENO;
 

@@ -1,6 +1,8 @@
 // Taking back the last edit, of whichever kind it was.
 //
 // `undo` requires that the state is sound and that no walk is open: it is for the crate above, whose call inspects the lent image and the book first.
+#![tactic(auto)]
+
 ghost use Rattle.std.specs.Prelude.{◌≡◌};
 ghost use Rattle.machine.specs.Machine.{undo};
 ghost use Rattle.machine.specs.Book.{step};

@@ -2,6 +2,8 @@
 //
 // undo_append has a `requires` that the state is sound and has an entry: it is for the crate above, whose call inspects the lent image and the book
 // first, and reads the trailer.
+#![tactic(auto)]
+
 ghost use Rattle.std.specs.Prelude.{◌≡◌, ℕ, ◌≤◌, length};
 ghost use Rattle.fields.specs.Outcome.{accepted};
 ghost use Rattle.pod.specs.Values.{Routine};

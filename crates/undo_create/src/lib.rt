@@ -2,6 +2,8 @@
 //
 // undo_create has a `requires` that the state is sound and has an entry: it is for the crate above, whose call inspects the lent image and the book
 // first, and reads the trailer.
+#![tactic(auto)]
+
 ghost use Rattle.std.specs.Prelude.{◌≡◌, ◌+◌, ◌≤◌, length};
 ghost use Rattle.fields.specs.Outcome.{accepted};
 ghost use Rattle.pod.specs.Values.{BasicBlock, Routine};

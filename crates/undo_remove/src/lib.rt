@@ -1,6 +1,8 @@
 // Taking back a removal: the block that the journal's last entry holds goes back to its place in the image.
 //
 // `undo_remove` requires that the state is sound: it is for the crate above, whose call inspects the lent image and the book first.
+#![tactic(auto)]
+
 ghost use Rattle.std.specs.Prelude.{◌≡◌, ◌-◌, ◌≤◌, length, take};
 ghost use Rattle.fields.specs.Outcome.{accepted};
 ghost use Rattle.pod.specs.Values.{BasicBlock, Routine};

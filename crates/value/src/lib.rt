@@ -1,4 +1,6 @@
 // An instruction by value, read at an offset of a slice.
+#![tactic(auto)]
+
 ghost use Rattle.std.specs.Prelude.{◌≡◌, not, ◌+◌, ◌≤◌, ◌<◌, length, eqb};
 ghost use Rattle.fields.specs.Lists.{choose};
 ghost use Rattle.fields.specs.Parse.{ok, no, bind, many, u8, u32, refusal_in};
@@ -14,7 +16,7 @@ use instruction::OpRead;
 use pod::{ImmediateDesc, InstructionDesc, Operand, OperandDesc, OperandRead, RegisterDesc, Vip};
 
 // Refusal 0: the operands in their places, and the offset past them. A struct, since an enum can't hold an array.
-#[derive(Drop)]
+#[derive(Clone, Copy)]
 pub struct OperandsRead {
     pub refusal: u8,
     pub next: usize,
@@ -22,7 +24,7 @@ pub struct OperandsRead {
 }
 
 // The fields after the operands, as they come.
-#[derive(Drop)]
+#[derive(Clone, Copy)]
 struct Tail {
     pub vip: Vip,
     pub sp_offset: i64,
@@ -30,7 +32,7 @@ struct Tail {
     pub sp_reset: u8,
 }
 
-#[derive(Drop)]
+#[derive(Clone, Copy)]
 enum TailRead {
     Value(Tail, usize),
     Refused(u8),
@@ -38,7 +40,7 @@ enum TailRead {
 
 // Refusal 0: the instruction, and the offset past it. With a refusal the rest is 0.
 #[repr(C)]
-#[derive(Drop)]
+#[derive(Clone, Copy)]
 pub struct InstructionRead {
     pub refusal: u64,
     pub end: usize,
@@ -255,7 +257,7 @@ fn fast_register(s: &[u8], at: usize, there: bool) -> RegisterDesc
 }
 
 // A place of an instruction value and the offset past its operand, or 0 where the fast way does not tell.
-#[derive(Drop)]
+#[derive(Clone, Copy)]
 struct Filled {
     pub next: usize,
     pub place: OperandDesc,

@@ -1,4 +1,6 @@
 // The C interface: include/vtil.h says the same in C.
+#![tactic(auto)]
+
 ghost use Rattle.std.specs.Prelude.{◌≡◌, ◌<◌, ◌^◌, pos, length};
 ghost use Rattle.fields.specs.Parse.{u64};
 ghost use Rattle.pod.specs.Layout.{register, convention, instruction, block, read_file};

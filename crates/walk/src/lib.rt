@@ -1,5 +1,7 @@
 // Sending a routine block by block, document 02's walk: start, next, abandon. Each first inspects the lent image and the book, and changes nothing but the book's
 // walk. The walk is 0 where none is open, else 1 + the place of the block that next hands out.
+#![tactic(auto)]
+
 ghost use Rattle.std.specs.Prelude.{◌≡◌};
 ghost use Rattle.machine.specs.Walk.{walk_start, walk_next, walk_abandon};
 ghost use Rattle.machine.specs.Machine.{walking};

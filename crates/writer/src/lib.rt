@@ -1,6 +1,8 @@
 // The writer of an instruction value: the written form at the start of an image.
 //
 // A function that has a `requires` is called only with numbers that `write_instruction` has tested.
+#![tactic(auto)]
+
 ghost use Rattle.std.specs.Prelude.{◌≡◌, ◌+◌, ◌≤◌, ◌<◌, length, take};
 ghost use Rattle.std.specs.Int.{w32, w64};
 ghost use Rattle.std.proofs.Common.{of_z};
@@ -16,7 +18,7 @@ use pod::{ImmediateDesc, InstructionDesc, OperandDesc, RegisterDesc};
 
 // Refusal 0: written, so many bytes. The outside copy answers it too.
 #[repr(C)]
-#[derive(Drop)]
+#[derive(Clone, Copy)]
 pub struct Written {
     pub refusal: u64,
     pub size: u64,
