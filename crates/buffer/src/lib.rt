@@ -20,12 +20,13 @@ pub fn clear(a: &mut [u8], from: usize, to: usize)
     }
 }
 
-// All of `b` over the bytes of `a` from `at` on. The compiler makes the loop of `copy` a memcpy or vector code.
+// All of `b` over the bytes of `a` from `at` on: one memcpy.
 pub fn copy_at(a: &mut [u8], at: usize, b: &[u8])
     requires { at + length b.now ≤ length a.old }
     ensures { a.new ≡ put at b.now a.old }
 {
-    bytes::copy(b, &mut a[at..]);
+    let end = at + b.len();
+    a[at..end].copy_from_slice(b);
 }
 
 // How many bytes a move takes at a time, by way of an array: few enough for the fastest cache, and enough that a turn's copies are long.

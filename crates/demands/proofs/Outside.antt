@@ -34,6 +34,8 @@ module _ {A : Type 0} (mask : A → A) where
   -- alike elements are equal when masked, and so the lists
   masked_equal : {R : A → A → Type 0} → ((x y : A) → R x y → mask x ≡ mask y) → (xs ys : List A) → Pairwise R xs ys → map mask xs ≡ map mask ys
   masked_equal k [] [] h = refl
+  masked_equal {R = R} k [] (y ∷ ys) h = elim h [ ]
+  masked_equal {R = R} k (x ∷ xs) [] h = elim h [ ]
   masked_equal k (x ∷ xs) (y ∷ ys) h = ap₂ ◌∷◌ (k x y h.0) (masked_equal k xs ys h.1)
 
   -- and the other way round
@@ -54,6 +56,8 @@ module _ {A : Type 0} (mask : A → A) where
 -- alike, and equal when masked
 operand_equal : (x y : Operand) → OperandsAlike x y → mask_operand x ≡ mask_operand y
 operand_equal (Imm i) (Imm j) h = cc
+operand_equal (Imm i) (Reg q) h = elim h [ ]
+operand_equal (Reg p) (Imm j) h = elim h [ ]
 operand_equal (Reg p) (Reg q) h = cc
 
 instruction_equal : (i j : Instruction) → InstructionsAlike i j → mask_instruction i ≡ mask_instruction j

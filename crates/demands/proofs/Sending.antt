@@ -74,6 +74,8 @@ module _ (o : Opening) where
   -- one message more
   sent_snoc : (vs : List ℕ) (ms : List Message) (v : ℕ) (m : Message) → AllSent o vs ms → Stood o v m → AllSent o (vs ++ (v ∷ [])) (ms ++ (m ∷ []))
   sent_snoc [] [] v m a s = (s, tt)
+  sent_snoc [] (n ∷ ms) v m a s = elim a [ ]
+  sent_snoc (w ∷ vs) [] v m a s = elim a [ ]
   sent_snoc (w ∷ vs) (n ∷ ms) v m a s = (a.0, sent_snoc vs ms v m a.1 s)
 
   -- the messages of a walk that is open, at a place of a machine

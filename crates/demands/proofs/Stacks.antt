@@ -139,6 +139,7 @@ module _ (lent : Lengths) where
 
         go : (st : Stack) → (after_list earlier).stack ≡ st → (ps : List (List Call)) → Along ps st → Along (settle true earlier undo ps) (machine_step lent undo (after_list earlier)).1.stack
         go [] e ps a = let n = undo-none (after_list earlier) none_open e in let z : ◌≡◌ {A = ℕ} 0 1 = cc in absurd (omega arith)
+        go (x ∷ xs) e [] a = elim a [ ]
         go (x ∷ xs) e (p ∷ ps) a = rw (undo-stack (after_list earlier) x xs none_open e).1 a.1
     call_along earlier f ps a (walking w) true h = rw (walk-stack w (after_list earlier) h) a
 
@@ -159,6 +160,7 @@ module _ (lent : Lengths) where
       where
         go : (st : Stack) → (after_list cs).stack ≡ st → Along [] st → (p : List Call) × (qs : List (List Call)) × ([] ≡ p ∷ qs)
         go [] e a = let n = undo-none (after_list cs) (undo-closed (after_list cs) h) e in let z : ◌≡◌ {A = ℕ} 0 1 = cc in absurd (omega arith)
+        go (_ ∷ _) e a = elim a [ ]
     top_stands cs (p ∷ qs) a h = (p, qs, refl)
 
     -- where one stands and no walk is open, a take back is accepted, and the machine is as it was before it, but for a walk
@@ -170,6 +172,7 @@ module _ (lent : Lengths) where
         go : (st : Stack) → (after_list cs).stack ≡ st → Along (p ∷ qs) st
             → (is_accepted (machine_step lent undo (after_list cs)).0 ≡ true)
             × ((machine_step lent undo (after_list cs)).1 ≡ record { now = (after_list p).now; stack = (after_list p).stack; walk = closed }) × Each Sendable p
+        go [] e a = elim a [ ]
         go (x ∷ xs) e a =
             let u = undo-stack (after_list cs) x xs z e in
             (u.0, u.1 ∙ rw (a.0.routine, a.0.rest, z), a.0.sent)

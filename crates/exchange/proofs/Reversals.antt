@@ -1,4 +1,4 @@
--- A reversal goes on from both ends, and four reversals exchange two parts around a third. Both go over a list's parts: `rev` of an append is the
+-- A reversal goes on from both ends, and four reversals exchange two parts around a third. Both go over a list's parts: `reverse` of an append is the
 -- parts reversed in the other order, and twice reversed is as it was.
 -- Assumes nothing.
 use mathlib.Core.Path.{◌≡◌, refl, sym, ap, ap₂, ◌∙◌}
@@ -8,15 +8,14 @@ use native.Mathlib.Omega.{arith}
 use native.Mathlib.Numerals.{add-one}
 use lib.ListN.{length, take, drop, get_or, set, length-append, length-take, take-append-drop, length-reverse, drop_of_length-le}
 use lib.Seq.{take_at, drop_at, length-slice, length-take-le, drop-append-le, take-suc, take_all}
-use Rattle.bytes.specs.Bytes.{rev, slice}
-use Rattle.bytes.proofs.Laws.{rev-rev, rev-append}
+use Rattle.std.specs.Prelude.{reverse}
+use Rattle.std.proofs.lemmas.List.{reverse-reverse, reverse-append}
 use Rattle.fields.specs.Bytes.{put}
-use Rattle.exchange.specs.Parts.{exchanged, reversed, swapped_back}
+use Rattle.exchange.specs.Parts.{slice, exchanged, reversed, swapped_back}
 use Rattle.buffer.proofs.Put.{length_part, length-put, put_nil, put-parts, put-put-before}
 use Rattle.buffer.proofs.Moves.{put_one}
 
-length_rev : (l : List ℕ) → length (rev l) ≡ length l
-unfolding rev
+length_rev : (l : List ℕ) → length (reverse l) ≡ length l
 length_rev l = length-reverse l
 
 slice_parts : (A M Z : List ℕ) (f t : ℕ) → length A ≡ f → f + length M ≡ t → slice f t (A ++ (M ++ Z)) ≡ M
@@ -29,41 +28,41 @@ slice_parts A M Z f t h k =
 drop-parts : (A M Z : List ℕ) (f t : ℕ) → length A ≡ f → f + length M ≡ t → drop t (A ++ (M ++ Z)) ≡ Z
 drop-parts A M Z f t h k = ap (drop t) (sym (append_assoc A M Z)) ∙ drop_at (A ++ M) Z t (omega (arith, length-append A M))
 
-reversed-parts : (A M Z : List ℕ) (f t : ℕ) → length A ≡ f → f + length M ≡ t → reversed f t (A ++ (M ++ Z)) ≡ A ++ (rev M ++ Z)
+reversed-parts : (A M Z : List ℕ) (f t : ℕ) → length A ≡ f → f + length M ≡ t → reversed f t (A ++ (M ++ Z)) ≡ A ++ (reverse M ++ Z)
 reversed-parts A M Z f t h k = rw (take_at A (M ++ Z) f h, slice_parts A M Z f t h k, drop-parts A M Z f t h k)
 
 -- a part that stands reversed, reversed again
-reversed-back : (A M Z : List ℕ) (f t : ℕ) {a : List ℕ} → a ≡ A ++ (rev M ++ Z) → length A ≡ f → f + length M ≡ t → reversed f t a ≡ A ++ (M ++ Z)
-reversed-back A M Z f t e h k = ap (reversed f t) e ∙ reversed-parts A (rev M) Z f t h (omega (arith, length_rev M)) ∙ rw (rev-rev M)
+reversed-back : (A M Z : List ℕ) (f t : ℕ) {a : List ℕ} → a ≡ A ++ (reverse M ++ Z) → length A ≡ f → f + length M ≡ t → reversed f t a ≡ A ++ (M ++ Z)
+reversed-back A M Z f t e h k = ap (reversed f t) e ∙ reversed-parts A (reverse M) Z f t h (omega (arith, length_rev M)) ∙ rw (reverse-reverse M)
 
 -- the two ends swapped, of a list in parts: what is left to reverse is the middle, M
 module _ (A X M Y B : List ℕ) (i k n : ℕ) (hi : length A ≡ i) (hx : length X ≡ n) (hy : length Y ≡ n) (hk : i + n + length M ≡ k) where
-  ends_swapped : swapped_back i k n (A ++ (X ++ (M ++ (Y ++ B)))) ≡ A ++ (rev Y ++ (M ++ (rev X ++ B)))
+  ends_swapped : swapped_back i k n (A ++ (X ++ (M ++ (Y ++ B)))) ≡ A ++ (reverse Y ++ (M ++ (reverse X ++ B)))
   ends_swapped =
       let s : List ℕ = A ++ (X ++ (M ++ (Y ++ B))) in
-      let lx : length (rev X) ≡ n = length_rev X ∙ hx in
-      let ly : length (rev Y) ≡ n = length_rev Y ∙ hy in
+      let lx : length (reverse X) ≡ n = length_rev X ∙ hx in
+      let ly : length (reverse Y) ≡ n = length_rev Y ∙ hy in
       let g : (W l : List ℕ) → A ++ (W ++ (M ++ l)) ≡ (A ++ (W ++ M)) ++ l = λ W l. simp append_assoc in
       let w : (W : List ℕ) → length W ≡ n → length (A ++ (W ++ M)) ≡ k = λ W h. omega (arith, length-append A (W ++ M), length-append W M) in
       let x : take n (drop i s) ≡ X = ap (take n) (drop_at A (X ++ (M ++ (Y ++ B))) i hi) ∙ take_at X (M ++ (Y ++ B)) n hx in
       let y : take n (drop k s) ≡ Y = ap (λ (l : List ℕ). take n (drop k l)) (g X (Y ++ B)) ∙ ap (take n) (drop_at (A ++ (X ++ M)) (Y ++ B) k (w X hx)) ∙ take_at Y B n hy in
-      let p : put i (rev Y) s ≡ A ++ (rev Y ++ (M ++ (Y ++ B))) = put-parts A (rev Y) X (M ++ (Y ++ B)) i hi (ly ∙ sym hx) in
-      ap₂ (λ (u v : List ℕ). put k (rev u) (put i (rev v) s)) x y
-      ∙ ap (put k (rev X)) (p ∙ g (rev Y) (Y ++ B))
-      ∙ put-parts (A ++ (rev Y ++ M)) (rev X) Y B k (w (rev Y) ly) (lx ∙ sym hy)
-      ∙ sym (g (rev Y) (rev X ++ B))
+      let p : put i (reverse Y) s ≡ A ++ (reverse Y ++ (M ++ (Y ++ B))) = put-parts A (reverse Y) X (M ++ (Y ++ B)) i hi (ly ∙ sym hx) in
+      ap₂ (λ (u v : List ℕ). put k (reverse u) (put i (reverse v) s)) x y
+      ∙ ap (put k (reverse X)) (p ∙ g (reverse Y) (Y ++ B))
+      ∙ put-parts (A ++ (reverse Y ++ M)) (reverse X) Y B k (w (reverse Y) ly) (lx ∙ sym hy)
+      ∙ sym (g (reverse Y) (reverse X ++ B))
 
   swapped_parts : (j : ℕ) → k + n ≡ j → reversed (i + n) k (swapped_back i k n (A ++ (X ++ (M ++ (Y ++ B))))) ≡ reversed i j (A ++ (X ++ (M ++ (Y ++ B))))
   swapped_parts j hj =
-      let lx : length (rev X) ≡ n = length_rev X ∙ hx in
-      let ly : length (rev Y) ≡ n = length_rev Y ∙ hy in
-      let f : length (A ++ rev Y) ≡ i + n = omega (arith, length-append A (rev Y)) in
+      let lx : length (reverse X) ≡ n = length_rev X ∙ hx in
+      let ly : length (reverse Y) ≡ n = length_rev Y ∙ hy in
+      let f : length (A ++ reverse Y) ≡ i + n = omega (arith, length-append A (reverse Y)) in
       let m : i + length (X ++ (M ++ Y)) ≡ j = omega (arith, length-append X (M ++ Y), length-append M Y) in
-      let v : rev (X ++ (M ++ Y)) ++ B ≡ rev Y ++ (rev M ++ (rev X ++ B)) = rw (rev-append X (M ++ Y), rev-append M Y) (simp append_assoc) in
+      let v : reverse (X ++ (M ++ Y)) ++ B ≡ reverse Y ++ (reverse M ++ (reverse X ++ B)) = rw (reverse-append X (M ++ Y), reverse-append M Y) (simp append_assoc) in
       let e : A ++ (X ++ (M ++ (Y ++ B))) ≡ A ++ ((X ++ (M ++ Y)) ++ B) = simp append_assoc in
-      ap (reversed (i + n) k) (ends_swapped ∙ sym (append_assoc A (rev Y) (M ++ (rev X ++ B))))
-      ∙ reversed-parts (A ++ rev Y) M (rev X ++ B) (i + n) k f hk
-      ∙ append_assoc A (rev Y) (rev M ++ (rev X ++ B))
+      ap (reversed (i + n) k) (ends_swapped ∙ sym (append_assoc A (reverse Y) (M ++ (reverse X ++ B))))
+      ∙ reversed-parts (A ++ reverse Y) M (reverse X ++ B) (i + n) k f hk
+      ∙ append_assoc A (reverse Y) (reverse M ++ (reverse X ++ B))
       ∙ ap (λ (l : List ℕ). A ++ l) (sym v)
       ∙ sym (ap (reversed i j) e ∙ reversed-parts A (X ++ (M ++ Y)) B i j hi m)
 
@@ -87,11 +86,11 @@ module _ (A P Q R Z : List ℕ) (s b c e : ℕ) (hs : length A ≡ s) (hb : s + 
       → reversed p e (reversed q p (reversed s q (reversed s e (A ++ (P ++ (Q ++ (R ++ Z))))))) ≡ A ++ (R ++ (Q ++ (P ++ Z)))
   four_parts q p hq hp =
       let w : s + length (P ++ (Q ++ R)) ≡ e = omega (arith, length-append P (Q ++ R), length-append Q R) in
-      let v : rev (P ++ (Q ++ R)) ++ Z ≡ rev R ++ (rev Q ++ (rev P ++ Z)) = rw (rev-append P (Q ++ R), rev-append Q R) (simp append_assoc) in
-      let x : reversed s e (A ++ (P ++ (Q ++ (R ++ Z)))) ≡ A ++ (rev R ++ (rev Q ++ (rev P ++ Z))) =
+      let v : reverse (P ++ (Q ++ R)) ++ Z ≡ reverse R ++ (reverse Q ++ (reverse P ++ Z)) = rw (reverse-append P (Q ++ R), reverse-append Q R) (simp append_assoc) in
+      let x : reversed s e (A ++ (P ++ (Q ++ (R ++ Z)))) ≡ A ++ (reverse R ++ (reverse Q ++ (reverse P ++ Z))) =
       ap (reversed s e) (simp append_assoc) ∙ reversed-parts A (P ++ (Q ++ R)) Z s e hs w ∙ ap (λ (l : List ℕ). A ++ l) v in
-      let y = reversed-back A R (rev Q ++ (rev P ++ Z)) s q x hs (omega arith) in
-      let z = reversed-back (A ++ R) Q (rev P ++ Z) q p (y ∙ sym (append_assoc A R _)) (omega (arith, length-append A R)) (omega arith) in
+      let y = reversed-back A R (reverse Q ++ (reverse P ++ Z)) s q x hs (omega arith) in
+      let z = reversed-back (A ++ R) Q (reverse P ++ Z) q p (y ∙ sym (append_assoc A R _)) (omega (arith, length-append A R)) (omega arith) in
       reversed-back (A ++ (R ++ Q)) P Z p e (z ∙ simp append_assoc) (omega (arith, length-append A (R ++ Q), length-append R Q)) (omega arith) ∙ simp append_assoc
 
 drop_slice : (a : List ℕ) (b c : ℕ) → b ≤ c → c ≤ length a → drop b a ≡ slice b c a ++ drop c a
@@ -134,32 +133,30 @@ reversed-turn a i j n q o h l =
     ∙ ap (reversed i j) (sym w)
 
 -- the loop that copies the last byte first, with i bytes copied: where it begins, and a turn of it
-pub back_none : (a b : List ℕ) (at : ℕ) → a ≡ put (at + length b - 0) (rev (take 0 b)) a
-unfolding rev
+pub back_none : (a b : List ℕ) (at : ℕ) → a ≡ put (at + length b - 0) (reverse (take 0 b)) a
 back_none a b at = sym (put_nil _ a)
 
-pub back_more : (a b s : List ℕ) (at i : ℕ) → s ≡ put (at + length b - i) (rev (take i b)) a → at + length b ≤ length a → i < length b
-    → set s (at + length b - 1 - i) (get_or b i 0) ≡ put (at + length b - (i + 1)) (rev (take (i + 1) b)) a
-unfolding rev
+pub back_more : (a b s : List ℕ) (at i : ℕ) → s ≡ put (at + length b - i) (reverse (take i b)) a → at + length b ≤ length a → i < length b
+    → set s (at + length b - 1 - i) (get_or b i 0) ≡ put (at + length b - (i + 1)) (reverse (take (i + 1) b)) a
 back_more a b s at i e h l =
     let o : ℕ = at + length b - (i + 1) in
-    let n : length (rev (take i b)) ≡ i = length_rev (take i b) ∙ length-take-le i b (omega arith) in
+    let n : length (reverse (take i b)) ≡ i = length_rev (take i b) ∙ length-take-le i b (omega arith) in
     let p : at + length b - i ≡ o + 1 = omega arith in
     let q : at + length b - 1 - i ≡ o = omega arith in
-    let e' : s ≡ put (o + 1) (rev (take i b)) a = e ∙ ap (λ (k : ℕ). put k (rev (take i b)) a) p in
-    let m : length s ≡ length a = ap length e' ∙ length-put (o + 1) (rev (take i b)) a (omega arith) in
-    let r : get_or b i 0 ∷ rev (take i b) ≡ rev (take (i + 1) b) = sym (ap rev (ap (λ (k : ℕ). take k b) (add-one i) ∙ take-suc b i 0 l) ∙ rev-append (take i b) (get_or b i 0 ∷ [])) in
+    let e' : s ≡ put (o + 1) (reverse (take i b)) a = e ∙ ap (λ (k : ℕ). put k (reverse (take i b)) a) p in
+    let m : length s ≡ length a = ap length e' ∙ length-put (o + 1) (reverse (take i b)) a (omega arith) in
+    let r : get_or b i 0 ∷ reverse (take i b) ≡ reverse (take (i + 1) b) = sym (ap reverse (ap (λ (k : ℕ). take k b) (add-one i) ∙ take-suc b i 0 l) ∙ reverse-append (take i b) (get_or b i 0 ∷ [])) in
     ap (λ (k : ℕ). set s k (get_or b i 0)) q
     ∙ put_one s o (get_or b i 0) (omega arith)
     ∙ ap (put o (get_or b i 0 ∷ [])) e'
-    ∙ put-put-before o (get_or b i 0 ∷ []) (rev (take i b)) a (omega arith)
+    ∙ put-put-before o (get_or b i 0 ∷ []) (reverse (take i b)) a (omega arith)
     ∙ ap (λ (k : List ℕ). put o k a) r
 
-pub back-all : (a b s : List ℕ) (at i : ℕ) → s ≡ put (at + length b - i) (rev (take i b)) a → i ≤ length b → length b ≤ i → s ≡ put at (rev b) a
+pub back-all : (a b s : List ℕ) (at i : ℕ) → s ≡ put (at + length b - i) (reverse (take i b)) a → i ≤ length b → length b ≤ i → s ≡ put at (reverse b) a
 back-all a b s at i e h l =
     let n : i ≡ length b = omega arith in
     let p : at + length b - i ≡ at = omega arith in
-    e ∙ ap₂ (λ (k : ℕ) (u : List ℕ). put k (rev u) a) p (take_all i b l)
+    e ∙ ap₂ (λ (k : ℕ) (u : List ℕ). put k (reverse u) a) p (take_all i b l)
 
 -- a part copied over the whole of another list
 pub whole : (a x z : List ℕ) (f : ℕ) → z ≡ put 0 (take (f + length x - f) (drop f a)) x → f + length x ≤ length a → z ≡ take (length x) (drop f a)

@@ -3,9 +3,8 @@
 // A function that has a `requires` is for the crates above, which call it only with numbers that they have tested against the slice's length.
 #![tactic(auto)]
 
-ghost use Rattle.std.specs.Prelude.{◌≡◌, ◌+◌, ◌≤◌, length, take, drop};
+ghost use Rattle.std.specs.Prelude.{◌≡◌, ◌+◌, ◌≤◌, length, take, drop, reverse};
 ghost use Rattle.fields.specs.Bytes.{put};
-ghost use Rattle.bytes.specs.Bytes.{rev};
 ghost use Rattle.exchange.specs.Parts.{exchanged, reversed, swapped_back};
 
 // How many bytes a reversal takes at a time from each end, by way of arrays: few enough for the fastest cache, and enough that a turn's copies are long.
@@ -14,7 +13,7 @@ const STEP: usize = 512;
 // `b`, the last byte first, over the bytes of `a` from `at` on.
 fn copy_back(a: &mut [u8], at: usize, b: &[u8])
     requires { at + length b.now ≤ length a.old }
-    ensures { a.new ≡ put at (rev b.now) a.old }
+    ensures { a.new ≡ put at (reverse b.now) a.old }
 {
     let end = at + b.len();
     let mut i = 0;
@@ -44,7 +43,7 @@ fn swap_back(a: &mut [u8], x: &mut [u8], y: &mut [u8], i: usize, k: usize, n: us
     copy_back(a, k, x);
 }
 
-// The bytes from `from` up to, not including, `to` reversed, from both ends. `bytes::reverse`, which goes byte by byte, does only the middle: this is
+// The bytes from `from` up to, not including, `to` reversed, from both ends. A slice's `reverse`, which goes byte by byte, does only the middle: this is
 // several times as fast.
 fn reverse(a: &mut [u8], from: usize, to: usize)
     requires { (from ≤ to) × (to ≤ length a.old) }
@@ -59,7 +58,7 @@ fn reverse(a: &mut [u8], from: usize, to: usize)
         swap_back(a, &mut x, &mut y, i, j, STEP);
         i += STEP;
     }
-    bytes::reverse(a, i, j);
+    a[i..j].reverse();
 }
 
 // The parts [s, b) and [c, e) change places, and [b, c) stays between them: all is reversed, and then each of the three parts again.
