@@ -1,0 +1,48 @@
+-- `append::refusal_of_bytes` meets its contract: each answer is one case of the bytes, with what `instruction_past` tells of them where registers are asked.
+use mathlib.Core.Path.{◌≡◌, sym, ap, ◌∙◌}
+use native.Mathlib.Omega.{arith}
+use borrow.Author.Tests.{not-true, not-false}
+use Rattle.fields.specs.Parse.{ok, no, span}
+use Rattle.fields.proofs.Steps.{handed}
+use Rattle.pod.specs.Sound.{appended}
+use Rattle.pod.specs.Told.{asked}
+use Rattle.instruction.specs.Answers.{when_asked}
+use Rattle.instruction.proofs.Asking.{asked-sound, asked-crooked, when-refused}
+use Rattle.append.proofs.Appends.{unread, too_long, all_read}
+use borrow.Author.Rules.{rules}
+use Rattle.append.proofs.refusal_of_bytes.Goals as goal
+use Rattle.append.proofs.refusal_of_bytes.Tie as tie
+use Rattle.append.proofs.refusal_of_bytes.Goals.{After-asked_refusal, Start}
+
+-- The way through the code, each place from the next.
+abbrev start : tie.After-instruction_past-far → Start
+start c = c.before.before
+
+abbrev passing : tie.In-Past-2 → tie.After-instruction_past-far
+passing c = c.before.before
+
+abbrev stopping : After-asked_refusal → tie.After-instruction_past-far
+stopping c = c.before.before.before.before
+
+-- What passing over the bytes told.
+told : (c : tie.In-Past-2) → asked c.far-1.given.0.1.0 (ok tt c.far-1.given.0.0) ≡ span (appended (start (passing c)).args.instruction.now 0)
+told c = sym (ap when_asked c.far-1.given.1) ∙ (passing c).instruction_past-far.ensures.1
+
+refused_with : (c : After-asked_refusal) → no c.asked_refusal.result ≡ span (appended (start (stopping c)).args.instruction.now 0)
+refused_with c = handed (when-refused c.enum_told-1.given.1).1 (stopping c).instruction_past-far.ensures.1 c.asked_refusal.ensures
+
+-- where every register is sound it is what reading tells
+past : (c : tie.Else-not-sound) → let f = c.before.before in ok tt f.far-1.given.0.0 ≡ span (appended (start (passing f)).args.instruction.now 0)
+past c = let f = c.before.before in sym (asked-sound (ok tt f.far-1.given.0.0) (not-false _ c.if-not-sound.false)) ∙ told f
+
+pub returns-then-not-sound : goal.returns-then-not-sound
+returns-then-not-sound c = let f = c.before.before.before in unread _ (sym (asked-crooked (ok tt f.far-1.given.0.0) (not-true _ c.if-not-sound.true)) ∙ told f)
+
+pub returns-then-end-instruction : goal.returns-then-end-instruction
+returns-then-end-instruction c = too_long _ (past c.before.before) (omega (arith, c.if-end-instruction.true))
+
+pub returns-else-end-instruction : goal.returns-else-end-instruction
+returns-else-end-instruction c = all_read _ (past c.before.before) (omega (arith, c.if-end-instruction.false))
+
+pub returns-in_default : goal.returns-in_default
+returns-in_default c = unread _ (refused_with c)

@@ -1,0 +1,22 @@
+-- The loop's invariant: zeros are put from `from` up to i. A turn puts one more beside them.
+use Prim.Native.Nat.{ℕ, ◌≤◌, ◌-◌}
+use mathlib.Core.Path.{◌≡◌, refl, ap, ◌∙◌}
+use native.Mathlib.Omega.{arith}
+use lib.ListN.{length, length-set}
+use Rattle.fields.specs.Bytes.{put, zeros}
+use Rattle.buffer.proofs.Moves.{clear_more, clear_none}
+use borrow.Author.Rules.{rules}
+use Rattle.buffer.proofs.clear.Goals as goal
+use Rattle.buffer.proofs.clear.Goals.{Start}
+
+pub loop-i-init : goal.loop-i-init
+loop-i-init c = (omega arith, (omega arith, (refl, clear_none _ _)))
+
+pub loop-i-preserved : goal.loop-i-preserved
+loop-i-preserved c =
+    (omega arith, (omega arith, (simp length-set (omega arith), clear_more _ _ _ _ c.loop-i.invariant.1.1.1 (omega arith) (omega arith))))
+
+pub returns : goal.returns
+returns c =
+    let s : Start = (goal.at.returns c).Start in
+    c.loop-i.invariant.1.1.1 ∙ ap (λ (k : ℕ). put s.args.from (zeros (k - s.args.from)) s.args.a.now) (omega arith)

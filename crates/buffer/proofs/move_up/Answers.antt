@@ -1,0 +1,21 @@
+-- The loop's invariant: the bytes from the i-th on are moved. Those that a turn reads stand before all that was put, so they are as they were.
+use Prim.Native.Nat.{◌≤◌, ◌+◌, ◌-◌}
+use mathlib.Core.Path.{◌≡◌, refl}
+use native.Mathlib.Omega.{arith}
+use lib.ListN.{length}
+use Rattle.buffer.proofs.Moves.{moved, up_none, up_turn, up_last}
+use borrow.Author.Rules.{rules}
+use Rattle.buffer.proofs.move_up.Goals as goal
+use Rattle.buffer.proofs.move_up.Tie as tie
+
+pub loop-i-init : goal.loop-i-init
+loop-i-init c = (omega arith, (refl, (refl, up_none _ _ _ _)))
+
+pub loop-i-preserved : goal.loop-i-preserved
+loop-i-preserved c = (omega arith, (omega arith, (omega arith, up_turn _ _ _ _ _ _ _ (cc) (omega arith) (omega arith) (omega arith) (omega arith))))
+
+pub returns : goal.returns
+returns c =
+    let l : tie.At-loop-i = c.before.before.before.before.before.before.before.before in
+    let s = l.args in
+    up_last _ _ s.from _ s.n l.loop-i.i (cc) (omega arith) (omega arith) (omega arith)

@@ -1,0 +1,13 @@
+use Prim.Native.Nat.{◌≤◌, ◌+◌, ◌-◌}
+use mathlib.Core.Path.{◌≡◌, refl}
+use native.Mathlib.Omega.{arith}
+use lib.ListN.{length}
+use Rattle.buffer.proofs.Moves.{moved, up_none, up_turn, up_last}
+use borrow.Author.Rules.{rules}
+use Rattle.buffer.proofs.move_up.Given as goal
+
+abbrev pub invariant-loop-i : goal.invariant-loop-i
+invariant-loop-i l = (l.i ≤ l.n) × ((length l.room ≡ 512) × ((length l.a ≡ length l.initial.a) × (l.a ≡ moved (l.from + l.i) (l.to + l.i) (l.n - l.i) l.initial.a)))
+
+abbrev pub decreases-loop-i : goal.decreases-loop-i
+decreases-loop-i l = l.i

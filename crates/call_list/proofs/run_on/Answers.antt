@@ -1,0 +1,33 @@
+-- `call_list::run_on` meets its contract: words that are no list are refused, and else the calls are made.
+use mathlib.Core.Path.{◌≡◌, sym, ◌∙◌}
+use mathlib.Core.Bool.{true}
+use native.Mathlib.Omega.{arith}
+use borrow.Author.Tests.{not-true, not-false}
+use borrow.Author.Rules.{rules}
+use Rattle.machine.specs.CallList.{is_call_list}
+use Rattle.call_list.proofs.Runs as R
+use Rattle.call_list.proofs.run_on.Goals as goal
+use Rattle.call_list.proofs.run_on.Tie as tie
+use Rattle.call_list.proofs.run_on.Goals.{Start}
+
+-- the words encode a list of calls
+abbrev start : tie.After-is_call_list → Start
+start c = c.before.before.before.before.before
+
+encoded : (c : tie.Else-not-is_call_list) → is_call_list (start c.before).args.words.now (start c.before).args.bytes.now ≡ true
+encoded c = sym c.is_call_list.ensures ∙ not-false _ c.if-not-is_call_list.false
+
+pub returns-then-not-is_call_list : goal.returns-then-not-is_call_list
+returns-then-not-is_call_list c =
+    let t = (goal.at.returns-then-not-is_call_list c).Then-not-is_call_list in
+    c.not_run.ensures _ _
+    ∙ R.not_made _ _ _ (c.refuse.ensures _ _ (omega arith))
+    ∙ R.no-list-on _ _ _ (sym t.is_call_list.ensures ∙ not-true _ t.if-not-is_call_list.true)
+
+pub run_calls-requires : goal.run_calls-requires
+run_calls-requires c = encoded c.before.before.before
+
+pub returns : goal.returns
+returns c =
+    let k = c.before.before.before.before.before.before in
+    c.done.ensures _ _ ∙ R.ran_on _ _ _ (encoded k.before.before.before) _ k.run_calls.ensures

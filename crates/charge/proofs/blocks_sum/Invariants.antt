@@ -1,0 +1,20 @@
+use mathlib.Core.List.{List}
+use Prim.Native.Nat.{ℕ}
+use mathlib.Core.Path.{◌≡◌, refl}
+use native.Mathlib.Omega.{arith}
+use Rattle.fields.specs.Parse.{ok, many}
+use Rattle.pod.specs.Values.{BasicBlock}
+use Rattle.pod.specs.Layout.{block}
+use Rattle.machine.specs.Charge.{Rates, total, block_sum}
+use Rattle.charge.specs.Sums.{Table}
+use Rattle.charge.proofs.Totals.{Left, begins, ends, goes_on, stays_below}
+use borrow.Author.Rules.{rules}
+use Rattle.charge.proofs.blocks_sum.Given as goal
+
+abbrev pub invariant-loop-blocks : goal.invariant-loop-blocks
+invariant-loop-blocks l =
+    (rates : Rates) → Table rates l.table → (bs : List BasicBlock) (n : ℕ) → many block l.count l.s l.at ≡ ok bs n
+    → Left block (block_sum rates) l.s n (total (block_sum rates) bs) l.blocks l.o l.sum
+
+abbrev pub decreases-loop-blocks : goal.decreases-loop-blocks
+decreases-loop-blocks l = l.blocks

@@ -1,0 +1,52 @@
+-- The sum so far is at most a rate of 32 bits for each instruction passed, so it does not wrap; and with what is left it comes to the whole.
+use mathlib.Core.List.{List}
+use Prim.Native.Nat.{ℕ, ◌+◌, ◌*◌, ◌≤◌}
+use mathlib.Core.Path.{◌≡◌, refl, ◌∙◌}
+use native.Mathlib.Omega.{arith}
+use Rattle.fields.specs.Parse.{ok, many}
+use Rattle.pod.specs.Values.{Instruction}
+use Rattle.pod.specs.Layout.{instruction}
+use Rattle.ends.proofs.Same.{instruction_ends}
+use Rattle.machine.specs.Charge.{Rates, total, rate_of}
+use Rattle.charge.specs.Sums.{Table}
+use Rattle.machine.proofs.Sums.{most_rate}
+use Rattle.fields.specs.Bytes.{Bytes}
+use Rattle.instruction.proofs.Operation.{op-listed}
+use Rattle.charge.proofs.Tables.{in_table_is}
+use Rattle.charge.proofs.Totals.{Left, begins, ends, goes_on}
+use borrow.Author.Rules.{rules}
+use Rattle.charge.proofs.instructions_sum.Goals as goal
+use Rattle.charge.proofs.instructions_sum.Tie as tie
+use Rattle.charge.proofs.instructions_sum.Goals.{After-rate_at}
+
+pub loop-left-init : goal.loop-left-init
+loop-left-init c = (omega arith, λ rates t xs n e. begins xs e refl)
+
+abbrev turn : After-rate_at → tie.At-loop-left
+turn c = c.before.before.before
+
+abbrev known : tie.At-loop-left → tie.After-shared_slice_known-1
+known c = c.before.before
+
+bytes : (c : tie.At-loop-left) → Bytes (known c).args.s.now
+bytes c = (known c).shared_slice_known-1.given
+
+-- one more rate
+small : (c : After-rate_at) → c.rate_at.result ≤ most_rate
+small c = omega (arith, c.rate_at.type-inv)
+
+pub overflow_add-sum : goal.overflow_add-sum
+overflow_add-sum c = record { fits = omega (arith, small c, (turn c).loop-left.invariant.0, c.loop-left-test.true) }
+
+pub loop-left-preserved : goal.loop-left-preserved
+loop-left-preserved c =
+    let r = (goal.at.loop-left-preserved c).After-rate_at in
+    let l = turn r in (
+      omega (arith, small r, l.loop-left.invariant.0, r.loop-left-test.true),
+      λ rates t xs n e.
+          goes_on _ _ (l.loop-left.invariant.1 rates t xs n e) (omega (arith, r.loop-left-test.true))
+          (λ i k q. (r.rate_at.ensures i k q ∙ in_table_is t i (op-listed _ _ q (bytes l)), c.instruction_end-o.ensures ∙ instruction_ends _ _ q)),
+    )
+
+pub returns : goal.returns
+returns c = λ rates t xs n e. ends _ (c.loop-left.invariant.1 rates t xs n e) (omega (arith, c.loop-left-test.false))

@@ -1,0 +1,15 @@
+-- A list of registers passed over after what was passed over so far.
+use Rattle.pod.specs.Told.{judged_both}
+use Rattle.convention.proofs.Skip.{told-past, told-refused}
+use borrow.Author.Rules.{rules}
+use Rattle.convention.proofs.then_registers.Goals as goal
+
+pub returns-in-Past : goal.returns-in-Past
+unfolding judged_both
+returns-in-Past c =
+    let list = (goal.at.returns-in-Past c).After-registers_skip in
+    told-past _ list.far-1.given.1 (rw (c.told_both.ensures, list.registers_skip.ensures))
+
+pub returns-in_default : goal.returns-in_default
+unfolding judged_both
+returns-in_default c = told-refused _ c.enum_told-1.given.1

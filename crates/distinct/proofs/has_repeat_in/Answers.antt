@@ -1,0 +1,44 @@
+-- Each way out has its own reason: too few blocks, the highest number twice, or the passes.
+use native.Mathlib.Omega.{arith}
+use mathlib.Core.Path.{◌≡◌, sym}
+use lib.ListN.{length, take}
+use lib.Seq.{length-take-le}
+use Rattle.distinct.specs.Walked.{vipsFrom, TopTwice}
+use mathlib.Core.Bool.{false}
+use Rattle.distinct.proofs.Rounds.{few, not-twice}
+use borrow.Author.Rules.{rules}
+use Rattle.distinct.proofs.has_repeat_in.Goals as goal
+use Rattle.distinct.proofs.has_repeat_in.Tie as tie
+use Rattle.distinct.proofs.has_repeat_in.Goals.{After-passes-arg-1, Start}
+
+-- The way through the code, each place from the next.
+abbrev start : tie.After-top_twice → Start
+start c = c.before.before.before.before
+
+abbrev searched : tie.Else-top_twice → tie.After-top_twice
+searched c = c.before
+
+abbrev part : After-passes-arg-1 → tie.Else-top_twice
+part c = c.before.before.before
+
+-- the highest number is not there twice, and a part of the buffer is as long as there are blocks
+apart : (c : tie.Else-top_twice) → let a = (start (searched c)).args in TopTwice (vipsFrom a.s.now a.start a.count) false
+apart c = not-twice (searched c).top_twice.ensures c.if-top_twice.false
+
+fits : (c : After-passes-arg-1) → let a = (start (searched (part c))).args in length (take a.count a.b-1.now) ≡ a.count
+fits c = length-take-le _ _ (omega arith)
+
+pub returns-then-count-lt2 : goal.returns-then-count-lt2
+returns-then-count-lt2 c = sym (few _ _ _ (omega arith))
+
+pub returns-then-top_twice : goal.returns-then-top_twice
+returns-then-top_twice c = sym (c.top_twice.ensures.twice c.if-top_twice.true)
+
+pub slice_bounds-passes-end-then-count-b : goal.slice_bounds-passes-end-then-count-b
+slice_bounds-passes-end-then-count-b c = sym (fits c)
+
+pub passes-requires : goal.passes-requires
+passes-requires c = (omega (arith, fits c), apart (part c))
+
+pub passes-requires-else-count-b : goal.passes-requires-else-count-b
+passes-requires-else-count-b c = (omega arith, apart c.before.before.before)

@@ -1,0 +1,15 @@
+use Prim.Native.Nat.{◌-◌}
+use native.Mathlib.Omega.{arith}
+use mathlib.Core.Path.{sym}
+use lib.ListN.{length}
+use Rattle.distinct.specs.Walked.{vipsFrom}
+use Rattle.sorting.specs.Buffer.{TOP}
+use Rattle.distinct.proofs.Rounds.{Passing, pass-start, pass-twice, pass-more, pass-end}
+use borrow.Author.Rules.{rules}
+use Rattle.distinct.proofs.passes.Given as goal
+
+abbrev pub invariant-loop-lo : goal.invariant-loop-lo
+invariant-loop-lo l = Passing (vipsFrom l.s l.start l.count) (length l.initial.b) l.b l.lo
+
+abbrev pub decreases-loop-lo : goal.decreases-loop-lo
+decreases-loop-lo l = TOP - l.lo

@@ -1,0 +1,37 @@
+-- How often the highest number was passed (`Tops`). The measure is the number of blocks left.
+use native.Mathlib.Omega.{arith}
+use Rattle.distinct.specs.Walked.{vipsFrom}
+use Rattle.distinct.proofs.Walks.{Tops, BlockRead, tops_other, tops_first, tops_twice, tops_end}
+use borrow.Author.Rules.{rules}
+use Rattle.distinct.proofs.top_twice.Goals as goal
+use Rattle.distinct.proofs.top_twice.Tie as tie
+use Rattle.distinct.proofs.top_twice.Goals.{After-block_at-b, Start}
+
+-- the way through the code, each place from the next; and the block that is read in a turn
+abbrev start : tie.At-loop-left → Start
+start c = c.before.before
+
+abbrev turn : After-block_at-b → tie.At-loop-left
+turn c = c.before.before.before
+
+abbrev reading : tie.Then-b → After-block_at-b
+reading c = c.before.before
+
+block : (c : After-block_at-b)
+    → let b = c.block_at-b.result in let l = (turn c).loop-left in BlockRead (start (turn c)).args.s.now l.left l.at b.vip.0 b.next
+block c = record { vip = c.block_at-b.ensures.0; end = c.block_at-b.ensures.1; some = omega arith }
+
+pub returns-then-seen-gt0 : goal.returns-then-seen-gt0
+returns-then-seen-gt0 c = let b = reading c.before.before in tops_twice (block b) (turn b).loop-left.invariant (omega arith) (omega arith)
+
+pub loop-left-preserved-then-b : goal.loop-left-preserved-then-b
+loop-left-preserved-then-b c = let b = reading c.before.before in tops_first (block b) (turn b).loop-left.invariant (omega arith) (omega arith)
+
+pub loop-left-preserved : goal.loop-left-preserved
+loop-left-preserved c = let b = (goal.at.loop-left-preserved c).After-block_at-b in tops_other (block b) (turn b).loop-left.invariant (λ e. omega arith)
+
+pub loop-left-init : goal.loop-left-init
+loop-left-init c = record { few = omega arith; is = omega arith }
+
+pub returns : goal.returns
+returns c = tops_end c.loop-left.invariant (omega arith)

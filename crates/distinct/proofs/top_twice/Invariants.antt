@@ -1,0 +1,11 @@
+use native.Mathlib.Omega.{arith}
+use Rattle.distinct.specs.Walked.{vipsFrom}
+use Rattle.distinct.proofs.Walks.{Tops, BlockRead, tops_other, tops_first, tops_twice, tops_end}
+use borrow.Author.Rules.{rules}
+use Rattle.distinct.proofs.top_twice.Given as goal
+
+abbrev pub invariant-loop-left : goal.invariant-loop-left
+invariant-loop-left l = Tops l.s (vipsFrom l.s l.start l.count) l.left l.at l.seen
+
+abbrev pub decreases-loop-left : goal.decreases-loop-left
+decreases-loop-left l = l.left

@@ -1,0 +1,12 @@
+-- The blocks left lead to the same end as all of them from the start. The measure is how many are left.
+use mathlib.Core.Path.{◌≡◌}
+use Rattle.ends.specs.Ends.{times, blockEnd}
+use Rattle.ends.proofs.Steps.{times-next, times-end}
+use borrow.Author.Rules.{rules}
+use Rattle.ends.proofs.blocks_end.Goals as goal
+
+pub loop-left-preserved : goal.loop-left-preserved
+loop-left-preserved c = search (rules, times-next)
+
+pub returns : goal.returns
+returns c = search (rules, times-end)

@@ -1,0 +1,11 @@
+use mathlib.Core.Path.{◌≡◌}
+use Rattle.ends.specs.Ends.{times, conventionEnd}
+use Rattle.ends.proofs.Steps.{times-next, times-end}
+use borrow.Author.Rules.{rules}
+use Rattle.ends.proofs.conventions_end.Given as goal
+
+abbrev pub invariant-loop-left : goal.invariant-loop-left
+invariant-loop-left l = times (conventionEnd l.s) l.left l.o ≡ times (conventionEnd l.s) l.count l.at
+
+abbrev pub decreases-loop-left : goal.decreases-loop-left
+decreases-loop-left l = l.left

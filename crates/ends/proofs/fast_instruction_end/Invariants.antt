@@ -1,0 +1,14 @@
+use native.Mathlib.Omega.{arith}
+use mathlib.Core.Path.{◌≡◌, refl}
+use Prim.Native.Nat.{◌+◌, ◌*◌, ◌≤◌}
+use lib.ListN.{length}
+use Rattle.ends.specs.Ends.{times, operandEnd}
+use Rattle.ends.proofs.Steps.{times-next, times-end, instruction-within}
+use borrow.Author.Rules.{rules}
+use Rattle.ends.proofs.fast_instruction_end.Given as goal
+
+abbrev pub invariant-loop-left : goal.invariant-loop-left
+invariant-loop-left l = (l.o + 28 * l.left + 21 ≤ length l.s) × (times (operandEnd l.s) l.left l.o ≡ times (operandEnd l.s) l.count (l.n + 4))
+
+abbrev pub decreases-loop-left : goal.decreases-loop-left
+decreases-loop-left l = l.left

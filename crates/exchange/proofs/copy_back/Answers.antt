@@ -1,0 +1,23 @@
+-- The loop's invariant: the first i bytes of b stand reversed before the end. A turn puts one before them.
+use Prim.Native.Nat.{◌≤◌, ◌+◌, ◌-◌}
+use mathlib.Core.Path.{◌≡◌, refl}
+use native.Mathlib.Omega.{arith}
+use lib.ListN.{length, take, length-set}
+use Rattle.bytes.specs.Bytes.{rev}
+use Rattle.fields.specs.Bytes.{put}
+use Rattle.exchange.proofs.Reversals.{back_none, back_more, back-all}
+use borrow.Author.Rules.{rules}
+use Rattle.exchange.proofs.copy_back.Goals as goal
+use Rattle.exchange.proofs.copy_back.Tie as tie
+
+pub loop-i-init : goal.loop-i-init
+loop-i-init c = (omega arith, (refl, back_none _ c.args.b.now _))
+
+pub loop-i-preserved : goal.loop-i-preserved
+loop-i-preserved c =
+    let at : tie.At-loop-i = c.before.before.before in
+    (omega arith, (simp length-set (omega arith), back_more _ at.args.b.now _ _ at.loop-i.i at.loop-i.invariant.1.1 (omega arith) (omega arith)))
+
+pub returns : goal.returns
+returns c =
+    back-all _ _ _ _ _ c.loop-i.invariant.1.1 (omega arith) (omega arith)

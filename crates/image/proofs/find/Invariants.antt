@@ -1,0 +1,15 @@
+use mathlib.Core.Path.{refl}
+use Prim.Native.Nat.{◌-◌, ◌≤◌, ◌<◌}
+use native.Mathlib.Omega.{arith}
+use lib.ListN.{length}
+use Rattle.pod.specs.Values.{Routine}
+use Rattle.book.specs.Holding.{Holding}
+use Rattle.image.proofs.Searches.{Walked, walk_start, walk_end, walk-hit, walk_next}
+use borrow.Author.Rules.{rules}
+use Rattle.image.proofs.find.Given as goal
+
+abbrev pub invariant-loop-i : goal.invariant-loop-i
+invariant-loop-i l = (l.i ≤ l.n) × ((x : Routine) → Holding l.image x → Walked x l.v l.i l.at)
+
+abbrev pub decreases-loop-i : goal.decreases-loop-i
+decreases-loop-i l = l.n - l.i

@@ -1,0 +1,14 @@
+-- `image::inspect_unwalked` meets its contract: by what `held` was, and by whether a walk is open.
+use native.Mathlib.Omega.{arith}
+use Rattle.image.proofs.Inspects.{unwalked-refused, unwalked_open, unwalked-held}
+use borrow.Author.Rules.{rules}
+use Rattle.image.proofs.inspect_unwalked.Goals as goal
+
+pub returns-then-refusal-ne0 : goal.returns-then-refusal-ne0
+returns-then-refusal-ne0 c = unwalked-refused _ c.inspect-refusal.ensures (λ z. omega (arith, c.if-refusal-ne0.true))
+
+pub returns-then-book-ne0 : goal.returns-then-book-ne0
+returns-then-book-ne0 c = let e = c.before.before.before in unwalked_open _ e.inspect-refusal.ensures (omega (arith, e.if-refusal-ne0.false)) (λ z. omega (arith, c.if-book-ne0.true))
+
+pub returns : goal.returns
+returns c = let e = c.before.before.before in unwalked-held _ e.inspect-refusal.ensures (omega (arith, e.if-refusal-ne0.false)) (omega (arith, c.if-book-ne0.false))

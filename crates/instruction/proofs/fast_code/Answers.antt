@@ -1,0 +1,48 @@
+-- The fast way to an operation: where the table knows the name, and the operand count after it is the one that it has.
+use native.Mathlib.Omega.{arith}
+use mathlib.Core.Path.{◌∙◌, sym}
+use Prim.Native.Nat.{◌+◌}
+use lib.ListN.{take, drop}
+use Rattle.op.specs.Packed.{Known}
+use Rattle.instruction.proofs.Pass.{found}
+use borrow.Author.Rules.{rules}
+use Rattle.instruction.proofs.fast_code.Goals as goal
+use Rattle.instruction.proofs.fast_code.Tie as tie
+use Rattle.instruction.proofs.fast_code.Goals.{After-four-n, Else-code-gt255, Start}
+
+-- The way through the code, each place from the next.
+abbrev sized : Else-code-gt255 → After-four-n
+sized c = (goal.at.Else-code-gt255 c).After-four-n
+
+abbrev lent : After-four-n → tie.After-shared_slice_known-1
+lent c = c.before.before.before.before
+
+abbrev start : Else-code-gt255 → Start
+start c = (lent (sized c)).before
+
+-- the table knows the name
+known : (c : Else-code-gt255) → Known (take (sized c).four-n.result (drop ((start c).args.at + 4) (start c).args.s.now)) (sized c).four-n.result c.fast_lookup-code.result
+known c = c.fast_lookup-code.ensures (omega (arith, c.if-code-gt255.false)) _ _ (lent (sized c)).shared_slice_known-1.given (omega arith) c.eight.ensures
+
+pub returns : goal.returns
+returns c h =
+    let l = (goal.at.returns c).Else-code-gt255 in
+    found _ _ _ _ (omega arith) (sized l).four-n.ensures (known l) (sym c.four.ensures ∙ c.if-four-code.false)
+
+pub returns-then-s-at : goal.returns-then-s-at
+returns-then-s-at c h = absurd (omega arith)
+
+pub returns-then-s-at-lt128 : goal.returns-then-s-at-lt128
+returns-then-s-at-lt128 c h = absurd (omega arith)
+
+pub returns-then-code-gt255 : goal.returns-then-code-gt255
+returns-then-code-gt255 c h = absurd (omega arith)
+
+pub overflow_add-a-2 : goal.overflow_add-a-2
+overflow_add-a-2 c = omega (arith, (known c).short)
+
+pub four-requires : goal.four-requires
+four-requires c = omega (arith, (known c).short)
+
+pub returns-then-four-code : goal.returns-then-four-code
+returns-then-four-code c h = absurd (omega arith)

@@ -1,0 +1,111 @@
+-- The fast way: it answers only where nothing is refused. The loop keeps that what was told of the operands so far, and what is left of them, tell what the
+-- whole run does, with room for each and for the fields after them.
+use native.Mathlib.Omega.{arith}
+use mathlib.Core.Path.{◌≡◌, sym, ap, ◌∙◌}
+use Prim.Native.Nat.{ℕ, ◌+◌, ◌-◌, ◌*◌, ◌/◌, ◌≤◌}
+use lib.ListN.{length, get_or, take, drop}
+use Rattle.fields.specs.Parse.{ok, many}
+use Rattle.fields.specs.Lists.{every}
+use Rattle.op.specs.Ops.{counts}
+use Rattle.op.specs.Packed.{Known}
+use Rattle.pod.specs.Layout.{operand, opcode}
+use Rattle.pod.specs.Sound.{operand_sound}
+use Rattle.pod.specs.Told.{judged}
+use Rattle.pod.proofs.Judged.{left, judge_start, judge_end, judge_skip}
+use Rattle.laws.proofs.Walks.{instruction-walked}
+use Rattle.instruction.specs.Answers.{Found}
+use Rattle.instruction.proofs.Pass.{found, fast_ok, fast_sound}
+use borrow.Author.Rules.{rules}
+use Rattle.instruction.proofs.fast_skip.Goals as goal
+use Rattle.instruction.proofs.fast_skip.Tie as tie
+use Rattle.instruction.proofs.fast_skip.Goals.{After-four-n, After-loop-left, Else-code-gt255, Else-count-code, Start}
+
+-- The way through the code, each place from the next.
+abbrev sized : Else-code-gt255 → After-four-n
+sized c = (goal.at.Else-code-gt255 c).After-four-n
+
+abbrev lent : After-four-n → tie.After-shared_slice_known-1
+lent c = c.before.before.before.before
+
+abbrev start : Else-code-gt255 → Start
+start c = (lent (sized c)).before
+
+abbrev counted : Else-count-code → Else-code-gt255
+counted c = (goal.at.Else-count-code c).Else-code-gt255
+
+-- the table knows the name, and so what stands at the instruction's start is found
+known : (c : Else-code-gt255)
+    → Known (take (sized c).four-n.result (drop ((start c).args.at + 4) (start c).args.s.now)) (sized c).four-n.result c.fast_lookup-code.result
+known c = c.fast_lookup-code.ensures (omega (arith, c.if-code-gt255.false)) _ _ (lent (sized c)).shared_slice_known-1.given (omega arith) c.eight.ensures
+
+here : (c : Else-count-code) → let l = counted c in Found (start l).args.s.now (start l).args.at l.fast_lookup-code.result
+here c = let l = counted c in found _ _ _ _ (omega arith) (sized l).four-n.ensures (known l) (sym c.four-count.ensures ∙ c.if-count-code.false)
+
+pub loop-left-init : goal.loop-left-init
+loop-left-init c = (omega (arith, (known (counted c)).short, c.if-count-code.false), judge_start operand operand_sound _ _ _)
+
+pub loop-left-preserved : goal.loop-left-preserved
+loop-left-preserved c =
+    let q = c.before.before.before in
+    let l = q.loop-left in
+    let e = q.fast_operand-operand.ensures (omega (arith, c.if-o-eq0.false)) in
+    (omega (arith, e.1), judge_skip operand operand_sound _ _ _ _ l.invariant.1 q.loop-left-test.true e.0)
+
+-- Behind the loop: the operation was found, and its operands are passed over.
+abbrev begun : After-loop-left → Else-count-code
+begun c = (goal.at.After-loop-left c).Else-count-code
+
+abbrev is_op : (c : After-loop-left) → ℕ
+is_op c = (counted (begun c)).fast_lookup-code.result / 4
+
+abbrev operands_at : (c : After-loop-left) → ℕ
+operands_at c = let q = counted (begun c) in (start q).args.at + 4 + (sized q).four-n.result + 4
+
+opcode-read : (c : After-loop-left) → let a = (start (counted (begun c))).args in opcode a.s.now a.at ≡ ok (is_op c) (operands_at c)
+opcode-read c =
+    let q = counted (begun c) in
+    (here (begun c)).is ∙ ap (λ n. ok (is_op c) ((start q).args.at + 4 + n + 4)) (sym (sized q).four-n.ensures)
+
+operands_read : (c : After-loop-left)
+    → judged (many operand (get_or counts (is_op c) 0)) (every operand_sound) (start (counted (begun c))).args.s.now (operands_at c) ≡ ok c.loop-left.sound c.loop-left.o
+operands_read c =
+    let l = c.loop-left in
+    rw ((here (begun c)).takes, ← (begun c).if-count-code.false) (sym (judge_end operand operand_sound _ _ _ _ l.invariant.1 c.loop-left-test.false))
+
+pub returns : goal.returns
+returns c h =
+    let d = (goal.at.returns c).After-loop-left in
+    let s = (start (counted (begun d))).args.s.now in
+    let o = d.loop-left.o in
+    let room : o + 21 ≤ length s = omega (arith, d.loop-left.invariant.0) in
+    let last : o + 21 - 1 ≡ o + 20 = omega arith in
+    let past = fast_ok s _ _ o _ _ room (opcode-read d) (operands_read d) in
+    let seen = instruction-walked s (lent (sized (counted (begun d)))).shared_slice_known-1.given _ past (fast_sound s _ _ o _ _ room (opcode-read d) (operands_read d)) in
+    sym (rw last at seen)
+
+pub returns-then-s-at : goal.returns-then-s-at
+returns-then-s-at c h = absurd (omega arith)
+
+pub returns-then-s-at-lt128 : goal.returns-then-s-at-lt128
+returns-then-s-at-lt128 c h = absurd (omega arith)
+
+pub returns-then-code-gt255 : goal.returns-then-code-gt255
+returns-then-code-gt255 c h = absurd (omega arith)
+
+pub overflow_add-b : goal.overflow_add-b
+overflow_add-b c = omega (arith, (known c).short)
+
+pub four-count-requires : goal.four-count-requires
+four-count-requires c = omega (arith, (known c).short)
+
+pub returns-then-count-code : goal.returns-then-count-code
+returns-then-count-code c h = absurd (omega arith)
+
+pub overflow_add-o : goal.overflow_add-o
+overflow_add-o c = omega (arith, (known (counted c)).short)
+
+pub fast_operand-operand-requires : goal.fast_operand-operand-requires
+fast_operand-operand-requires c = omega arith
+
+pub returns-then-o-eq0 : goal.returns-then-o-eq0
+returns-then-o-eq0 c h = absurd (omega (arith, c.if-o-eq0.true))

@@ -1,0 +1,42 @@
+-- A run of operands passed over. The loop keeps that what is left is read as the whole run is, and so where registers are asked: there a crooked one has
+-- decided it.
+use mathlib.Core.Path.{◌≡◌, refl, ◌∙◌, sym, ap}
+use Rattle.fields.specs.Parse.{many, span}
+use Rattle.fields.proofs.Many.{run_end, run_next, run-stop}
+use Rattle.pod.specs.Layout.{operand}
+use Rattle.pod.specs.Sound.{sound_operand}
+use Rattle.pod.specs.Told.{asked}
+use Rattle.pod.specs.Answers.{of_operand}
+use Rattle.pod.proofs.Steps.{operand-told}
+use Rattle.instruction.proofs.Asking.{asked-sound, ask_end, ask_next, ask_stop}
+use Rattle.fields.proofs.Steps.{handed}
+use borrow.Author.Rules.{rules}
+use Rattle.instruction.proofs.operands_run.Goals as goal
+
+pub enum_told-1 : goal.enum_told-1
+enum_told-1 c = search rules
+
+pub loop-left-init : goal.loop-left-init
+loop-left-init c = (refl, asked-sound _ refl)
+
+pub returns-in_default : goal.returns-in_default
+returns-in_default c =
+    let d = c.before.before.before.before in
+    let l = d.loop-left.invariant in
+    let h = d.loop-left-test.true in
+    let e = sym (handed (ap of_operand c.enum_told-1.given.1) d.Operand-at.ensures.0 c.operand_refusal.ensures) in
+    (run-stop operand _ _ _ l.0 h e, ask_stop _ _ _ _ l.1 h e)
+
+pub loop-left-preserved : goal.loop-left-preserved
+loop-left-preserved c =
+    let d = c.before.before.before.before in
+    let l = d.loop-left.invariant in
+    let h = d.loop-left-test.true in
+    let told = c.operand-1.given.1 in
+    let e = sym d.Operand-at.ensures.0 ∙ ap of_operand told in
+    (run_next operand _ _ _ l.0 h e, ask_next _ _ _ _ l.1 h e (operand-told told d.Operand-at.ensures.1))
+
+pub returns : goal.returns
+returns c =
+    let l = c.loop-left.invariant in
+    (run_end operand _ _ _ l.0 c.loop-left-test.false, ask_end _ _ _ _ l.1 c.loop-left-test.false)

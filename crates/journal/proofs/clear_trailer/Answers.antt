@@ -1,0 +1,19 @@
+-- `journal::clear_trailer` meets its contract: from 20 before the used part's end to that end are 20 bytes.
+use mathlib.Core.Path.{◌≡◌, refl, ap, ◌∙◌}
+use Prim.Native.Nat.{◌-◌}
+use native.Mathlib.Omega.{arith}
+use Rattle.fields.specs.Bytes.{put, zeros}
+use borrow.Author.Rules.{rules}
+use Rattle.journal.proofs.clear_trailer.Goals as goal
+use Rattle.journal.proofs.clear_trailer.Tie as tie
+use Rattle.journal.proofs.clear_trailer.Goals.{Start}
+
+abbrev start : tie.After-clear → Start
+start c = c.before.before.before
+
+pub returns : goal.returns
+returns c =
+    let l = c.before.before.before in
+    let s = start l in
+    let k : s.args.used - (s.args.used - 20) ≡ 20 = omega (arith, s.requires.0) in
+    (refl, l.clear.ensures ∙ ap (λ n. put (s.args.used - 20) (zeros n) s.args.journal-1.now) k)

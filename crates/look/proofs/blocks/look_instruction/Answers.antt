@@ -1,0 +1,74 @@
+-- A refusal is that of reaching the block; then 15 by the number of its instructions; else the instruction is read where it stands.
+use mathlib.Core.Path.{◌≡◌, sym, ap, ◌∙◌}
+use Prim.Native.Nat.{◌+◌, ◌≤◌, ◌<◌}
+use native.Mathlib.Omega.{arith}
+use lib.ListN.{length}
+use Rattle.fields.specs.Bytes.{Bytes}
+use Rattle.pod.specs.Layout.{block}
+use Rattle.machine.specs.Look.{look_block}
+use Rattle.book.specs.Says.{state}
+use Rattle.value.specs.Answers.{instruction_read}
+use Rattle.look.specs.Answers.{instruction_look}
+use Rattle.look.specs.Reached.{Standing}
+use Rattle.look.proofs.Reaches.{element-no, refused_on, goes_on}
+use Rattle.look.proofs.InBlock.{instructions-listed, instruction-stands}
+use borrow.Author.Rules.{rules}
+use Rattle.look.proofs.blocks.look_instruction.Goals as goal
+use Rattle.look.proofs.blocks.look_instruction.Tie as tie
+use Rattle.look.proofs.blocks.look_instruction.Goals.{After-instruction-1, After-instructions_end-at, After-word32-count, Else-b-ne0, Start}
+
+abbrev start : tie.After-reach_block-b → Start
+start c = c.before.before.before
+
+abbrev reaching : tie.After-struct_known-1 → tie.After-reach_block-b
+reaching c = c.before
+
+abbrev counting : After-word32-count → Else-b-ne0
+counting c = (goal.at.After-word32-count c).Else-b-ne0
+
+abbrev walking : After-instruction-1 → After-instructions_end-at
+walking c = (goal.at.After-instruction-1 c).After-instructions_end-at
+
+there : (c : Else-b-ne0)
+    → let b = reaching c.before.before in
+    let a = (start b).args in
+    Standing block a.image.now (look_block a.block (state a.image.now a.journal.now a.book)) b.reach_block-b.result.at
+there c = (reaching c.before.before).reach_block-b.ensures.there (omega (arith, c.if-b-ne0.false))
+
+known : (c : Else-b-ne0) → Bytes (start (reaching c.before.before)).args.image.now
+known c = (reaching c.before.before).shared_slice_known-1.given
+
+room : (c : Else-b-ne0) → let b = reaching c.before.before in b.reach_block-b.result.at + 24 + 4 ≤ length (start b).args.image.now
+room c = (instructions-listed (known c) _ (there c).reads).fits
+
+counted : (c : After-word32-count) → c.word32-count.result ≡ length (there (counting c)).it.instructions
+counted c = c.word32-count.ensures ∙ (instructions-listed (known (counting c)) _ (there (counting c)).reads).count
+
+pub returns-then-b-ne0 : goal.returns-then-b-ne0
+unfolding instruction_look
+returns-then-b-ne0 c =
+    let b = reaching c.before.before.before in
+    c.no_instruction.ensures ∙ ap instruction_look (sym (refused_on _ _ (b.reach_block-b.ensures.refuses (omega (arith, c.if-b-ne0.true)))))
+
+pub returns-then-count-place : goal.returns-then-count-place
+unfolding instruction_look
+returns-then-count-place c =
+    let n = (goal.at.returns-then-count-place c).After-word32-count in
+    let t = there (counting n) in
+    c.no_instruction-then-count-place.ensures ∙ ap instruction_look (sym (goes_on _ _ t.is ∙ element-no _ t.it.instructions (omega (arith, counted n, c.if-count-place.true))))
+
+pub returns : goal.returns
+unfolding instruction_look instruction_read
+returns c =
+    let a = walking c in
+    let n = (goal.at.After-instructions_end-at a).After-word32-count in
+    let t = there (counting n) in
+    let h : (start (reaching (counting n).before.before)).args.place < length t.it.instructions = omega (arith, counted n, a.if-count-place.left) in
+    let i = instruction-stands (known (counting n)) _ t.reads _ h in
+    rw (c.instruction_by_fields-found.ensures, a.instructions_end-at.ensures, i.reads) (ap instruction_look (sym (goes_on _ _ t.is ∙ i.is)))
+
+pub overflow_add-start : goal.overflow_add-start
+overflow_add-start c = omega (arith, room c)
+
+pub overflow_add-start-2 : goal.overflow_add-start-2
+overflow_add-start-2 c = omega (arith, room (counting (goal.at.overflow_add-start-2 c).After-word32-count))

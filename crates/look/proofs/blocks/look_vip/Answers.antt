@@ -1,0 +1,71 @@
+-- A refusal is that of reaching the block; then 15 by the number of its vips, 0 of a list that is not there; else the vip is read where it stands.
+use mathlib.Core.Path.{sym, ap, ◌∙◌}
+use Prim.Native.Nat.{ℕ, ◌+◌, ◌*◌, ◌≤◌, ◌<◌}
+use native.Mathlib.Omega.{arith}
+use lib.ListN.{length}
+use Rattle.fields.specs.Parse.{u64}
+use Rattle.pod.specs.Layout.{block}
+use Rattle.machine.specs.Look.{look_block, vip_list}
+use Rattle.book.specs.Says.{state}
+use Rattle.pread.specs.Answers.{vip_read}
+use Rattle.look.specs.Answers.{vip_look}
+use Rattle.look.specs.Reached.{Standing, Lists}
+use Rattle.look.proofs.Reaches.{refused_on, goes_on}
+use Rattle.look.proofs.Listing.{vip-sized, element-past, element-there, element-room}
+use borrow.Author.Rules.{rules}
+use Rattle.look.proofs.blocks.look_vip.Goals as goal
+use Rattle.look.proofs.blocks.look_vip.Tie as tie
+use Rattle.look.proofs.blocks.look_vip.Goals.{Else-b-ne0, Else-vips-place, Start}
+
+abbrev start : tie.After-reach_block-b → Start
+start c = c.before.before.before
+
+abbrev reaching : Else-b-ne0 → tie.After-reach_block-b
+reaching c = c.before.before.before
+
+abbrev place : tie.After-vips_of-vips → ℕ
+place c = (start (reaching c.before)).args.place
+
+abbrev choosing : Else-vips-place → tie.After-vips_of-vips
+choosing c = c.before.before.before
+
+there : (c : Else-b-ne0)
+    → let p = reaching c in
+    let a = (start p).args in
+    Standing block a.image.now (look_block a.block (state a.image.now a.journal.now a.book)) p.reach_block-b.result.at
+there c = (reaching c).reach_block-b.ensures.there (omega (arith, c.if-b-ne0.false))
+
+list : (c : tie.After-vips_of-vips) → let a = (start (reaching c.before)).args in Lists u64 a.image.now (vip_list a.list (there c.before).it) c.vips_of-vips.result
+list c = let t = there c.before in c.vips_of-vips.ensures t.it t.end t.reads
+
+within : (c : Else-vips-place) → place (choosing c) < (choosing c).vips_of-vips.result.count
+within c = omega (arith, c.if-vips-place.false)
+
+room : (c : Else-vips-place) → let n = choosing c in n.vips_of-vips.result.first + 8 * place n + 8 ≤ length (start (reaching n.before)).args.image.now
+room c = element-room (list (choosing c)) _ 8 (vip-sized _) (within c)
+
+pub returns-then-b-ne0 : goal.returns-then-b-ne0
+unfolding vip_look
+returns-then-b-ne0 c =
+    let p = c.before.before.before.before in
+    c.no_vip.ensures ∙ ap vip_look (sym (refused_on _ _ (p.reach_block-b.ensures.refuses (omega (arith, c.if-b-ne0.true)))))
+
+pub returns-then-vips-place : goal.returns-then-vips-place
+unfolding vip_look
+returns-then-vips-place c =
+    let n = c.before.before.before.before in
+    c.no_vip-then-vips-place.ensures ∙ ap vip_look (sym (goes_on _ _ (there n.before).is ∙ element-past (list n) (place n) (omega (arith, c.if-vips-place.true))))
+
+pub returns : goal.returns
+unfolding vip_look vip_read
+returns c =
+    let d = (goal.at.returns c).Else-vips-place in
+    let n = choosing d in
+    let t = element-there (list n) _ 8 (vip-sized _) (within d) in
+    rw (c.vip_at-found.ensures, t.reads) (ap vip_look (sym (goes_on _ _ (there n.before).is ∙ t.is)))
+
+pub overflow_mul-place : goal.overflow_mul-place
+overflow_mul-place c = omega (arith, room c)
+
+pub overflow_add-vips : goal.overflow_add-vips
+overflow_add-vips c = omega (arith, room (goal.at.overflow_add-vips c).Else-vips-place)

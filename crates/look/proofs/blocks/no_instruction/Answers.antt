@@ -1,0 +1,8 @@
+-- The zeros are those of a refused reading.
+use Rattle.value.specs.Answers.{instruction_read}
+use borrow.Author.Rules.{rules}
+use Rattle.look.proofs.blocks.no_instruction.Goals as goal
+
+pub returns : goal.returns
+unfolding instruction_read
+returns c = rw c.refused-none.ensures

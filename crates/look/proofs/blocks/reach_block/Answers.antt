@@ -1,0 +1,53 @@
+-- 10 and 13 by the inspection, then 15 by the number of blocks; and the walk to the place.
+use mathlib.Core.Path.{refl, ap, ◌∙◌}
+use Prim.Native.Nat.{◌<◌}
+use native.Mathlib.Omega.{arith}
+use lib.ListN.{length}
+use Rattle.fields.specs.Parse.{many}
+use Rattle.pod.specs.Layout.{block}
+use Rattle.pod.specs.Written.{block_bytes}
+use Rattle.laws.proofs.Back.{many-reads}
+use Rattle.laws.proofs.Layouts.{block_layout}
+use Rattle.book.specs.Says.{state}
+use Rattle.image.proofs.Inspects.{Ready, ready}
+use Rattle.image.proofs.Stands.{blocks_at}
+use Rattle.ends.proofs.Same.{block_ends}
+use Rattle.look.proofs.Reaches.{element-no, element-read, hands_on, finds_none, comes_to}
+use borrow.Author.Rules.{rules}
+use Rattle.look.proofs.blocks.reach_block.Goals as goal
+use Rattle.look.proofs.blocks.reach_block.Tie as tie
+use Rattle.look.proofs.blocks.reach_block.Goals.{After-struct_known-1, Else-refusal-ne0, Start}
+
+abbrev lending : tie.After-inspect-refusal → tie.After-shared_slice_known-1
+lending c = c.before.before
+
+abbrev start : tie.After-inspect-refusal → Start
+start c = (lending c).before
+
+abbrev inspecting : tie.After-blocks_of-blocks → Else-refusal-ne0
+inspecting c = c.before
+
+abbrev counting : After-struct_known-1 → tie.After-blocks_of-blocks
+counting c = c.before.before
+
+inspected : (c : Else-refusal-ne0) → let a = (start c.before.before).args in Ready (state a.image.now a.journal.now a.book)
+inspected c = ready _ (lending c.before.before).shared_slice_known-1.given c.inspect-refusal.ensures (omega (arith, c.if-refusal-ne0.false))
+
+pub returns-then-refusal-ne0 : goal.returns-then-refusal-ne0
+returns-then-refusal-ne0 c = hands_on _ _ c.inspect-refusal.ensures (omega (arith, c.if-refusal-ne0.true))
+
+pub returns-then-blocks-place : goal.returns-then-blocks-place
+returns-then-blocks-place c =
+    let b = counting (goal.at.returns-then-blocks-place c).After-struct_known-1 in
+    let r = inspected (inspecting b) in
+    finds_none _ _ r.is (element-no _ r.routine.explored_blocks (omega (arith, (b.blocks_of-blocks.ensures r.routine r.holding).1, c.if-blocks-place.true)))
+
+pub returns : goal.returns
+returns c =
+    let b = counting (goal.at.returns c).After-struct_known-1 in
+    let r = inspected (inspecting b) in
+    let e = b.blocks_of-blocks.ensures r.routine r.holding in
+    let h : (start (inspecting b).before.before).args.place < length r.routine.explored_blocks = omega (arith, e.1, c.if-blocks-place.false) in
+    let bs = r.routine.explored_blocks in
+    let all = ap (many block _ _) e.0 ∙ many-reads block block_bytes block_layout.back _ bs refl r.holding.holds.blocks.listed.each _ _ (blocks_at r.holding) in
+    comes_to _ _ r.is (rw c.blocks_end-at.ensures (element-read block _ _ (λ o b n. block_ends _ o) _ _ bs all h))

@@ -1,0 +1,71 @@
+-- A refusal is the inspection's; else each number is what stands in the image.
+use mathlib.Core.Path.{◌≡◌, sym, ap, ◌∙◌}
+use mathlib.Core.List.{[]}
+use Prim.Native.Nat.{ℕ, ◌%◌, ◌<◌}
+use native.Mathlib.Omega.{arith}
+use lib.ListN.{length, get_or}
+use Rattle.pod.specs.Written.{bytes}
+use Rattle.laws.proofs.At.{fits, first}
+use Rattle.laws.proofs.Back.{length-bytes}
+use Rattle.machine.specs.Book.{State, held}
+use Rattle.book.specs.Says.{state}
+use Rattle.ends.specs.Ends.{word}
+use Rattle.image.proofs.Inspects.{Ready, ready, refused-by}
+use Rattle.image.proofs.Stands.{word_at, machine-at, entry_at}
+use Rattle.look.specs.Answers.{routine_look}
+use borrow.Author.Rules.{rules}
+use Rattle.look.proofs.look_routine.Goals as goal
+use Rattle.look.proofs.look_routine.Tie as tie
+use Rattle.look.proofs.look_routine.Goals.{After-blocks_of-blocks, After-special_count-spec_conventions, After-word64, Start}
+
+-- the machine's byte
+module _ {s : State} (r : Ready s) where
+  machine-room : 4 < length s.image
+  machine-room = omega (arith, fits (machine-at r.holding), length-bytes 1 r.routine.arch_id)
+
+  machine-is : get_or s.image 4 0 ≡ r.routine.arch_id
+  unfolding bytes
+  machine-is =
+      let small : r.routine.arch_id % 256 ≡ r.routine.arch_id = omega (arith, r.holding.holds.machine) in
+      first (r.routine.arch_id % 256) [] (machine-at r.holding) ∙ small
+
+  -- what is read of the routine
+  routine-is : {v n k : ℕ} → v ≡ word 8 s.image 8 → n ≡ length r.routine.spec_subroutine_conventions → k ≡ length r.routine.explored_blocks
+      → record { refusal = 0; arch_id = get_or s.image 4 0; vip = record { 0 = v }; spec_conventions = n; blocks = k } ≡ routine_look (held s)
+  unfolding routine_look
+  routine-is e f g = rw (e ∙ word_at 8 _ _ r.holding.holds.entry (entry_at r.holding), f, g, machine-is, r.is)
+
+abbrev lending : tie.After-inspect-refusal → tie.After-shared_slice_known-1
+lending c = c.before.before
+
+abbrev start : tie.After-inspect-refusal → Start
+start c = (lending c).before
+
+abbrev inspecting : After-word64 → tie.Else-refusal-ne0
+inspecting c = c.before.before.before
+
+abbrev reading : After-special_count-spec_conventions → After-word64
+reading c = (goal.at.After-special_count-spec_conventions c).After-word64
+
+abbrev counting : After-blocks_of-blocks → After-special_count-spec_conventions
+counting c = (goal.at.After-blocks_of-blocks c).After-special_count-spec_conventions
+
+inspected : (c : tie.Else-refusal-ne0) → let a = (start c.before).args in Ready (state a.image.now a.journal.now a.book)
+inspected c = ready _ (lending c.before).shared_slice_known-1.given c.inspect-refusal.ensures (omega (arith, c.if-refusal-ne0.false))
+
+pub returns-then-refusal-ne0 : goal.returns-then-refusal-ne0
+unfolding routine_look
+returns-then-refusal-ne0 c = ap routine_look (sym (refused-by _ c.inspect-refusal.ensures (λ z. omega (arith, c.if-refusal-ne0.true))))
+
+pub returns : goal.returns
+returns c =
+    let b = (goal.at.returns c).After-blocks_of-blocks in
+    let n = counting b in
+    let r = inspected (inspecting (reading n)) in
+    routine-is r (reading n).word64.ensures (n.special_count-spec_conventions.ensures _ r.holding) (b.blocks_of-blocks.ensures _ r.holding).1
+
+pub bounds-image-4 : goal.bounds-image-4
+bounds-image-4 c = machine-room (inspected c.before.before)
+
+pub overflow_cast-arch_id : goal.overflow_cast-arch_id
+overflow_cast-arch_id c = omega (arith, c.shared_slice_known-3-1.given 4)

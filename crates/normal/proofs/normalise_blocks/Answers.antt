@@ -1,0 +1,54 @@
+-- The loop's invariant: those passed are in place, as many as are left are read from where the loop stands, and the sum so far with theirs is the whole.
+-- The measure is how many are left.
+use Prim.Native.Nat.{ℕ}
+use native.Mathlib.Omega.{arith}
+use mathlib.Core.Path.{◌≡◌, refl, ◌∙◌}
+use mathlib.Core.List.{List}
+use lib.ListN.{length}
+use Rattle.fields.specs.Parse.{ok, counted}
+use Rattle.pod.specs.Values.{BasicBlock}
+use Rattle.pod.specs.Layout.{block}
+use Rattle.pod.specs.Written.{block_bytes}
+use Rattle.charge.specs.Sums.{block_in}
+use Rattle.laws.proofs.Local.{local-block}
+use Rattle.normal.proofs.Runs.{Run, run-start, run_next, run_below, run_end, run_sum}
+use borrow.Author.Rules.{rules}
+use Rattle.normal.proofs.normalise_blocks.Goals as goal
+use Rattle.normal.proofs.normalise_blocks.Tie as tie
+use Rattle.normal.proofs.normalise_blocks.Goals.{After-jump-o, After-word32-left}
+
+-- The way through the code, each place from the next.
+abbrev known : After-word32-left → tie.After-slice_known-1
+known c = (goal.at.After-word32-left c).Start
+
+abbrev counting : After-jump-o → After-word32-left
+counting c = (goal.at.After-jump-o c).After-shared_slice_known-1
+
+abbrev turn : tie.After-normalise_block-passed → tie.In-loop-left
+turn c = c.before.before
+
+pub loop-left-init : goal.loop-left-init
+loop-left-init c =
+    let w = counting c in
+    (refl, λ xs n e. run-start (known w).slice_known-1.given e w.word32-left.ensures c.jump-o.ensures)
+
+-- with one block more the sum is no more than the whole, which fits
+pub overflow_add-sum : goal.overflow_add-sum
+overflow_add-sum c =
+    let call = c.before.before.before.before in
+    let l = turn call in
+    let w = (known (counting l.before.before)).requires in
+    let below = run_below (l.loop-left.invariant.1 w.x w.end w.reads) local-block l.loop-left-test.taken call.normalise_block-passed.ensures in
+    omega (arith, below, w.fits)
+
+pub loop-left-preserved : goal.loop-left-preserved
+loop-left-preserved c =
+    let call = c.before.before.before.before in
+    let l = turn call in
+    let inv = l.loop-left.invariant in
+    (call.normalise_block-passed.auto.0 ∙ inv.0, λ xs n e. run_next (inv.1 xs n e) local-block l.loop-left-test.taken call.normalise_block-passed.ensures)
+
+pub returns : goal.returns
+returns c =
+    let inv = c.loop-left.invariant in
+    record { when = λ xs n e. run_end (inv.1 xs n e) c.loop-left-test.false; sums = λ xs n e. run_sum (inv.1 xs n e) c.loop-left-test.false }

@@ -1,0 +1,27 @@
+-- The loop's invariant: those passed are in place, and as many as are left are read from where the loop stands. The measure is how many are left.
+use Prim.Native.Nat.{ℕ}
+use mathlib.Core.Path.{◌≡◌, refl, ◌∙◌}
+use mathlib.Core.List.{List}
+use lib.ListN.{length}
+use Rattle.fields.specs.Parse.{ok, counted}
+use Rattle.pod.specs.Values.{RoutineConvention}
+use Rattle.pod.specs.Layout.{convention}
+use Rattle.pod.specs.Written.{convention_bytes}
+use Rattle.laws.proofs.Local.{local-convention}
+use Rattle.normal.specs.Over.{nothing}
+use Rattle.normal.proofs.Runs.{Run, run-start, run_next, run_end}
+use borrow.Author.Rules.{rules}
+use Rattle.normal.proofs.normalise_conventions.Goals as goal
+
+pub loop-left-init : goal.loop-left-init
+loop-left-init c = (refl, λ xs n e. run-start c.slice_known-1.given e c.word32-left.ensures c.jump-o.ensures)
+
+pub loop-left-preserved : goal.loop-left-preserved
+loop-left-preserved c =
+    let call = c.before.before.before in
+    let turn = call.before.before in
+    let inv = turn.loop-left.invariant in
+    (call.normalise_convention-o.auto.0 ∙ inv.0, λ xs n e. run_next (inv.1 xs n e) local-convention turn.loop-left-test.true call.normalise_convention-o.ensures)
+
+pub returns : goal.returns
+returns c = record { when = λ xs n e. run_end (c.loop-left.invariant.1 xs n e) c.loop-left-test.false; sums = λ xs n e. refl }

@@ -1,0 +1,50 @@
+-- The fast lookup: where the entry found has the name's own key, it is that of the name.
+use native.Mathlib.Omega.{arith}
+use mathlib.Core.Path.{◌≡◌, ap, subst, ◌∙◌, sym}
+use Prim.Native.Nat.{ℕ, ◌*◌, ◌/◌, ◌%◌, ◌^◌, ◌≤◌, ◌<◌}
+use Rattle.fields.specs.Parse.{le}
+use Rattle.op.specs.Packed.{bits, Entry}
+use Rattle.op.specs.declared.Slot.{Slot}
+use Rattle.op.proofs.Packed.{low_below, known, bits-long}
+use borrow.Author.Rules.{rules}
+use Rattle.op.proofs.fast_lookup.Goals as goal
+use Rattle.op.proofs.fast_lookup.Goals.{After-low-v, After-slot_of, Start}
+
+-- The way through the code, each place from the next.
+abbrev measured : After-low-v → Start
+measured c = (goal.at.After-low-v c).Start
+
+abbrev asked : After-slot_of → After-low-v
+asked c = (goal.at.After-slot_of c).After-low-v
+
+-- What is known there: n is at most 6, so the lowest n bytes are less than 2^48.
+short : (c : After-low-v) → (measured c).args.n ≤ 6
+short c = omega arith
+
+small : (c : After-low-v) → c.low-v.result < 2 ^ 48
+small c = omega (arith, c.low-v.ensures, low_below (measured c).args.word (measured c).args.n (short c))
+
+-- the entry found is for names of that length
+at_bits : (n v h : ℕ) (r : Slot) → h ≡ bits n v → Entry (h / 32) h r → Entry n (bits n v) r
+at_bits n v h r e x = subst (λ k. Entry k (bits n v) r) (bits-long n v) (rw e at x)
+
+pub code_of-requires : goal.code_of-requires
+code_of-requires c = at_bits _ _ _ _ c.bits_of.ensures c.slot_of.ensures
+
+pub returns : goal.returns
+returns c h s o b l e =
+    let f = (goal.at.returns c).After-slot_of in
+    let g = asked f in
+    let n = (measured g).args.n in
+    let q = c.code_of.ensures h in
+    let cut : g.low-v.result ≡ le 8 s o % 2 ^ (8 * n) = g.low-v.ensures ∙ ap (λ v. v % 2 ^ (8 * n)) e in
+    rw (sym q.1) (known s o n (bits n g.low-v.result) f.slot_of.result b l (short g) (q.0 ∙ cut) (code_of-requires f f.slot_of.lifetimes))
+
+pub returns-then-n-lt2 : goal.returns-then-n-lt2
+returns-then-n-lt2 c h = absurd (omega arith)
+
+pub returns-then-n-gt6 : goal.returns-then-n-gt6
+returns-then-n-gt6 c h = absurd (omega arith)
+
+pub bits_of-requires : goal.bits_of-requires
+bits_of-requires c = (small c, short c)

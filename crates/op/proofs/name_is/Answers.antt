@@ -1,0 +1,54 @@
+-- Whether bytes are the name of an operation that is as long. The loop keeps that the bytes passed are equal.
+use mathlib.Core.List.{List, []}
+use Rattle.op.proofs.Same.{same-yes, same-no, short, in_six_at, in_six_many}
+use mathlib.Core.Path.{◌≡◌, sym, ap, ◌∙◌}
+use Prim.Native.Nat.{ℕ, ◌≤◌, ◌<◌, ◌-◌, ◌+◌, ◌*◌}
+use native.Mathlib.Omega.{arith}
+use lib.ListN.{length, get_or}
+use lib.Seq.{ext_get_or}
+use borrow.Author.Count.{below_more}
+use Rattle.op.specs.Ops.{names}
+use borrow.Author.Rules.{rules}
+use Rattle.op.proofs.name_is.Goals as goal
+use Rattle.op.proofs.name_is.Tie as tie
+use Rattle.op.proofs.name_is.Goals.{After-shared_slice_known-1, Start}
+
+-- the way through the code, each place from the next
+abbrev start : tie.At-loop-j → Start
+start c = c.before
+
+abbrev turn : After-shared_slice_known-1 → tie.At-loop-j
+turn c = c.before.before.before
+
+abbrev at_byte : tie.After-shared_slice_known-in-loop-j-1 → tie.At-loop-j
+at_byte c = turn c.before
+
+-- the byte of the name that the table has
+spelt : (c : tie.At-loop-j) → c.loop-j.j < 6
+    → get_or (start c).args.table.now ((start c).args.k * 6 + c.loop-j.j) 0 ≡ get_or (get_or names (start c).args.k []) c.loop-j.j 0
+spelt c h =
+    ap (λ l. get_or l ((start c).args.k * 6 + c.loop-j.j) 0) (start c).requires.1.1
+    ∙ in_six_at (start c).args.k c.loop-j.j (start c).requires.0 h
+
+-- the table is long enough
+within : (c : tie.At-loop-j) → c.loop-j.j < 6 → (start c).args.k * 6 + c.loop-j.j < length (start c).args.table.now
+within c h = omega (arith, ap length (start c).requires.1.1, in_six_many, (start c).requires.0)
+
+short-name : (c : tie.In-loop-j) → c.loop-j.j < 6
+short-name c = omega (arith, short (start c.before).args.k, c.requires.1.0)
+
+pub returns-then-w-j : goal.returns-then-w-j
+returns-then-w-j c =
+    let t = at_byte c.before.before in
+    sym (same-no _ _ (λ e. omega (arith, ap (λ (l : List ℕ). get_or l t.loop-j.j 0) e, spelt t (short-name c.before.before.before.before))))
+
+pub loop-j-preserved : goal.loop-j-preserved
+loop-j-preserved c =
+    let t = at_byte c.before.before in
+    (omega arith, below_more _ _ t.loop-j.invariant.1 (omega (arith, spelt t (short-name c.before.before.before.before))))
+
+pub returns : goal.returns
+returns c = let l = c.loop-j in sym (same-yes _ _ (ext_get_or 0 _ _ (omega arith) (λ i h. l.invariant.1 i (omega arith))))
+
+pub bounds-table-k : goal.bounds-table-k
+bounds-table-k c = let t = within (turn (goal.at.bounds-table-k c).After-shared_slice_known-1) (short-name c.before.before.before) in search rules

@@ -1,0 +1,107 @@
+-- The tests come in the order of `outside_copy`; past them the copy of the routine that the book holds is masked.
+use native.Mathlib.Omega.{arith}
+use mathlib.Core.Path.{◌≡◌, refl, sym, ◌∙◌}
+use mathlib.Core.List.{List}
+use Prim.Native.Nat.{ℕ, ◌≤◌}
+use lib.ListN.{length}
+use borrow.Author.Tests.{leb-true, leb-false, not-true, not-false}
+use Rattle.fields.specs.Bytes.{most_lent}
+use Rattle.fields.specs.Outcome.{Outcome, accepted}
+use Rattle.machine.specs.Book.{State}
+use Rattle.machine.specs.Outside.{outside_copy}
+use Rattle.book.specs.Says.{state}
+use Rattle.writer.specs.Answers.{write_answer}
+use Rattle.writer.specs.declared.Written.{Written}
+use Rattle.image.proofs.Inspects.{Ready, ready, refused-by}
+use Rattle.image.proofs.Fills.{sound-filled}
+use Rattle.outside.proofs.Copies.{too_large, not-held, no_room, copied}
+use borrow.Author.Rules.{rules}
+use Rattle.outside.proofs.outside_copy.Goals as goal
+use Rattle.outside.proofs.outside_copy.Tie as tie
+use Rattle.outside.proofs.outside_copy.Goals.{Else-not-is_lent, Start}
+
+-- The way through the code, each place from the next.
+abbrev known : tie.After-is_lent → tie.After-shared_slice_known-1
+known c = c.before.before.before
+
+abbrev start : tie.After-is_lent → Start
+start c = (known c).before
+
+abbrev asking : tie.After-inspect-refusal → Else-not-is_lent
+asking c = c.before
+
+abbrev begin : Else-not-is_lent → Start
+begin c = start c.before.before
+
+-- here the book is not spoiled,
+abbrev Held : Type 0
+Held = tie.Else-refusal-ne0
+
+abbrev at_start : Held → Start
+at_start c = begin (asking c.before)
+
+-- and here there is room
+abbrev Roomy : Type 0
+Roomy = tie.Else-copy-written
+
+abbrev testing : Roomy → Held
+testing c = c.before
+
+abbrev S : Start → State
+S s = state s.args.image.now s.args.journal.now s.args.book
+
+abbrev C : Start → List ℕ
+C s = s.args.copy-1.now
+
+-- What is known at them.
+lent : (c : Else-not-is_lent) → length (C (begin c)) ≤ most_lent
+lent c = leb-true _ _ (sym c.is_lent.ensures ∙ not-false _ c.if-not-is_lent.false)
+
+inspected : (c : Held) → Ready (S (at_start c))
+inspected c =
+    let i = c.before in
+    ready _ (known (asking i).before.before).shared_slice_known-1.given i.inspect-refusal.ensures (omega (arith, c.if-refusal-ne0.false))
+
+-- the answer and the second image of the call, where both are known
+both : (s : Start) {r : Written} {left : List ℕ} {x : Outcome ℕ × List ℕ} → outside_copy (S s) (C s) ≡ x → r ≡ write_answer x.0 → left ≡ x.1
+    → (r ≡ write_answer (outside_copy (S s) (C s)).0) × (left ≡ (outside_copy (S s) (C s)).1)
+both s e p q = rw e (p, q)
+
+written-size : {n m : ℕ} → n ≡ m → record { refusal = 0; size = n } ≡ write_answer (accepted m)
+unfolding write_answer
+written-size e = rw e
+
+pub returns-then-not-is_lent : goal.returns-then-not-is_lent
+returns-then-not-is_lent c =
+    let test = c.before.before.before in
+    let s = start test in
+    both s (too_large (S s) (C s) (leb-false _ _ (sym test.is_lent.ensures ∙ not-true _ c.if-not-is_lent.true))) c.refuse.ensures refl
+
+pub returns-then-refusal-ne0 : goal.returns-then-refusal-ne0
+returns-then-refusal-ne0 c =
+    let i = c.before.before.before in
+    let s = begin (asking i) in
+    both s (not-held (S s) (C s) (lent (asking i)) (refused-by _ i.inspect-refusal.ensures (λ z. omega (arith, c.if-refusal-ne0.true)))) c.refuse-then-refusal-ne0.ensures refl
+
+pub returns-then-copy-written : goal.returns-then-copy-written
+returns-then-copy-written c =
+    let h = c.before.before.before in
+    let s = at_start h in
+    let r = inspected h in
+    both s (no_room (S s) (C s) (lent (asking h.before)) r.is (omega (arith, c.if-copy-written.true, r.sound.written))) c.refuse-then-copy-written.ensures refl
+
+pub put_masked-requires : goal.put_masked-requires
+put_masked-requires c =
+    let room = c.before.before in
+    let r = inspected (testing room) in
+    (record { x = r.routine; filled = sound-filled r.sound }, omega (arith, room.if-copy-written.false))
+
+pub returns : goal.returns
+returns c =
+    let call = c.before.before.before in
+    let room = call.before.before in
+    let h = testing room in
+    let s = at_start h in
+    let r = inspected h in
+    both s (copied (S s) (C s) (lent (asking h.before)) r.is (omega (arith, room.if-copy-written.false, r.sound.written)))
+    (written-size r.sound.written) (call.put_masked.ensures r.routine (sound-filled r.sound))

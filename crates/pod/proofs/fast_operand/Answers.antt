@@ -1,0 +1,50 @@
+-- The fast way over an operand: where it answers, the kind is 0 or 1 and the register is not foreign; and what it says of the register, if it is one.
+use native.Mathlib.Omega.{arith}
+use Prim.Native.Nat.{◌^◌, ◌<◌}
+use Rattle.fields.proofs.Le.{le_lt}
+use Rattle.pod.proofs.Fast.{fast, small, small_reach}
+use borrow.Author.Rules.{rules}
+use Rattle.pod.proofs.fast_operand.Goals as goal
+use Rattle.pod.proofs.fast_operand.Goals.{After-four-kind, After-four-offset, After-shared_slice_known-1, Else-kind-top-gt2}
+
+-- The way through the code, each place from the next.
+abbrev kind_read : Else-kind-top-gt2 → After-four-kind
+kind_read c = (goal.at.Else-kind-top-gt2 c).After-four-kind
+
+abbrev passed : After-four-offset → Else-kind-top-gt2
+passed c = (goal.at.After-four-offset c).Else-kind-top-gt2
+
+abbrev lent : After-four-kind → After-shared_slice_known-1
+lent c = (goal.at.After-four-kind c).After-shared_slice_known-1
+
+-- the width and the offset are numbers of 32 bits
+width_fits : (c : After-four-offset) → c.four-width.result < 2 ^ 32
+width_fits c = rw c.four-width.ensures (le_lt 4 _ _ (lent (kind_read (passed c))).shared_slice_known-1.given)
+
+offset-fits : (c : After-four-offset) → c.four-offset.result < 2 ^ 32
+offset-fits c = rw c.four-offset.ensures (le_lt 4 _ _ (lent (kind_read (passed c))).shared_slice_known-1.given)
+
+pub returns-then-kind-gt1 : goal.returns-then-kind-gt1
+returns-then-kind-gt1 c = λ h. absurd (omega arith)
+
+pub overflow_mul-kind : goal.overflow_mul-kind
+overflow_mul-kind c = record { fits = small _ _ c.if-kind-gt1.false (rw c.wide-top.ensures (c.shared_slice_known-2-1.given _).fits) }
+
+pub returns-then-kind-top-gt2 : goal.returns-then-kind-top-gt2
+returns-then-kind-top-gt2 c = λ h. absurd (omega arith)
+
+pub returns : goal.returns
+returns c = λ h.
+    let p = passed c in
+    let k = kind_read p in
+    let w = p.before.before.before in (
+      fast _ _ (lent k).shared_slice_known-1.given (lent k).requires _ _ _ _ k.four-kind.ensures w.wide-top.ensures c.four-width.ensures c.four-offset.ensures
+          p.if-kind-gt1.left p.if-kind-top-gt2.left,
+      omega (arith, p.if-kind-gt1.left),
+    )
+
+pub overflow_add-reach : goal.overflow_add-reach
+overflow_add-reach c = record { fits = omega (arith, width_fits c, offset-fits c) }
+
+pub overflow_mul-result-2 : goal.overflow_mul-result-2
+overflow_mul-result-2 c = record { fits = small_reach _ _ _ (passed c).if-kind-gt1.false (width_fits c) (offset-fits c) }

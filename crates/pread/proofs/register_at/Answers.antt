@@ -1,0 +1,16 @@
+-- The answer is what the reader of registers says.
+use mathlib.Core.Path.{sym, ap, ◌∙◌}
+use Rattle.fields.proofs.Steps.{handed}
+use Rattle.pod.specs.Answers.{of_register}
+use Rattle.pread.specs.Answers.{register_read}
+use borrow.Author.Rules.{rules}
+use Rattle.pread.proofs.register_at.Goals as goal
+
+pub returns-in-Value : goal.returns-in-Value
+unfolding register_read
+returns-in-Value c = ap register_read (sym (ap of_register c.field-1.given.1) ∙ c.register_at-field.ensures.0)
+
+pub returns : goal.returns
+unfolding register_read
+returns c =
+    ap register_read (handed (ap of_register c.enum_told-1.given.1) c.register_at-field.ensures.0 c.register_refusal.ensures)

@@ -1,0 +1,66 @@
+-- The walk over the parts is the walk over the routine: what it accepts is there, with its blocks where the walk came to them, and what it refuses is
+-- refused.
+use mathlib.Core.Path.{◌≡◌, sym, ap, ◌∙◌}
+use native.Mathlib.Omega.{arith}
+use Rattle.fields.specs.Parse.{ok}
+use Rattle.fields.specs.Answers.{of_walked}
+use Rattle.pod.specs.Values.{Routine}
+use Rattle.pod.specs.Layout.{routine}
+use Rattle.pod.specs.Sound.{routine_sound}
+use Rattle.pod.specs.Written.{routine_bytes, walked}
+use Rattle.routine.specs.Head.{head_walked}
+use Rattle.routine.proofs.Walk.{routine-walked}
+use Rattle.pread.specs.Answers.{routine_read, block_list, end_of}
+use Rattle.pread.proofs.Found.{accepts, refuses, routine-room, head-end}
+use borrow.Author.Rules.{rules}
+use Rattle.pread.proofs.routine_at.Goals as goal
+use Rattle.pread.proofs.routine_at.Tie as tie
+use Rattle.pread.proofs.routine_at.Goals.{After-head_skip-head, After-shared_slice_known-1, After-walked_end}
+
+abbrev head : tie.After-then_blocks-whole → After-head_skip-head
+head c = c.before
+
+abbrev known : tie.After-then_blocks-whole → After-shared_slice_known-1
+known c = (goal.at.After-head_skip-head (head c)).After-shared_slice_known-1
+
+-- the two walks together
+whole : (c : tie.After-then_blocks-whole) → let a = (known c).args in of_walked c.then_blocks-whole.result ≡ walked routine routine_bytes routine_sound a.s.now a.at
+unfolding head_walked
+whole c = rw (c.then_blocks-whole.ensures, (head c).head_skip-head.ensures) (routine-walked _ (known c).shared_slice_known-1.given _)
+
+abbrev walking : tie.In-Past-2 → tie.After-then_blocks-whole
+walking c = c.before.before
+
+-- the routine that was walked over
+there : (c : tie.In-Past-2) → let a = (known (walking c)).args in (r : Routine) × (routine a.s.now a.at ≡ ok r c.whole-1.given.0.0)
+there c = accepts routine routine_bytes routine_sound _ _ (ap of_walked c.whole-1.given.1) (whole (walking c))
+
+-- where its blocks stand
+blocks_at : (c : tie.In-Past-2) → let w = walking c in end_of (of_walked (head w).head_skip-head.result) ≡ block_list (known w).args.at (there c).0
+blocks_at c =
+    let w = walking c in
+    ap end_of (head w).head_skip-head.ensures ∙ head-end _ (known w).shared_slice_known-1.given _ _ (there c).1
+
+abbrev accepted : After-walked_end → tie.In-Past-2
+accepted c = c.before.before.before
+
+pub routine_there-requires : goal.routine_there-requires
+routine_there-requires c =
+    let w = accepted c in
+    let l = c.walked_end.ensures ∙ blocks_at w in
+    let room = routine-room _ (known (walking w)).shared_slice_known-1.given _ _ (there w).1 in
+    (room.0, omega (arith, l, room.1))
+
+pub returns-in-Past : goal.returns-in-Past
+returns-in-Past c =
+    let end = (goal.at.returns-in-Past c).After-walked_end in
+    let w = accepted end in
+    let r = there w in
+    c.routine_there.ensures r.0 r.1 (end.walked_end.ensures ∙ blocks_at w) ∙ ap (routine_read _) (sym r.1)
+
+pub returns-in_default : goal.returns-in_default
+unfolding routine_read
+returns-in_default c =
+    let told = (goal.at.returns-in_default c).In_default in
+    c.no_routine.ensures
+    ∙ ap (routine_read _) (sym (refuses routine routine_bytes routine_sound _ _ (ap of_walked told.enum_told-1.given.1) (whole told.before.before.before) c.walked_refusal.ensures))

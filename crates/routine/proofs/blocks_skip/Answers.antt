@@ -1,0 +1,7 @@
+-- The walk that notes, without the note.
+use mathlib.Core.Path.{◌∙◌}
+use borrow.Author.Rules.{rules}
+use Rattle.routine.proofs.blocks_skip.Goals as goal
+
+pub returns : goal.returns
+returns c = c.walked_of.ensures ∙ c.blocks_noting.ensures.0

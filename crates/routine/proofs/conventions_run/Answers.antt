@@ -1,0 +1,46 @@
+-- A run of conventions walked over. The loop keeps that what was seen so far and what is left to see make what is seen of the whole run.
+use mathlib.Core.Path.{◌≡◌, sym, ap, ◌∙◌}
+use Rattle.fields.specs.Parse.{ok, many}
+use Rattle.fields.specs.Lists.{every}
+use Rattle.fields.specs.Sight.{sight}
+use Rattle.fields.specs.Answers.{of_walked}
+use Rattle.pod.specs.Layout.{convention}
+use Rattle.pod.specs.Sound.{convention_sound}
+use Rattle.pod.specs.Written.{many_bytes, convention_bytes, walked, both}
+use Rattle.laws.proofs.Layouts.{convention_layout}
+use Rattle.laws.proofs.Walks.{Fills, fills, walk_start, walk_end, walk_next, walk_stop}
+use borrow.Author.Rules.{rules}
+use Rattle.routine.proofs.conventions_run.Goals as goal
+use Rattle.routine.proofs.conventions_run.Tie as tie
+use Rattle.routine.proofs.conventions_run.Goals.{After-shared_slice_known-1, In-loop-left}
+
+abbrev start : tie.At-loop-left → After-shared_slice_known-1
+start c = c.before
+
+abbrev test : tie.After-convention_skip-far → In-loop-left
+test c = c.before
+
+all : (c : After-shared_slice_known-1) → Fills convention convention_bytes c.args.s.now
+all c = fills convention_layout c.shared_slice_known-1.given
+
+pub loop-left-init : goal.loop-left-init
+loop-left-init c = walk_start convention convention_bytes (all c) convention_sound _ _
+
+pub returns-in_default : goal.returns-in_default
+returns-in_default c =
+    let far = c.enum_told-1.given.1 in
+    let call = c.before.before.before in
+    let loop = (test call).before.before in
+    ap of_walked far
+    ∙ walk_stop convention convention_bytes (all (start loop)) convention_sound _ _ _ loop.loop-left.invariant (test call).loop-left-test.true (sym call.convention_skip-far.ensures ∙ ap of_walked far)
+
+pub loop-left-preserved : goal.loop-left-preserved
+loop-left-preserved c =
+    let far = c.before.before in
+    let call = far.before.before in
+    let loop = (test call).before.before in
+    walk_next convention convention_bytes (all (start loop)) convention_sound _ _ _ loop.loop-left.invariant (test call).loop-left-test.true
+    (sym call.convention_skip-far.ensures ∙ ap of_walked far.far-1.given.1)
+
+pub returns : goal.returns
+returns c = walk_end convention convention_bytes (all (start c.before.before)) convention_sound _ _ _ c.loop-left.invariant c.loop-left-test.false

@@ -1,0 +1,37 @@
+-- The head walked over, and then the blocks, which stand where it ended: so the note of the blocks is one of the routine.
+use mathlib.Core.Path.{◌≡◌, sym, ap, ◌∙◌}
+use Rattle.fields.specs.Parse.{ok}
+use Rattle.fields.specs.Sight.{sight}
+use Rattle.fields.specs.Answers.{of_walked}
+use Rattle.fields.proofs.Steps.{handed}
+use Rattle.routine.specs.Head.{head_walked}
+use Rattle.routine.proofs.Notes.{routine_noted, routine_seen, routine_refused}
+use borrow.Author.Rules.{rules}
+use Rattle.routine.proofs.routine_noting.Goals as goal
+use Rattle.routine.proofs.routine_noting.Tie as tie
+use Rattle.routine.proofs.routine_noting.Goals.{After-shared_slice_known-1}
+
+abbrev head : tie.In-Past-2 → tie.After-head_skip-head
+head c = c.before.before
+
+abbrev known : tie.After-head_skip-head → After-shared_slice_known-1
+known c = c.before
+
+-- the head that was walked over
+seen : (c : tie.In-Past-2) → let a = (known (head c)).args in let g = c.head-1.given.0 in ok (sight g.1.0 g.1.1.0) g.0 ≡ head_walked a.s.now a.at
+seen c = sym (ap of_walked c.head-1.given.1) ∙ (head c).head_skip-head.ensures
+
+pub returns-in-Past : goal.returns-in-Past
+returns-in-Past c =
+    let call = (goal.at.returns-in-Past c).After-blocks_noting in
+    let past = call.before.before.before in
+    let y = (known (head past)).shared_slice_known-1.given in
+    let next = call.blocks_noting.result in
+    let e = call.blocks_noting.ensures in
+    rw c.noted_both.ensures (routine_seen _ y _ (seen past) next e.0, routine_noted _ y _ (seen past) (known (head past)).args.place next e.1)
+
+pub returns-in_default : goal.returns-in_default
+returns-in_default c =
+    let told = (goal.at.returns-in_default c).In_default in
+    let call = told.before.before.before in
+    (routine_refused _ (known call).shared_slice_known-1.given _ (handed (ap of_walked told.enum_told-1.given.1) call.head_skip-head.ensures c.walked_refusal.ensures), tt)

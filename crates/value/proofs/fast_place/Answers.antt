@@ -1,0 +1,65 @@
+-- A place: the mark says of an operand's kind whether it is there, and what is kept of both kinds is what the place holds.
+use mathlib.Core.Path.{◌≡◌, ap, ◌∙◌}
+use Prim.Native.Nat.{ℕ, ◌+◌, ◌≤◌}
+use native.Mathlib.Omega.{arith}
+use mathlib.Core.Bool.{Bool, true, false}
+use Rattle.fields.specs.Lists.{choose}
+use Rattle.fields.specs.Parse.{le}
+use Rattle.fields.proofs.Le.{le_lt}
+use Rattle.value.proofs.Fast.{fills}
+use borrow.Author.Rules.{rules}
+use Rattle.value.proofs.fast_place.Goals as goal
+use Rattle.value.proofs.fast_place.Tie as tie
+use Rattle.value.proofs.fast_place.Goals.{After-kept-kind, After-shared_slice_known-1, Else-mark-gt2, Else-register-gt2}
+
+-- The way through the code, each place from the next.
+abbrev marked : Else-mark-gt2 → tie.After-kept-mark
+marked c = c.before.before
+
+abbrev lent : tie.After-kept-mark → After-shared_slice_known-1
+lent c = c.before.before
+
+abbrev holding : Else-register-gt2 → tie.After-fast_register-register
+holding c = c.before.before.before
+
+abbrev sized : After-kept-kind → Else-register-gt2
+sized c = (goal.at.After-kept-kind c).Else-register-gt2
+
+pub overflow_add-four : goal.overflow_add-four
+overflow_add-four c =
+    let k = (goal.at.overflow_add-four c).After-shared_slice_known-1 in
+    let a = k.args in
+    omega (arith, c.four.ensures, le_lt 4 a.s.now a.at k.shared_slice_known-1.given)
+
+mark : (c : tie.After-kept-mark) → let a = (lent c).args in c.kept-mark.result ≡ choose a.used (le 4 a.s.now a.at + 1) 0
+mark c = c.kept-mark.ensures ∙ ap (λ v. choose (lent c).args.used (v + 1) 0) c.four.ensures
+
+-- what is kept of a number is at most that
+most : (t : Bool) (v : ℕ) {r : ℕ} → r ≡ choose t v 0 → r ≤ v
+unfolding choose
+most true v e = omega arith
+most false v e = omega arith
+
+pub returns : goal.returns
+returns c h =
+    let e = sized c in
+    let r = holding e in
+    let m = marked r.before in
+    let a = (lent m).args in
+    fills a.s.now a.at (lent m).requires a.used m.kept-mark.result (mark m) (omega (arith, r.if-mark-gt2.left)) r.fast_register-register.ensures (omega (arith, e.if-register-gt2.left))
+    c.fast_immediate-immediate.ensures c.kept.ensures c.kept-2.ensures c.kept-kind.ensures
+
+pub returns-then-mark-gt2 : goal.returns-then-mark-gt2
+returns-then-mark-gt2 c h = absurd (omega (arith, c.unfilled.ensures))
+
+pub returns-then-register-gt2 : goal.returns-then-register-gt2
+returns-then-register-gt2 c h = absurd (omega (arith, c.unfilled-then-register-gt2.ensures))
+
+pub overflow_add-size : goal.overflow_add-size
+overflow_add-size c = omega (arith, most _ _ c.kept.ensures, most _ _ c.kept-2.ensures)
+
+pub overflow_cast-kind : goal.overflow_cast-kind
+overflow_cast-kind c = omega (arith, most _ _ c.kept-kind.ensures)
+
+pub overflow_add-result : goal.overflow_add-result
+overflow_add-result c = omega (arith, most _ _ c.kept.ensures, most _ _ c.kept-2.ensures)

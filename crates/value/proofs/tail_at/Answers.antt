@@ -1,0 +1,28 @@
+-- `value::tail_at` meets its contract, one field after the other.
+use Rattle.value.specs.Tail.{tail}
+use Rattle.fields.proofs.Steps.{steps, on-u64, on-i64}
+use mir.Syntax.{w64}
+use mir.Val.{SFits}
+use mir.ValLaws.{to_z-of_z}
+use borrow.Author.Rules.{rules}
+use Rattle.value.proofs.tail_at.Goals as goal
+use Rattle.value.proofs.tail_at.Tie as tie
+
+pub returns-in-Value-sp_offset : goal.returns-in-Value-sp_offset
+unfolding tail
+returns-in-Value-sp_offset c =
+    let offset : tie.In-Value-sp_offset-2 = c.before.before.before in
+    let asked : tie.After-i64_at-sp_offset = offset.before.before in
+    let vip : tie.In-Value-2 = asked.before.before in
+    let z = offset.sp_offset-1.given.0.0 in
+    let f : SFits w64 z = search rules in
+    let e = c.sp_at.ensures in
+    on-u64 _ vip.vip-1.given.1 vip.u64_at-vip.ensures (on-i64 _ offset.sp_offset-1.given.1 asked.i64_at-sp_offset.ensures (rw (to_z-of_z w64 z f) at e))
+
+pub returns-in_default-sp_offset : goal.returns-in_default-sp_offset
+unfolding tail
+returns-in_default-sp_offset c = search (rules, steps)
+
+pub returns-in_default : goal.returns-in_default
+unfolding tail
+returns-in_default c = search (rules, steps)

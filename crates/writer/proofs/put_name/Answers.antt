@@ -1,0 +1,60 @@
+-- `writer::put_name` meets its contract: the size, and then what is left of the name, put where the loop stands, makes it the whole.
+use Prim.Native.Nat.{◌+◌, ◌≤◌, ◌-◌}
+use mathlib.Core.List.{[]}
+use native.Mathlib.Omega.{arith}
+use mathlib.Core.Path.{◌≡◌, ◌∙◌}
+use lib.ListN.{length, get_or, drop}
+use Rattle.op.specs.Ops.{names}
+use Rattle.op.proofs.Same.{short}
+use Rattle.writer.proofs.Name.{byte_more, byte-none, name-put, size-name}
+use Rattle.writer.proofs.Rest.{Rest, rest_all}
+use borrow.Author.Rules.{rules}
+use Rattle.writer.proofs.put_name.Goals as goal
+use Rattle.writer.proofs.put_name.Tie as tie
+
+abbrev naming : tie.At-loop-j → tie.After-name_len-n
+naming c = c.before.before.before.before.before
+
+-- the name's length, which is small, and fits after its size
+counted : (c : tie.After-name_len-n) → (c.name_len-n.result ≡ length (get_or names c.args.k []))
+    × ((c.name_len-n.result ≤ 6) × (4 + c.name_len-n.result ≤ length c.args.image-1.now))
+counted c =
+    let k = c.args.k in
+    let e = c.name_len-n.ensures in
+    (e, (omega (arith, short k), omega (arith, size-name k)))
+
+pub loop-j-init : goal.loop-j-init
+loop-j-init c = (omega arith, rest_all _ _ _)
+
+pub loop-j-preserved : goal.loop-j-preserved
+loop-j-preserved c =
+    let l : tie.At-loop-j = c.before.before.before in
+    let n = counted (naming l) in
+    (omega arith, byte_more _ _ l.loop-j.invariant.1 (omega arith) (omega arith) c.name_byte.ensures)
+
+pub returns : goal.returns
+returns c =
+    let n = counted (naming c.before.before) in
+    let k = (naming c.before.before).args.k in
+    (omega (arith, size-name k), name-put k _ _ _ n.0 (byte-none _ c.loop-j.j c.loop-j.invariant.1 (omega arith) ∙ cc) (omega arith))
+
+pub overflow_cast-n : goal.overflow_cast-n
+overflow_cast-n c = omega (arith, counted c.before.before)
+
+pub put_u32-requires : goal.put_u32-requires
+put_u32-requires c = omega (arith, counted c.before.before)
+
+pub name_byte-requires : goal.name_byte-requires
+name_byte-requires c = omega (arith, counted (naming c.before.before))
+
+pub overflow_add-image : goal.overflow_add-image
+overflow_add-image c = omega (arith, counted (naming c.before.before.before))
+
+pub bounds-image-j : goal.bounds-image-j
+bounds-image-j c = omega (arith, counted (naming c.before.before.before))
+
+pub overflow_add-result : goal.overflow_add-result
+overflow_add-result c = omega (arith, counted (naming c.before.before))
+
+pub shape_of-image : goal.shape_of-image
+shape_of-image c = omega arith

@@ -1,0 +1,17 @@
+use Prim.Native.Nat.{◌+◌, ◌≤◌, ◌-◌}
+use mathlib.Core.List.{[]}
+use native.Mathlib.Omega.{arith}
+use mathlib.Core.Path.{◌≡◌, ◌∙◌}
+use lib.ListN.{length, get_or, drop}
+use Rattle.op.specs.Ops.{names}
+use Rattle.op.proofs.Same.{short}
+use Rattle.writer.proofs.Name.{byte_more, byte-none, name-put, size-name}
+use Rattle.writer.proofs.Rest.{Rest, rest_all}
+use borrow.Author.Rules.{rules}
+use Rattle.writer.proofs.put_name.Given as goal
+
+abbrev pub invariant-loop-j : goal.invariant-loop-j
+invariant-loop-j l = (l.j ≤ l.n) × Rest (get_or names l.k []) 4 l.initial.image (drop l.j (get_or names l.k [])) (4 + l.j) l.image
+
+abbrev pub decreases-loop-j : goal.decreases-loop-j
+decreases-loop-j l = l.n - l.j
