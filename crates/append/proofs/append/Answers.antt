@@ -29,7 +29,7 @@ use Rattle.append.proofs.Appends.{is_whole, as_instruction, sized, one_size, not
 use borrow.Author.Rules.{rules}
 use Rattle.append.proofs.append.Goals as goal
 use Rattle.append.proofs.append.Tie as tie
-use Rattle.append.proofs.append.Goals.{After-accept, After-insert_instruction-arg-1, After-last_instruction-last, After-put_trailer-arg-1, After-refuse-then-is_closed, After-sum_of_instruction-more, Else-found-place, Else-is_closed, Else-unfit-ne0, Start}
+use Rattle.append.proofs.append.Goals.{After-accept, After-insert_instruction-arg-1, After-last_instruction-last, After-put_trailer-arg-1, After-refuse-then-is_closed, After-struct_known-1, After-sum_of_instruction-arg-1, After-sum_of_instruction-more, Else-found-place, Else-is_closed, Else-unfit-ne0, Start}
 
 -- The way through the code, each place from the next.
 abbrev start : tie.After-refusal_of_bytes-unfit → Start
@@ -38,8 +38,8 @@ start c = c.before.before.before.before
 abbrev reading : Else-unfit-ne0 → tie.After-refusal_of_bytes-unfit
 reading c = c.before.before
 
-abbrev passing : tie.After-find-found → Else-unfit-ne0
-passing c = c.before.before
+abbrev passing : After-struct_known-1 → Else-unfit-ne0
+passing c = (goal.at.After-struct_known-1 c).Else-unfit-ne0
 
 abbrev finding : Else-found-place → tie.After-find-found
 finding c = c.before.before.before
@@ -56,8 +56,8 @@ refusing c = c.before.before.before
 abbrev testing : tie.After-admit-refusal → Else-is_closed
 testing c = c.before
 
-abbrev admitting : tie.Else-refusal-ne0 → tie.After-admit-refusal
-admitting c = c.before
+abbrev admitting : After-sum_of_instruction-arg-1 → tie.After-admit-refusal
+admitting c = c.before.before
 
 abbrev counting : tie.After-can_add → After-sum_of_instruction-more
 counting c = c.before
@@ -96,17 +96,17 @@ module _ (s : Start) where
   lent : length s.args.instruction.now < 2 ^ 63
   lent = omega arith
 
-octets : (c : tie.After-refusal_of_bytes-unfit) → Bytes (start c).args.instruction.now
-octets c = c.shared_slice_known-1.given
+octets : (c : tie.After-refusal_of_bytes-unfit) → Bytes c.args.instruction.now
+octets c = c.type_inv.instruction
 
 -- the bytes are an instruction
-whole : (c : Else-unfit-ne0) → Whole (start (reading c)).args.instruction.now
+whole : (c : Else-unfit-ne0) → Whole c.args.instruction.now
 whole c = let b = reading c in is_whole _ (octets b) (sym b.refusal_of_bytes-unfit.ensures ∙ c.if-unfit-ne0.false)
 
-abbrev at_find : tie.After-find-found → Start
+abbrev at_find : After-struct_known-1 → Start
 at_find c = start (reading (passing c))
 
-finds : (c : tie.After-find-found) → Finds (R (at_find c)) (at_find c).args.vip.0 c.find-found.result
+finds : (c : After-struct_known-1) → Finds (R (at_find c)) c.args.vip.0 c.find-found.result
 finds c = let s = at_find c in c.find-found.ensures (R s) (sound-holding s.requires.sound)
 
 -- the block is there
@@ -114,7 +114,7 @@ abbrev at_block : Else-found-place → Start
 at_block c = at_find (finding c)
 
 there : (c : Else-found-place) → I (at_block c) < length (R (at_block c)).explored_blocks
-there c = let f = finds (finding c) in omega (arith, c.if-found-place.false, f.place, f.count)
+there c = let f = finds (goal.at.Else-found-place c).After-struct_known-1 in omega (arith, c.if-found-place.false, f.place, f.count)
 
 -- its last instruction was reached
 abbrev block : After-last_instruction-last → Else-found-place
@@ -124,18 +124,18 @@ abbrev at_last : After-last_instruction-last → Start
 at_last c = at_block (block c)
 
 last : (c : After-last_instruction-last) → FindsLast (R (at_last c)) (I (at_last c)) c.last_instruction-last.result
-last c = let s = at_last c in c.last_instruction-last.ensures (R s) (I s) (sound-holding s.requires.sound) (there (block c)) (finds (finding (block c))).at
+last c = let s = at_last c in c.last_instruction-last.ensures (R s) (I s) (sound-holding s.requires.sound) (there (goal.at.After-last_instruction-last c).Else-found-place) (finds (goal.at.After-last_instruction-last c).After-struct_known-1).at
 
 target : (c : After-last_instruction-last) → let s = at_last c in
-    Target s.args.image-1.now s.args.book.written (finding (block c)).find-found.result.at c.last_instruction-last.result.end (R s) (I s)
-target c = record { filled = sound-filled (at_last c).requires.sound; there = there (block c); begins = (finds (finding (block c))).at; ends = (last c).end }
+    Target s.args.image-1.now s.args.book.written c.find-found.result.at c.last_instruction-last.result.end (R s) (I s)
+target c = record { filled = sound-filled c.requires.sound; there = there (goal.at.After-last_instruction-last c).Else-found-place; begins = (finds (goal.at.After-last_instruction-last c).After-struct_known-1).at; ends = (last c).end }
 
 -- and tells whether the block is closed
 told : (c : tie.After-is_closed) → let s = at_last (reaching c) in c.is_closed.result ≡ is_closed (block_at (I s) (R s).explored_blocks)
 told c =
     let p = reaching c in
     let s = at_last p in
-    c.is_closed.ensures (R s) (I s) (sound-holding s.requires.sound) (there (block p)) (last p)
+    c.is_closed.ensures (R s) (I s) (sound-holding s.requires.sound) (there (goal.at.After-last_instruction-last p).Else-found-place) (last p)
 
 -- after the edit's own tests: what it makes of the routine, and what is written and used then
 module _ (c : tie.After-admit-refusal) where
@@ -152,7 +152,7 @@ module _ (c : tie.After-admit-refusal) where
   R' = with_one (R s) (I s) Y.x
 
   made : edited (E s) (R s) ≡ accepted R'
-  made = appends (R s) s.args.vip.0 s.args.instruction.now Y (there (block p)) (sym (told (asking (testing c))) ∙ (testing c).if-is_closed.false)
+  made = appends (R s) s.args.vip.0 s.args.instruction.now Y (there (block p)) (sym (told (asking (testing c))) ∙ c.if-is_closed.false)
 
   grown : s.args.book.written + length s.args.instruction.now ≡ size R'
   grown = omega (arith, one_size (target p) Y.x, sized (octets (reading (passing (finding (block p))))) Y)
@@ -161,15 +161,15 @@ module _ (c : tie.After-admit-refusal) where
   spent = omega (arith, append-costs (R s) s.args.vip.0 s.args.instruction.now Y)
 
 -- after 11 and 12: there is room
-module _ (c : tie.Else-refusal-ne0) where
+module _ (c : After-sum_of_instruction-arg-1) where
   abbrev t : Start
   t = s (admitting c)
 
-  admitted : (admitting c).admit-refusal.result ≡ 0
+  admitted : c.admit-refusal.result ≡ 0
   admitted = c.if-refusal-ne0.false
 
   room : (t.args.book.written + length t.args.instruction.now ≤ length t.args.image-1.now) × (t.args.book.used + 20 ≤ length t.args.journal-1.now)
-  room = admits _ _ _ (sym (admitting c).admit-refusal.ensures ∙ admitted)
+  room = admits _ _ _ (sym c.admit-refusal.ensures ∙ admitted)
 
 -- what the sum becomes
 module _ (c : tie.After-can_add) where
@@ -177,7 +177,7 @@ module _ (c : tie.After-can_add) where
   passed = (goal.at.After-sum_of_instruction-more (counting c)).After-sum_of_instruction-arg-1
 
   abbrev more : ℕ
-  more = (counting c).sum_of_instruction-more.result
+  more = c.sum_of_instruction-more.result
 
   abbrev rates : Rates
   rates = (t passed).args.book.rates.rate
@@ -188,7 +188,7 @@ module _ (c : tie.After-can_add) where
   gains : sum rates (R' (admitting passed)) ≡ sum rates (R (t passed)) + more
   gains =
       let a = admitting passed in
-      let m = (counting c).sum_of_instruction-more.ensures _ _ (as_instruction (Y a)) in
+      let m = c.sum_of_instruction-more.ensures _ _ (as_instruction (Y a)) in
       omega (arith, appended-sum rates (R (s a)) (I (s a)) (there (block (p a))) (Y a).x, m)
 
   sum_over : c.can_add.result ≡ false → new_sum ≡ refused 13
@@ -226,7 +226,7 @@ returns-then-is_closed c =
     let p = reaching a in
     let s = at_last p in
     c.refuse-then-is_closed.ensures _ _ (omega arith)
-    ∙ sym (refused-step (S s) (R s) s.requires.sound (E s) (free s) _ (closed (R s) _ _ (whole (passing (finding (block p)))) (there (block p)) (sym (told a) ∙ c.if-is_closed.true)))
+    ∙ sym (refused-step (S s) (R s) s.requires.sound (E s) (free s) _ (closed (R s) _ _ (whole (passing (finding (block p)))) (there (goal.at.After-last_instruction-last p).Else-found-place) (sym (told a) ∙ c.if-is_closed.true)))
 
 pub returns-then-refusal-ne0 : goal.returns-then-refusal-ne0
 returns-then-refusal-ne0 c =
@@ -251,8 +251,8 @@ insert_instruction-requires c =
     (record { x = R (s a); i = I (s a); target = target (p a) }, (Y a, (room l).0))
 
 -- the room that was found, where the trailer goes
-abbrev roomy : tie.After-insert_instruction → tie.Else-refusal-ne0
-roomy c = passed (adding c.before).before
+abbrev roomy : After-put_trailer-arg-1 → tie.Else-refusal-ne0
+roomy c = passed (adding c.before.before).before
 
 pub overflow_cast-size : goal.overflow_cast-size
 overflow_cast-size c = let l = roomy (inserting c) in omega (arith, (room l).0, (t l).requires.sound.image_lent)

@@ -13,17 +13,17 @@ use Rattle.append.proofs.Appends.{as_instruction, sized, at_least, ends-within, 
 use borrow.Author.Rules.{rules}
 use Rattle.append.proofs.insert_instruction.Goals as goal
 use Rattle.append.proofs.insert_instruction.Tie as tie
-use Rattle.append.proofs.insert_instruction.Goals.{After-put_instruction-arg-1, After-put_u32-arg-1, After-shared_slice_known-1, Start}
+use Rattle.append.proofs.insert_instruction.Goals.{After-move_within-arg-1, After-put_instruction-arg-1, After-put_u32-arg-1, After-shared_slice_known-1, Start}
 
 -- The way through the code, each place from the next.
 abbrev start : After-shared_slice_known-1 → Start
 start c = (goal.at.After-shared_slice_known-1 c).Start
 
-abbrev lending : tie.After-word32-count → After-shared_slice_known-1
-lending c = c.before.before
+abbrev lending : After-move_within-arg-1 → After-shared_slice_known-1
+lending c = (goal.at.After-move_within-arg-1 c).After-shared_slice_known-1
 
-abbrev counting : tie.After-move_within → tie.After-word32-count
-counting c = c.before.before
+abbrev counting : After-put_instruction-arg-1 → tie.After-word32-count
+counting c = c.before.before.before
 
 abbrev moving : After-put_instruction-arg-1 → tie.After-move_within
 moving c = c.before.before.before.before
@@ -39,14 +39,14 @@ module _ (s : Start) where
   lent : s.args.written ≤ 16777216
   lent = omega (arith, s.requires.1.1, T.filled.lent)
 
-octets : (c : After-shared_slice_known-1) → Bytes (start c).args.instruction.now
-octets c = c.shared_slice_known-1.given
+octets : (c : After-shared_slice_known-1) → Bytes c.args.instruction.now
+octets c = c.type_inv.instruction
 
-abbrev at_count : tie.After-word32-count → Start
+abbrev at_count : After-move_within-arg-1 → Start
 at_count c = start (lending c)
 
 -- of every such block, the number of its instructions
-counted : (x : Routine) (i : ℕ) (c : tie.After-word32-count) → let a = (at_count c).args in Target a.image-1.now a.written a.at a.end x i
+counted : (x : Routine) (i : ℕ) (c : After-move_within-arg-1) → let a = c.args in Target a.image-1.now a.written a.at a.end x i
     → c.word32-count.result ≡ length (the_block x i).instructions
 counted x i c g = c.word32-count.ensures ∙ count-read g
 

@@ -6,6 +6,7 @@ use Rattle.image.proofs.Parts.{any_instruction}
 use Rattle.image.proofs.Lasts.{none, some, final-read}
 use borrow.Author.Rules.{rules}
 use Rattle.append.proofs.is_closed.Goals as goal
+use Rattle.append.proofs.is_closed.Goals.{After-op_of}
 
 pub returns-then-last : goal.returns-then-last
 returns-then-last c x i h l z = sym (last-is-none _ _ (none x i z c.if-last.true))

@@ -8,17 +8,17 @@ use Rattle.append.proofs.Flags.{flag_stored}
 use borrow.Author.Rules.{rules}
 use Rattle.append.proofs.put_instruction.Goals as goal
 use Rattle.append.proofs.put_instruction.Tie as tie
-use Rattle.append.proofs.put_instruction.Goals.{Start}
+use Rattle.append.proofs.put_instruction.Goals.{After-put_u8-arg-1, After-slice_known-3-1, Start}
 
 -- The way through the code, each place from the next.
 abbrev start : tie.After-copy_at → Start
 start c = c.before.before.before.before
 
-abbrev copying : tie.After-flag_bit-reset → tie.After-copy_at
-copying c = c.before.before.before.before
+abbrev copying : After-put_u8-arg-1 → tie.After-copy_at
+copying c = c.before.before.before.before.before
 
-abbrev writing : tie.After-put_u8 → tie.After-flag_bit-reset
-writing c = c.before.before
+abbrev writing : After-slice_known-3-1 → tie.After-flag_bit-reset
+writing c = c.before.before.before
 
 pub returns : goal.returns
 returns c =

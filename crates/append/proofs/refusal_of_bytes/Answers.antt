@@ -12,31 +12,21 @@ use Rattle.append.proofs.Appends.{unread, too_long, all_read}
 use borrow.Author.Rules.{rules}
 use Rattle.append.proofs.refusal_of_bytes.Goals as goal
 use Rattle.append.proofs.refusal_of_bytes.Tie as tie
-use Rattle.append.proofs.refusal_of_bytes.Goals.{After-asked_refusal, Start}
-
--- The way through the code, each place from the next.
-abbrev start : tie.After-instruction_past-far → Start
-start c = c.before.before
-
-abbrev passing : tie.In-Past-2 → tie.After-instruction_past-far
-passing c = c.before.before
-
-abbrev stopping : After-asked_refusal → tie.After-instruction_past-far
-stopping c = c.before.before.before.before
+use Rattle.append.proofs.refusal_of_bytes.Goals.{After-asked_refusal}
 
 -- What passing over the bytes told.
-told : (c : tie.In-Past-2) → asked c.far-1.given.0.1.0 (ok tt c.far-1.given.0.0) ≡ span (appended (start (passing c)).args.instruction.now 0)
-told c = sym (ap when_asked c.far-1.given.1) ∙ (passing c).instruction_past-far.ensures.1
+told : (c : tie.In-Past-2) → asked c.in-Past.sound (ok tt c.in-Past.end) ≡ span (appended c.args.instruction.now 0)
+told c = sym (ap when_asked c.in-Past.is) ∙ c.instruction_past-far.ensures.1
 
-refused_with : (c : After-asked_refusal) → no c.asked_refusal.result ≡ span (appended (start (stopping c)).args.instruction.now 0)
-refused_with c = handed (when-refused c.enum_told-1.given.1).1 (stopping c).instruction_past-far.ensures.1 c.asked_refusal.ensures
+refused_with : (c : After-asked_refusal) → no c.asked_refusal.result ≡ span (appended c.args.instruction.now 0)
+refused_with c = handed (when-refused c.in_default.is).1 c.instruction_past-far.ensures.1 c.asked_refusal.ensures
 
 -- where every register is sound it is what reading tells
-past : (c : tie.Else-not-sound) → let f = c.before.before in ok tt f.far-1.given.0.0 ≡ span (appended (start (passing f)).args.instruction.now 0)
-past c = let f = c.before.before in sym (asked-sound (ok tt f.far-1.given.0.0) (not-false _ c.if-not-sound.false)) ∙ told f
+past : (c : tie.Else-not-sound) → let f = c.before.before in ok tt f.in-Past.end ≡ span (appended f.args.instruction.now 0)
+past c = let f = c.before.before in sym (asked-sound (ok tt f.in-Past.end) (not-false _ c.if-not-sound.false)) ∙ told f
 
 pub returns-then-not-sound : goal.returns-then-not-sound
-returns-then-not-sound c = let f = c.before.before.before in unread _ (sym (asked-crooked (ok tt f.far-1.given.0.0) (not-true _ c.if-not-sound.true)) ∙ told f)
+returns-then-not-sound c = let f = c.before.before.before in unread _ (sym (asked-crooked (ok tt f.in-Past.end) (not-true _ c.if-not-sound.true)) ∙ told f)
 
 pub returns-then-end-instruction : goal.returns-then-end-instruction
 returns-then-end-instruction c = too_long _ (past c.before.before) (omega (arith, c.if-end-instruction.true))

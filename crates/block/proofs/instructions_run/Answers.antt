@@ -21,18 +21,18 @@ abbrev test : tie.After-one_skip-far → In-loop-left
 test c = c.before
 
 all : (c : After-shared_slice_known-1) → Fills instruction instruction_bytes c.args.s.now
-all c = fills instruction_layout c.shared_slice_known-1.given
+all c = fills instruction_layout c.type_inv.s
 
 pub loop-left-init : goal.loop-left-init
 loop-left-init c = walk_start instruction instruction_bytes (all c) instruction_sound _ _
 
 pub returns-in_default : goal.returns-in_default
 returns-in_default c =
-    let far = c.enum_told-1.given.1 in
+    let far = c.in_default.is in
     let call = c.before.before.before in
     let loop = (test call).before.before in
     ap of_walked far
-    ∙ walk_stop instruction instruction_bytes (all (start loop)) instruction_sound _ _ _ loop.loop-left.invariant (test call).loop-left-test.true
+    ∙ walk_stop instruction instruction_bytes (all (start loop)) instruction_sound _ _ _ loop.loop-left.invariant call.loop-left-test.true
     (sym call.one_skip-far.ensures ∙ ap of_walked far)
 
 pub loop-left-preserved : goal.loop-left-preserved
@@ -40,8 +40,8 @@ loop-left-preserved c =
     let far = c.before.before in
     let call = far.before.before in
     let loop = (test call).before.before in
-    walk_next instruction instruction_bytes (all (start loop)) instruction_sound _ _ _ loop.loop-left.invariant (test call).loop-left-test.true
-    (sym call.one_skip-far.ensures ∙ ap of_walked far.far-1.given.1)
+    walk_next instruction instruction_bytes (all (start loop)) instruction_sound _ _ _ loop.loop-left.invariant call.loop-left-test.true
+    (sym call.one_skip-far.ensures ∙ ap of_walked far.in-Past.is)
 
 pub returns : goal.returns
-returns c = walk_end instruction instruction_bytes (all (start c.before.before)) instruction_sound _ _ _ c.loop-left.invariant c.loop-left-test.false
+returns c = walk_end instruction instruction_bytes (all (goal.at.returns c).After-shared_slice_known-1) instruction_sound _ _ _ c.loop-left.invariant c.loop-left-test.false

@@ -7,25 +7,22 @@ use borrow.Author.Tests.{leb-true, eqb-true}
 use Rattle.block.proofs.Walk.{bare}
 use borrow.Author.Rules.{rules}
 use Rattle.block.proofs.is_bare.Goals as goal
-use Rattle.block.proofs.is_bare.Goals.{Start, Then-eight-eq0, Then-within}
-
-abbrev start : Then-within → Start
-start c = (goal.at.Then-within c).Start
+use Rattle.block.proofs.is_bare.Goals.{Then-eight-eq0, Then-within}
 
 abbrev tested : Then-eight-eq0 → Then-within
 tested c = (goal.at.Then-eight-eq0 c).Then-within
 
 -- 36 bytes stand within
-fits : (c : Then-within) → (start c).args.at + 36 ≤ length (start c).args.s.now
+fits : (c : Then-within) → c.args.at + 36 ≤ length c.args.s.now
 fits c = leb-true _ _ (sym c.within.ensures ∙ c.if-within.true)
 
 pub returns-then-eight-eq0 : goal.returns-then-eight-eq0
 returns-then-eight-eq0 c = λ h.
     let two = (goal.at.returns-then-eight-eq0 c).Then-eight-eq0 in
     let one = tested two in
-    let last : (start one).args.at + 24 + 8 ≡ (start one).args.at + 32 = omega arith in
+    let last : one.args.at + 24 + 8 ≡ one.args.at + 32 = omega arith in
     let zero = rw last at (sym c.four.ensures ∙ eqb-true c.four.result 0 h) in
-    (fits one, bare _ one.shared_slice_known-1.given _ (fits one) (sym two.eight.ensures ∙ two.if-eight-eq0.true) zero)
+    (fits one, bare _ one.type_inv.s _ (fits one) (sym two.eight.ensures ∙ two.if-eight-eq0.true) zero)
 
 pub overflow_add-at : goal.overflow_add-at
 overflow_add-at c = omega (arith, fits c)
@@ -34,13 +31,13 @@ pub eight-requires : goal.eight-requires
 eight-requires c = omega (arith, fits c)
 
 pub overflow_add-at-then-eight-eq0 : goal.overflow_add-at-then-eight-eq0
-overflow_add-at-then-eight-eq0 c = omega (arith, fits (tested c))
+overflow_add-at-then-eight-eq0 c = omega (arith, fits (goal.at.overflow_add-at-then-eight-eq0 c).Then-within)
 
 pub overflow_add-at-then-eight-eq0-2 : goal.overflow_add-at-then-eight-eq0-2
-overflow_add-at-then-eight-eq0-2 c = omega (arith, fits (tested c))
+overflow_add-at-then-eight-eq0-2 c = omega (arith, fits (goal.at.overflow_add-at-then-eight-eq0-2 c).Then-within)
 
 pub four-requires : goal.four-requires
-four-requires c = omega (arith, fits (tested c))
+four-requires c = omega (arith, fits (goal.at.four-requires c).Then-within)
 
 pub returns-else-eight-eq0 : goal.returns-else-eight-eq0
 returns-else-eight-eq0 c h = let z : ◌≡◌ {A = ℕ} 0 1 = cc in absurd (omega arith)

@@ -8,10 +8,7 @@ use Rattle.buffer.proofs.Alike.{Alike, alike_none, alike_more, alike_one, le_ali
 use borrow.Author.Rules.{rules}
 use Rattle.buffer.proofs.is_zero.Goals as goal
 use Rattle.buffer.proofs.is_zero.Tie as tie
-use Rattle.buffer.proofs.is_zero.Goals.{At-loop-i, Start}
-
-abbrev start : At-loop-i → Start
-start c = (goal.at.At-loop-i c).Start
+use Rattle.buffer.proofs.is_zero.Goals.{At-loop-i}
 
 abbrev in_turn : tie.After-eight → At-loop-i
 in_turn c = c.before.before
@@ -28,13 +25,13 @@ loop-i-init c = (refl, (omega arith, (omega arith, alike_none (omega arith))))
 pub returns-then-eight-ne0 : goal.returns-then-eight-ne0
 returns-then-eight-ne0 c =
     let at = in_turn c.before.before in
-    zeros-no (start at).args.a.now (start at).args.from 8 at.loop-i.i (omega arith) (λ z. omega (arith, c.eight.ensures))
+    zeros-no at.args.a.now at.args.from 8 at.loop-i.i (omega arith) (λ z. omega (arith, c.eight.ensures))
 
 pub loop-i-preserved : goal.loop-i-preserved
 loop-i-preserved c =
     let at = in_turn c.before.before in
     let i = at.loop-i.i in
-    let more = le_alike 8 (start at).args.a.now [] i at.shared_slice_known-1.given none-bytes (omega (arith, c.eight.ensures, le-nothing 8 i)) in
+    let more = le_alike 8 at.args.a.now [] i at.type_inv.a none-bytes (omega (arith, c.eight.ensures, le-nothing 8 i)) in
     (omega arith, (omega arith, (omega arith, alike_more at.loop-i.invariant.1.1.1 more)))
 
 pub loop-i-2-init : goal.loop-i-2-init
@@ -43,11 +40,11 @@ loop-i-2-init c = c.loop-i.invariant
 pub returns-then-a-i-ne0 : goal.returns-then-a-i-ne0
 returns-then-a-i-ne0 c =
     let at = in_turn2 c.before.before in
-    let s = (start at.before.before).args in
+    let s = at.args in
     zeros-no-byte s.a.now s.from at.loop-i-2.i (omega arith) (λ z. omega arith)
 
 pub loop-i-2-preserved : goal.loop-i-2-preserved
-loop-i-2-preserved c = (omega arith, (omega arith, (omega arith, alike_more (in_turn2 c.before.before).loop-i-2.invariant.1.1.1 (alike_one _ _ _ (omega arith)))))
+loop-i-2-preserved c = (omega arith, (omega arith, (omega arith, alike_more c.loop-i-2.invariant.1.1.1 (alike_one _ _ _ (omega arith)))))
 
 pub returns : goal.returns
 returns c = let at = c.loop-i-2 in zeros-yes _ _ at.i (omega arith) at.invariant.1.1.1

@@ -5,33 +5,18 @@ use borrow.Author.Rules.{rules}
 use Rattle.book.proofs.Answers.{hands_nothing}
 use Rattle.call_list.proofs.Runs as R
 use Rattle.call_list.proofs.call.Goals as goal
-use Rattle.call_list.proofs.call.Tie as tie
-use Rattle.call_list.proofs.call.Goals.{After-hand_nothing, After-hand_nothing-then-kind-eq1, After-hand_nothing-then-kind-eq2, After-hand_nothing-then-kind-eq3}
-
--- The way from where nothing was handed out to the call, each place from the next.
-abbrev creating : After-hand_nothing → tie.After-create_block
-creating c = c.before.before.before.before.before.before
-
-abbrev removing : After-hand_nothing-then-kind-eq1 → tie.After-remove_block
-removing c = c.before.before.before.before.before.before
-
-abbrev appending : After-hand_nothing-then-kind-eq2 → tie.After-append
-appending c = c.before.before.before.before.before.before
-
-abbrev undoing : After-hand_nothing-then-kind-eq3 → tie.After-undo
-undoing c = c.before.before.before.before.before.before
 
 pub returns-then-kind-eq0 : goal.returns-then-kind-eq0
-returns-then-kind-eq0 c = R.same-call _ (c.hand_nothing.ensures _ _ ∙ hands_nothing _ _ _ (creating c).create_block.ensures) (R.is-create _ _ _ (omega arith))
+returns-then-kind-eq0 c = R.same-call _ (c.hand_nothing.ensures _ _ ∙ hands_nothing _ _ _ c.create_block.ensures) (R.is-create _ _ _ (omega arith))
 
 pub returns-then-kind-eq1 : goal.returns-then-kind-eq1
-returns-then-kind-eq1 c = R.same-call _ (c.hand_nothing-then-kind-eq1.ensures _ _ ∙ hands_nothing _ _ _ (removing c).remove_block.ensures) (R.is-remove _ _ _ (omega arith))
+returns-then-kind-eq1 c = R.same-call _ (c.hand_nothing-then-kind-eq1.ensures _ _ ∙ hands_nothing _ _ _ c.remove_block.ensures) (R.is-remove _ _ _ (omega arith))
 
 pub returns-then-kind-eq2 : goal.returns-then-kind-eq2
-returns-then-kind-eq2 c = R.same-call _ (c.hand_nothing-then-kind-eq2.ensures _ _ ∙ hands_nothing _ _ _ (appending c).append.ensures) (R.is-append _ _ _ (omega arith))
+returns-then-kind-eq2 c = R.same-call _ (c.hand_nothing-then-kind-eq2.ensures _ _ ∙ hands_nothing _ _ _ c.append.ensures) (R.is-append _ _ _ (omega arith))
 
 pub returns-then-kind-eq3 : goal.returns-then-kind-eq3
-returns-then-kind-eq3 c = R.same-call _ (c.hand_nothing-then-kind-eq3.ensures _ _ ∙ hands_nothing _ _ _ (undoing c).undo.ensures) (R.is-undo _ _ _ (omega arith))
+returns-then-kind-eq3 c = R.same-call _ (c.hand_nothing-then-kind-eq3.ensures _ _ ∙ hands_nothing _ _ _ c.undo.ensures) (R.is-undo _ _ _ (omega arith))
 
 pub returns-then-kind-eq4 : goal.returns-then-kind-eq4
 returns-then-kind-eq4 c = R.same-call _ (c.hand_nothing-then-kind-eq4.ensures _ _ ∙ hands_nothing _ _ _ c.start.ensures) (R.is-start _ _ _ (omega arith))

@@ -9,7 +9,7 @@ use Rattle.machine.specs.CallList.{is_call_list}
 use Rattle.call_list.proofs.Words as W
 use Rattle.call_list.proofs.is_call_list.Goals as goal
 use Rattle.call_list.proofs.is_call_list.Tie as tie
-use Rattle.call_list.proofs.is_call_list.Goals.{Else-n-i-lt4}
+use Rattle.call_list.proofs.is_call_list.Goals.{Else-n-i-lt4, Else-words-i, Else-words-i-gt6}
 
 abbrev words : tie.At-loop-i → List ℕ
 words a = a.args.words.now

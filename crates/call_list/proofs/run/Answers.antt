@@ -14,11 +14,7 @@ use Rattle.call_list.specs.Runs.{Runs}
 use Rattle.call_list.proofs.Runs as R
 use Rattle.call_list.proofs.run.Goals as goal
 use Rattle.call_list.proofs.run.Tie as tie
-use Rattle.call_list.proofs.run.Goals.{After-done, Start}
-
--- The way through the code, each place from the next.
-abbrev start : tie.After-is_call_list → Start
-start c = c.before.before.before.before.before.before
+use Rattle.call_list.proofs.run.Goals.{After-done, After-open-arg-2-1, After-slice_known-6-1, Then-not-is_call_list, Then-opened-ne0}
 
 abbrev listed : tie.After-open-opened → tie.Else-not-is_call_list
 listed c = c.before.before.before
@@ -26,23 +22,23 @@ listed c = c.before.before.before
 abbrev opening : tie.After-struct_known-1 → tie.After-open-opened
 opening c = c.before.before.before.before.before
 
-abbrev fresh : tie.After-run_calls → tie.Else-opened-ne0
-fresh c = c.before.before.before.before
+abbrev fresh : After-slice_known-6-1 → tie.Else-opened-ne0
+fresh c = c.before.before.before.before.before
 
 abbrev calling : After-done → tie.After-run_calls
 calling c = c.before.before.before.before.before.before
 
 -- what is promised, from what the definitions say
 Promised : tie.After-is_call_list → ℕ × Told × State → Type 0
-Promised c x = let a = (start c).args in Runs a.file.now a.image-1.now a.journal-1.now a.words.now a.bytes.now a.rates.rate x
+Promised c x = let a = c.args in Runs a.file.now a.image-1.now a.journal-1.now a.words.now a.bytes.now a.rates.rate x
 
 promised : (c : tie.After-is_call_list) (x : ℕ × Told × State)
-    → (let a = (start c).args in x ≡ run_told (open_and_run a.file.now a.image-1.now a.journal-1.now a.words.now a.bytes.now a.rates.rate)) → Promised c x
+    → (let a = c.args in x ≡ run_told (open_and_run a.file.now a.image-1.now a.journal-1.now a.words.now a.bytes.now a.rates.rate)) → Promised c x
 unfolding Promised
-promised c = R.replays _ _ _ _ _ _ (λ i. omega (arith, c.shared_slice_known-2-1.given i)) (λ i. c.shared_slice_known-3-1.given i)
+promised c = R.replays _ _ _ _ _ _ (λ i. omega (arith, c.type_inv.words i)) (λ i. c.type_inv.bytes i)
 
 -- the words encode a list of calls
-encoded : (c : tie.Else-not-is_call_list) → is_call_list (start c.before).args.words.now (start c.before).args.bytes.now ≡ true
+encoded : (c : After-open-arg-2-1) → is_call_list c.args.words.now c.args.bytes.now ≡ true
 encoded c = sym c.is_call_list.ensures ∙ not-false _ c.if-not-is_call_list.false
 
 pub returns-then-not-is_call_list : goal.returns-then-not-is_call_list
@@ -65,7 +61,7 @@ returns-then-opened-ne0 c =
     ∙ R.not_opened _ _ _ _ _ _ (encoded e) _ o.«open».ensures (R.refused-is o.«open».result [] [] (λ z. omega (arith, z, t.if-opened-ne0.true))))
 
 pub run_calls-requires : goal.run_calls-requires
-run_calls-requires c = encoded (listed (opening c.before.before.before.before.before))
+run_calls-requires c = encoded (goal.at.run_calls-requires c).After-open-arg-2-1
 
 pub returns : goal.returns
 unfolding Promised

@@ -16,8 +16,8 @@ use Rattle.call_list.proofs.run_calls.Tie as tie
 use Rattle.call_list.proofs.run_calls.Goals.{After-nothing_yet-last, After-slice_known-in-loop-at-2-1, Start}
 
 -- The way through the loop, each place from the next.
-abbrev turn : tie.After-call_at-last → tie.In-loop-at
-turn c = c.before.before.before.before
+abbrev turn : After-slice_known-in-loop-at-2-1 → tie.In-loop-at
+turn c = c.before.before.before.before.before
 
 abbrev calling : After-slice_known-in-loop-at-2-1 → tie.After-call_at-last
 calling c = c.before.before.before.before.before
@@ -29,7 +29,7 @@ abbrev start : After-nothing_yet-last → Start
 start c = (goal.at.After-nothing_yet-last c).Start
 
 pub loop-at-init : goal.loop-at-init
-loop-at-init c = (R.begun-at _ _ (start c).requires (c.nothing_yet-last.ensures _ _), refl, refl)
+loop-at-init c = (R.begun-at _ _ c.requires (c.nothing_yet-last.ensures _ _), refl, refl)
 
 pub call_at-last-requires : goal.call_at-last-requires
 call_at-last-requires c = let t = c.before.before.before.before in W.sits _ _ _ (omega (arith, t.loop-at-test.true)) t.loop-at.invariant.0.encodes
@@ -54,6 +54,6 @@ loop-at-preserved c =
 pub returns : goal.returns
 returns c =
     let a = c.before.before in
-    let lent = (start (beginning a)).args in
+    let lent = a.args in
     R.ended _ _ _ _ _ a.loop-at.invariant.0 (omega (arith, c.loop-at-test.false))
-    ∙ ap (λ (x : Told × State). ran nothing_told (calls lent.words.now lent.bytes.now) x.1) ((beginning a).nothing_yet-last.ensures _ _)
+    ∙ ap (λ (x : Told × State). ran nothing_told (calls lent.words.now lent.bytes.now) x.1) (a.nothing_yet-last.ensures _ _)

@@ -7,14 +7,9 @@ use borrow.Author.Rules.{rules}
 use Rattle.machine.specs.CallList.{is_call_list}
 use Rattle.call_list.proofs.Runs as R
 use Rattle.call_list.proofs.run_on.Goals as goal
-use Rattle.call_list.proofs.run_on.Tie as tie
-use Rattle.call_list.proofs.run_on.Goals.{Start}
+use Rattle.call_list.proofs.run_on.Goals.{After-run_calls-arg-2-1, Then-not-is_call_list}
 
--- the words encode a list of calls
-abbrev start : tie.After-is_call_list → Start
-start c = c.before.before.before.before.before
-
-encoded : (c : tie.Else-not-is_call_list) → is_call_list (start c.before).args.words.now (start c.before).args.bytes.now ≡ true
+encoded : (c : After-run_calls-arg-2-1) → is_call_list c.args.words.now c.args.bytes.now ≡ true
 encoded c = sym c.is_call_list.ensures ∙ not-false _ c.if-not-is_call_list.false
 
 pub returns-then-not-is_call_list : goal.returns-then-not-is_call_list
@@ -25,7 +20,7 @@ returns-then-not-is_call_list c =
     ∙ R.no-list-on _ _ _ (sym t.is_call_list.ensures ∙ not-true _ t.if-not-is_call_list.true)
 
 pub run_calls-requires : goal.run_calls-requires
-run_calls-requires c = encoded c.before.before.before
+run_calls-requires c = encoded c
 
 pub returns : goal.returns
 returns c =

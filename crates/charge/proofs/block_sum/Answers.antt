@@ -20,6 +20,6 @@ returns c =
     let w = counting t in
     let s = lending w in
     λ rates z b n e.
-    let y = s.shared_slice_known-1.given in
+    let y = s.type_inv.s in
     let r = t.instructions_sum-instructions.ensures rates z _ _ (instructions-read _ y _ e w.jump-i.ensures w.word32-count.ensures t.jump-first.ensures) in
     (r.0, vips-passed _ y _ e r.1 c.vips_end-prev.ensures c.vips_end-end.ensures)

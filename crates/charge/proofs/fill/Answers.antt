@@ -7,11 +7,7 @@ use Rattle.charge.proofs.Groups.{group-small}
 use Rattle.charge.proofs.Tables.{FilledTo, fill_more}
 use borrow.Author.Rules.{rules}
 use Rattle.charge.proofs.fill.Goals as goal
-use Rattle.charge.proofs.fill.Tie as tie
-use Rattle.charge.proofs.fill.Goals.{After-group_of, Start}
-
-abbrev start : tie.At-loop-op → Start
-start c = c.before.before.before
+use Rattle.charge.proofs.fill.Goals.{After-group_of}
 
 pub loop-op-init : goal.loop-op-init
 loop-op-init c = (c.requires, (omega arith, λ op l. absurd (omega arith)))
@@ -23,7 +19,7 @@ grouped c = rw c.Group-of.ensures (group-small _)
 pub loop-op-preserved : goal.loop-op-preserved
 loop-op-preserved c =
     let l = c.loop-op in
-    (simp length-set l.invariant.0, (omega (arith, l.invariant.0), fill_more (start c.before.before.before).args.rates.rate-1 l.table l.op (omega arith) c.Group-of.ensures l.invariant.1.1))
+    (simp length-set l.invariant.0, (omega (arith, l.invariant.0), fill_more c.args.rates.rate-1 l.table l.op (omega arith) c.Group-of.ensures l.invariant.1.1))
 
 pub returns : goal.returns
 returns c =

@@ -25,18 +25,15 @@ loop-left-init c = (omega arith, λ rates t xs n e. begins xs e refl)
 abbrev turn : After-rate_at → tie.At-loop-left
 turn c = c.before.before.before
 
-abbrev known : tie.At-loop-left → tie.After-shared_slice_known-1
-known c = c.before.before
-
-bytes : (c : tie.At-loop-left) → Bytes (known c).args.s.now
-bytes c = (known c).shared_slice_known-1.given
+bytes : (c : tie.At-loop-left) → Bytes c.args.s.now
+bytes c = c.type_inv.s
 
 -- one more rate
 small : (c : After-rate_at) → c.rate_at.result ≤ most_rate
-small c = omega (arith, c.rate_at.type-inv)
+small c = omega (arith, c.rate_at.type_inv)
 
 pub overflow_add-sum : goal.overflow_add-sum
-overflow_add-sum c = record { fits = omega (arith, small c, (turn c).loop-left.invariant.0, c.loop-left-test.true) }
+overflow_add-sum c = record { fits = omega (arith, small c, c.loop-left.invariant.0, c.loop-left-test.true) }
 
 pub loop-left-preserved : goal.loop-left-preserved
 loop-left-preserved c =

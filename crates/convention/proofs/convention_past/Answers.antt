@@ -2,6 +2,7 @@
 use Rattle.convention.proofs.Skip.{convention-judged}
 use borrow.Author.Rules.{rules}
 use Rattle.convention.proofs.convention_past.Goals as goal
+use Rattle.convention.proofs.convention_past.Goals.{After-then_register-d, After-then_registers-b, After-then_registers-c, After-then_uint-e}
 
 pub returns : goal.returns
 returns c =

@@ -10,37 +10,31 @@ use Rattle.convention.proofs.Skip.{told-past, told-refused}
 use borrow.Author.Rules.{rules}
 use Rattle.convention.proofs.then_uint.Goals as goal
 use Rattle.convention.proofs.then_uint.Tie as tie
-use Rattle.convention.proofs.then_uint.Goals.{Else-within, Start, Then-within}
+use Rattle.convention.proofs.then_uint.Goals.{Else-within, Then-within}
 
 -- what was passed over so far, from the test on, and the entry
 abbrev passed : tie.After-within → tie.In-Past-2
 passed c = c.before.before
 
-abbrev start : tie.In-Past-2 → Start
-start c = c.before.before.before
-
-abbrev tested : Then-within → tie.In-Past-2
-tested c = passed c.before.before
-
 -- the test says that the field stands within
-within : (c : Then-within) → (tested c).far-1.given.0.0 + (start (tested c)).args.k ≤ length (start (tested c)).args.s.now
+within : (c : Then-within) → c.in-Past.at + c.args.k ≤ length c.args.s.now
 within c = leb-true _ _ (cc)
 
 -- or that it does not
-beyond : (c : Else-within) → let f = passed c.before.before in length (start f).args.s.now < f.far-1.given.0.0 + (start f).args.k
+beyond : (c : Else-within) → let f = passed c.before.before in length f.args.s.now < f.in-Past.at + f.args.k
 beyond c = leb-false _ _ (cc)
 
 pub returns-then-within : goal.returns-then-within
 unfolding passing bind
-returns-then-within c = told-past _ (tested c).far-1.given.1 (rw (span-ok _ _ _ (within c)))
+returns-then-within c = told-past _ c.in-Past.is (rw (span-ok _ _ _ (within c)))
 
 pub returns-else-within : goal.returns-else-within
 unfolding passing bind
-returns-else-within c = told-past _ (passed c.before.before).far-1.given.1 (rw (span-no _ _ _ (beyond c)))
+returns-else-within c = told-past _ c.in-Past.is (rw (span-no _ _ _ (beyond c)))
 
 pub returns-in_default : goal.returns-in_default
 unfolding passing
-returns-in_default c = told-refused _ c.enum_told-1.given.1
+returns-in_default c = told-refused _ c.in_default.is
 
 pub overflow_add-result : goal.overflow_add-result
 overflow_add-result c = omega (arith, within c)

@@ -5,7 +5,7 @@ use borrow.Author.Rules.{rules}
 use Rattle.convention.proofs.told_both.Goals as goal
 
 pub returns-in-Past : goal.returns-in-Past
-returns-in-Past c = told-past _ c.next-1.given.1 refl
+returns-in-Past c = told-past _ c.in-Past.is refl
 
 pub returns-in_default : goal.returns-in_default
-returns-in_default c = told-refused _ c.enum_told-1.given.1
+returns-in_default c = told-refused _ c.in_default.is

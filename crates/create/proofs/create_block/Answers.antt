@@ -27,7 +27,7 @@ use Rattle.create.proofs.Creates.{not_created, creates, create-costs}
 use borrow.Author.Rules.{rules}
 use Rattle.create.proofs.create_block.Goals as goal
 use Rattle.create.proofs.create_block.Tie as tie
-use Rattle.create.proofs.create_block.Goals.{After-accept, After-find-found, Else-found-count, Start}
+use Rattle.create.proofs.create_block.Goals.{After-accept, After-accept-arg-1, After-add_block-arg-1, After-find-found, After-put_trailer-arg-1, Else-found-count, Start, Then-found-count, Then-refusal-ne0}
 
 -- The way through the code, each place from the next.
 abbrev start : After-find-found → Start
@@ -39,14 +39,14 @@ finding c = (goal.at.Else-found-count c).After-find-found
 abbrev testing : tie.After-admit-refusal → Else-found-count
 testing c = c.before
 
-abbrev admitting : tie.Else-refusal-ne0 → tie.After-admit-refusal
-admitting c = c.before
+abbrev admitting : After-add_block-arg-1 → tie.After-admit-refusal
+admitting c = c.before.before
 
-abbrev passing : tie.After-add_block → tie.Else-refusal-ne0
-passing c = c.before.before
+abbrev passing : After-put_trailer-arg-1 → tie.Else-refusal-ne0
+passing c = c.before.before.before
 
-abbrev adding : tie.After-put_trailer → tie.After-add_block
-adding c = c.before.before.before.before
+abbrev adding : After-accept-arg-1 → tie.After-add_block
+adding c = (goal.at.After-accept-arg-1 c).After-put_trailer-arg-1
 
 abbrev noting : After-accept → tie.After-put_trailer
 noting c = c.before.before.before.before
@@ -79,7 +79,7 @@ module _ (s : Start) where
   sum_stays : carried s.args.book.rates.rate R R' s.args.book.sum ≡ accepted s.args.book.sum
   sum_stays = let rates = s.args.book.rates.rate in carried-to rates R R' _ _ (omega (arith, created-sum rates R s.args.vip.0)) (omega arith)
 
-finds : (c : After-find-found) → Finds (R (start c)) (start c).args.vip.0 c.find-found.result
+finds : (c : After-find-found) → Finds (R (start c)) c.args.vip.0 c.find-found.result
 finds c = let s = start c in c.find-found.ensures (R s) (sound-holding s.requires.sound)
 
 -- after its tests, the edit is made
@@ -87,14 +87,10 @@ abbrev at_tests : Else-found-count → Start
 at_tests c = start (finding c)
 
 made : (c : Else-found-count) → edited (E (at_tests c)) (R (at_tests c)) ≡ accepted (R' (at_tests c))
-made c = let f = finds (finding c) in creates _ _ (omega (arith, c.if-found-count.false, f.place, f.count))
+made c = let f = finds (goal.at.Else-found-count c).After-find-found in creates _ _ (omega (arith, c.if-found-count.false, f.place, f.count))
 
--- and after 11 and 12, there is room for it
-abbrev at_room : tie.Else-refusal-ne0 → Start
-at_room c = at_tests (testing (admitting c))
-
-room : (c : tie.Else-refusal-ne0) → ((at_room c).args.book.written + 36 ≤ length (at_room c).args.image-1.now) × ((at_room c).args.book.used + 20 ≤ length (at_room c).args.journal-1.now)
-room c = admits _ _ _ (sym (admitting c).admit-refusal.ensures ∙ c.if-refusal-ne0.false)
+room : (c : After-add_block-arg-1) → (c.args.book.written + 36 ≤ length c.args.image-1.now) × (c.args.book.used + 20 ≤ length c.args.journal-1.now)
+room c = admits _ _ _ (sym c.admit-refusal.ensures ∙ c.if-refusal-ne0.false)
 
 pub returns-then-found-count : goal.returns-then-found-count
 returns-then-found-count c =
@@ -113,10 +109,10 @@ returns-then-refusal-ne0 c =
     c.refuse-then-refusal-ne0.ensures _ _ (omega arith) ∙ not_admitted_step (S s) (R s) s.requires.sound (E s) (free s) (R' s) (made e) (grown s) (spent s) a.admit-refusal.ensures t.if-refusal-ne0.true
 
 pub add_block-requires : goal.add_block-requires
-add_block-requires c = let e = c.before.before in (is-filled (at_room e).requires, (room e).0)
+add_block-requires c = let e = c.before.before in (is-filled e.requires, (room e).0)
 
 pub put_trailer-requires : goal.put_trailer-requires
-put_trailer-requires c = (room (passing c.before.before.before.before)).1
+put_trailer-requires c = (room (goal.at.put_trailer-requires c).After-add_block-arg-1).1
 
 pub returns : goal.returns
 unfolding entry
@@ -130,4 +126,4 @@ returns c =
     c.accept.ensures _ _
     ∙ admitted_step (S s) (R s) s.requires.sound (E s) (free s) (R' s) (made e) (grown s) (spent s) a.admit-refusal.ensures l.if-refusal-ne0.left (sum_stays s)
     (b.add_block.ensures (R s) (sound-filled s.requires.sound))
-    (p.put_trailer.ensures ∙ ap (λ n. put s.args.book.used (trailer_bytes (trailer_with s.args.vip.0 n 0 1)) s.args.journal-1.now) (finds (finding e)).count)
+    (p.put_trailer.ensures ∙ ap (λ n. put s.args.book.used (trailer_bytes (trailer_with s.args.vip.0 n 0 1)) s.args.journal-1.now) (finds (goal.at.Else-found-count e).After-find-found).count)

@@ -22,8 +22,8 @@ abbrev part : After-passes-arg-1 → tie.Else-top_twice
 part c = c.before.before.before
 
 -- the highest number is not there twice, and a part of the buffer is as long as there are blocks
-apart : (c : tie.Else-top_twice) → let a = (start (searched c)).args in TopTwice (vipsFrom a.s.now a.start a.count) false
-apart c = not-twice (searched c).top_twice.ensures c.if-top_twice.false
+apart : (c : tie.Else-top_twice) → let a = c.args in TopTwice (vipsFrom a.s.now a.start a.count) false
+apart c = not-twice c.top_twice.ensures c.if-top_twice.false
 
 fits : (c : After-passes-arg-1) → let a = (start (searched (part c))).args in length (take a.count a.b-1.now) ≡ a.count
 fits c = length-take-le _ _ (omega arith)

@@ -9,14 +9,11 @@ use Rattle.distinct.proofs.Rounds.{Passing, pass-start, pass-twice, pass-more, p
 use borrow.Author.Rules.{rules}
 use Rattle.distinct.proofs.passes.Goals as goal
 use Rattle.distinct.proofs.passes.Tie as tie
-use Rattle.distinct.proofs.passes.Goals.{After-sort-arg-1}
+use Rattle.distinct.proofs.passes.Goals.{After-slice_known-in-loop-lo-2-1, After-sort-arg-1}
 
 -- The way through the code, each place from the next.
 abbrev lent : tie.At-loop-lo → tie.After-shared_slice_known-1
 lent c = c.before.before
-
-abbrev turn : tie.After-gather-hi → tie.At-loop-lo
-turn c = c.before.before.before
 
 abbrev gathered : After-sort-arg-1 → tie.After-gather-hi
 gathered c = c.before.before.before.before.before
@@ -24,14 +21,14 @@ gathered c = c.before.before.before.before.before
 abbrev sorted : goal.After-has-repeat-sorted-arg → tie.After-sort
 sorted c = c.before.before.before
 
-abbrev pass : tie.After-sort → tie.After-gather-hi
-pass c = gathered c.before
+abbrev pass : After-slice_known-in-loop-lo-2-1 → tie.After-gather-hi
+pass c = gathered c.before.before
 
 pub returns-then-has_repeat_sorted : goal.returns-then-has_repeat_sorted
 returns-then-has_repeat_sorted c =
     let t = c.before.before in
     let k = sorted t.before in
-    sym (pass-twice (pass k).gather-hi.ensures k.sort.ensures t.has_repeat_sorted.ensures c.if-has_repeat_sorted.true)
+    sym (pass-twice k.gather-hi.ensures k.sort.ensures t.has_repeat_sorted.ensures c.if-has_repeat_sorted.true)
 
 pub loop-lo-smaller : goal.loop-lo-smaller
 loop-lo-smaller c = let g = pass (sorted (goal.at.loop-lo-smaller c).After-slice_known-in-loop-lo-2-1) in omega (arith, g.gather-hi.ensures.rises (omega arith), g.gather-hi.ensures.within)
@@ -41,13 +38,13 @@ loop-lo-preserved c =
     let t = c.before.before in
     let k = sorted t.before in
     let g = pass k in
-    pass-more g.gather-hi.ensures k.sort.ensures t.has_repeat_sorted.ensures c.if-has_repeat_sorted.false (turn g).loop-lo.invariant (omega arith) (omega arith)
+    pass-more g.gather-hi.ensures k.sort.ensures t.has_repeat_sorted.ensures c.if-has_repeat_sorted.false g.loop-lo.invariant (omega arith) (omega arith)
 
 pub returns : goal.returns
 returns c =
     let t = c.before.before in
     let s = lent t in
-    sym (pass-end _ _ _ s.shared_slice_known-1.given s.requires.1 t.loop-lo.invariant (omega arith))
+    sym (pass-end _ _ _ s.type_inv.s s.requires.1 t.loop-lo.invariant (omega arith))
 
 pub loop-lo-init : goal.loop-lo-init
 loop-lo-init c = pass-start _ _
@@ -56,7 +53,7 @@ pub returns-then-hi-eq0 : goal.returns-then-hi-eq0
 returns-then-hi-eq0 c = sym (c.gather-hi.ensures.found (omega arith))
 
 pub sort-requires : goal.sort-requires
-sort-requires c = (gathered c).gather-hi.ensures.heap
+sort-requires c = c.gather-hi.ensures.heap
 
 pub has_repeat_sorted-requires : goal.has_repeat_sorted-requires
 has_repeat_sorted-requires c = (sorted c).sort.ensures.asc

@@ -2,6 +2,7 @@
 use Rattle.ends.proofs.Steps.{block_made}
 use borrow.Author.Rules.{rules}
 use Rattle.ends.proofs.block_end.Goals as goal
+use Rattle.ends.proofs.block_end.Goals.{After-instructions_end-e, After-jump-a, After-vips_end-p, After-word32-count}
 
 pub returns-then-end-gt0 : goal.returns-then-end-gt0
 returns-then-end-gt0 c = c.fast_block_end-end.ensures c.if-end-gt0.true

@@ -2,6 +2,7 @@
 use Rattle.ends.proofs.Steps.{convention_made}
 use borrow.Author.Rules.{rules}
 use Rattle.ends.proofs.convention_end.Goals as goal
+use Rattle.ends.proofs.convention_end.Goals.{After-registers_end-b, After-registers_end-c}
 
 pub returns : goal.returns
 returns c =

@@ -2,6 +2,7 @@
 use Rattle.ends.proofs.Steps.{instruction-made}
 use borrow.Author.Rules.{rules}
 use Rattle.ends.proofs.instruction_end.Goals as goal
+use Rattle.ends.proofs.instruction_end.Goals.{After-jump-b, After-jump-n, After-operands_end-e, After-word32-count, After-word32-size}
 
 pub returns-then-end-gt0 : goal.returns-then-end-gt0
 returns-then-end-gt0 c = c.fast_instruction_end-end.ensures c.if-end-gt0.true

@@ -9,12 +9,12 @@ use Rattle.fields.proofs.eight.Goals as goal
 pub overflow_mul-result : goal.overflow_mul-result
 overflow_mul-result c =
     let a = c.args in
-    omega (arith, c.four-2.ensures, le_lt 4 a.s.now (a.at + 4) c.shared_slice_known-1.given)
+    omega (arith, c.four-2.ensures, le_lt 4 a.s.now (a.at + 4) c.type_inv.s)
 
 pub overflow_add-result : goal.overflow_add-result
 overflow_add-result c =
     let a = c.args in
-    let b = c.shared_slice_known-1.given in
+    let b = c.type_inv.s in
     omega (arith, c.four-2.ensures, c.four.ensures, le_lt 4 a.s.now (a.at + 4) b, le_lt 4 a.s.now a.at b)
 
 pub returns : goal.returns

@@ -8,8 +8,8 @@ use Rattle.fields.proofs.i32_at.Goals as goal
 
 pub returns-in-Value : goal.returns-in-Value
 returns-in-Value c =
-    on-u32 _ c.field-1.given.1 c.u32_at-field.ensures
-    (stands w32 _ _ c.signed32.type-inv c.signed32.ensures)
+    on-u32 _ c.in-Value.is c.u32_at-field.ensures
+    (stands w32 _ _ c.signed32.type_inv c.signed32.ensures)
 
 pub returns-in_default : goal.returns-in_default
 returns-in_default c = search (rules, steps)

@@ -8,8 +8,8 @@ use Rattle.fields.proofs.i64_at.Goals as goal
 
 pub returns-in-Value : goal.returns-in-Value
 returns-in-Value c =
-    on-u64 _ c.field-1.given.1 c.u64_at-field.ensures
-    (stands w64 _ _ c.signed64.type-inv c.signed64.ensures)
+    on-u64 _ c.in-Value.is c.u64_at-field.ensures
+    (stands w64 _ _ c.signed64.type_inv c.signed64.ensures)
 
 pub returns-in_default : goal.returns-in_default
 returns-in_default c = search (rules, steps)

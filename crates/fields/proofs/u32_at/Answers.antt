@@ -7,27 +7,17 @@ use borrow.Author.Tests.{leb-true, leb-false}
 use Rattle.fields.proofs.Le.{le_lt, uint-ok, uint-no}
 use borrow.Author.Rules.{rules}
 use Rattle.fields.proofs.u32_at.Goals as goal
-use Rattle.fields.proofs.u32_at.Goals.{After-four, After-shared_slice_known-1, Start, Then-within}
-
--- the entry and what it tells, from the test on, and the test from the load on
-abbrev known : Then-within → After-shared_slice_known-1
-known c = (goal.at.Then-within c).After-shared_slice_known-1
-
-abbrev start : Then-within → Start
-start c = (goal.at.After-shared_slice_known-1 (known c)).Start
-
-abbrev tested : After-four → Then-within
-tested c = (goal.at.After-four c).Then-within
+use Rattle.fields.proofs.u32_at.Goals.{Then-within}
 
 -- the test says that the field stands within
-within : (c : Then-within) → (start c).args.at + 4 ≤ length (start c).args.s.now
+within : (c : Then-within) → c.args.at + 4 ≤ length c.args.s.now
 within c = leb-true _ _ (cc)
 
 pub overflow_cast-result : goal.overflow_cast-result
-overflow_cast-result c = record { fits = rw c.four.ensures (le_lt 4 _ _ (known (tested c)).shared_slice_known-1.given) }
+overflow_cast-result c = record { fits = rw c.four.ensures (le_lt 4 _ _ c.type_inv.s) }
 
 pub returns-then-within : goal.returns-then-within
-returns-then-within c = rw c.four.ensures (sym (uint-ok 4 _ _ (within (tested c))))
+returns-then-within c = rw c.four.ensures (sym (uint-ok 4 _ _ (within (goal.at.returns-then-within c).Then-within)))
 
 pub returns-else-within : goal.returns-else-within
 returns-else-within c = sym (uint-no 4 _ _ (leb-false _ _ (cc)))
@@ -36,4 +26,4 @@ pub four-requires : goal.four-requires
 four-requires c = within c
 
 pub overflow_add-result : goal.overflow_add-result
-overflow_add-result c = omega (arith, within (tested c))
+overflow_add-result c = omega (arith, within (goal.at.overflow_add-result c).Then-within)

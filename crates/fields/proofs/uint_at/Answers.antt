@@ -19,19 +19,19 @@ pub loop-i-init : goal.loop-i-init
 loop-i-init c = (omega arith, sym (le-none _ _ _))
 
 pub overflow_cast-v : goal.overflow_cast-v
-overflow_cast-v c = omega (arith, c.shared_slice_known-1.given (c.args.at + (c.loop-i.i - 1)))
+overflow_cast-v c = omega (arith, c.type_inv.s (c.args.at + (c.loop-i.i - 1)))
 
 pub overflow_mul-v : goal.overflow_mul-v
 overflow_mul-v c =
     let a = c.args in
     let l = c.loop-i in
-    omega (arith, c.shared_slice_known-1.given (a.at + (l.i - 1)), le_below (a.k - l.i) 7 a.s.now (a.at + l.i) c.shared_slice_known-1.given (omega arith))
+    omega (arith, c.type_inv.s (a.at + (l.i - 1)), le_below (a.k - l.i) 7 a.s.now (a.at + l.i) c.type_inv.s (omega arith))
 
 pub overflow_add-v-in-loop-i : goal.overflow_add-v-in-loop-i
 overflow_add-v-in-loop-i c =
     let a = c.args in
     let l = c.loop-i in
-    omega (arith, c.shared_slice_known-1.given (a.at + (l.i - 1)), le_below (a.k - l.i) 7 a.s.now (a.at + l.i) c.shared_slice_known-1.given (omega arith))
+    omega (arith, c.type_inv.s (a.at + (l.i - 1)), le_below (a.k - l.i) 7 a.s.now (a.at + l.i) c.type_inv.s (omega arith))
 
 pub loop-i-preserved : goal.loop-i-preserved
 loop-i-preserved c = (omega arith, rw c.loop-i.invariant.1 (le-more _ _ _ _ (omega arith) (omega arith)))

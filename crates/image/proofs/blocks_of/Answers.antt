@@ -2,6 +2,7 @@
 use Rattle.image.proofs.Stands.{blocks-found}
 use borrow.Author.Rules.{rules}
 use Rattle.image.proofs.blocks_of.Goals as goal
+use Rattle.image.proofs.blocks_of.Goals.{After-convention_end-b, After-conventions_end-d, After-jump-c, After-word32-count, After-word32-special}
 
 pub convention_end-a-requires : goal.convention_end-a-requires
 convention_end-a-requires c = search rules

@@ -2,6 +2,7 @@
 use Rattle.image.proofs.Stands.{convention-zero, convention-one, convention-more}
 use borrow.Author.Rules.{rules}
 use Rattle.image.proofs.convention_offset.Goals as goal
+use Rattle.image.proofs.convention_offset.Goals.{After-convention_end-b, After-jump-c, Else-place-eq1}
 
 pub returns-then-place-eq0 : goal.returns-then-place-eq0
 returns-then-place-eq0 c = λ x h l. convention-zero h c.if-place-eq0.true

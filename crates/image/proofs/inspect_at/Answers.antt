@@ -16,14 +16,14 @@ use borrow.Author.Tests.{leb-true, leb-false, not-true, not-false}
 use borrow.Author.Rules.{rules}
 use Rattle.image.proofs.inspect_at.Goals as goal
 use Rattle.image.proofs.inspect_at.Tie as tie
-use Rattle.image.proofs.inspect_at.Goals.{Else-journal-used, Else-not-is_lent, Else-not-is_zero, Else-not-passed}
+use Rattle.image.proofs.inspect_at.Goals.{Else-journal-used, Else-not-is_lent, Else-not-is_zero, Else-not-passed, Then-image-written, Then-journal-used, Then-not-is_lent, Then-not-is_lent-2, Then-not-is_zero, Then-not-passed, Then-not-walk_fits}
 
 -- The way through the code, each place from the next, and the state lent as each place sees it.
 abbrev known : tie.After-is_lent → tie.After-shared_slice_known-1
 known c = c.before.before
 
 abbrev lent : tie.After-is_lent → State
-lent c = let args = (known c).args in state args.image.now args.journal.now args.book
+lent c = let args = c.args in state args.image.now args.journal.now args.book
 
 abbrev asking : Else-not-is_lent → tie.After-is_lent
 asking c = c.before.before
@@ -53,7 +53,7 @@ clearing c = c.before
 -- What is known at them: both lendings are within the limit, then all lengths are in order, then the written length holds a routine, with zeros after it, then
 -- the walk fits it.
 image_lent : (c : Else-not-is_lent) → length (lent (asking c)).image ≤ most_lent
-image_lent c = leb-true _ _ (sym (asking c).is_lent.ensures ∙ not-false _ c.if-not-is_lent.false)
+image_lent c = leb-true _ _ (sym c.is_lent.ensures ∙ not-false _ c.if-not-is_lent.false)
 
 journal_lent : (c : tie.Else-not-is_lent-2) → length (S c).journal ≤ most_lent
 journal_lent c = leb-true _ _ (sym c.is_lent-2.ensures ∙ not-false _ c.if-not-is_lent-2.false)
@@ -64,20 +64,20 @@ written c = omega (arith, c.if-image-written.false)
 within : (c : Else-journal-used) → Within (S (lending c))
 within c =
     record {
-      image_lent = image_lent (asking_both (lending c));
+      image_lent = image_lent (goal.at.Else-journal-used c).Else-not-is_lent;
       journal_lent = journal_lent (lending c);
       written = written c.before.before;
       used = omega (arith, c.if-journal-used.false);
     }
 
 bytes : (c : Else-journal-used) → Bytes (S (lending c)).image
-bytes c = (known (asking (asking_both (lending c)))).shared_slice_known-1.given
+bytes c = (known (asking (asking_both (lending c)))).type_inv.image
 
 abbrev at_routine : Else-not-passed → Else-journal-used
 at_routine c = reading (passing c)
 
 one : (c : Else-not-passed) → is_routine (part (S (lending (at_routine c)))) ≡ true
-one c = sym (passing c).pass_image-passed.ensures.0 ∙ not-false _ c.if-not-passed.false
+one c = sym c.pass_image-passed.ensures.0 ∙ not-false _ c.if-not-passed.false
 
 zero-after : (c : Else-not-is_zero) → rest_is_zero (S (lending (at_routine (holding c.before.before)))) ≡ true
 zero-after c = sym c.is_zero.ensures ∙ not-false _ c.if-not-is_zero.false

@@ -12,11 +12,7 @@ use Rattle.image.proofs.Parts.{count-found, instruction-next}
 use borrow.Author.Rules.{rules}
 use Rattle.image.proofs.last_instruction.Goals as goal
 use Rattle.image.proofs.last_instruction.Tie as tie
-use Rattle.image.proofs.last_instruction.Goals.{After-instruction_offset-from, Start}
-
--- The way through the code, each place from the next.
-abbrev start : tie.After-word32-count → Start
-start c = c.before.before.before
+use Rattle.image.proofs.last_instruction.Goals.{After-instruction_offset-from}
 
 abbrev counting : After-instruction_offset-from → tie.After-word32-count
 counting c = c.before.before.before
@@ -26,7 +22,7 @@ module _ (x : Routine) (i : ℕ) where
   abbrev N : ℕ
   N = length (block_at i x.explored_blocks).instructions
 
-  module _ (c : tie.After-word32-count) (h : Holding (start c).args.image.now x) (l : i < length x.explored_blocks) (e : (start c).args.at ≡ block_start x i) where
+  module _ (c : tie.After-word32-count) (h : Holding c.args.image.now x) (l : i < length x.explored_blocks) (e : c.args.at ≡ block_start x i) where
     counted : c.word32-count.result ≡ N
     counted = count-found x i h l e c.jump-head.ensures c.word32-count.ensures
 
@@ -48,6 +44,6 @@ returns c x i h l e =
     let last : suc (N x i - 1) ≡ N x i = omega arith in
     record {
       from = from;
-      end = c.instruction_end-end.ensures ∙ ap (instructionEnd (start w).args.image.now) from ∙ instruction-next x i h l e (N x i - 1) (omega arith)
+      end = c.instruction_end-end.ensures ∙ ap (instructionEnd w.args.image.now) from ∙ instruction-next x i h l e (N x i - 1) (omega arith)
           ∙ ap (instruction_start x i) last;
     }

@@ -3,6 +3,7 @@ use mathlib.Core.Path.{◌∙◌}
 use Rattle.image.proofs.Stands.{past-special-count}
 use borrow.Author.Rules.{rules}
 use Rattle.image.proofs.special_count.Goals as goal
+use Rattle.image.proofs.special_count.Goals.{After-convention_end-b}
 
 pub convention_end-a-requires : goal.convention_end-a-requires
 convention_end-a-requires c = search rules

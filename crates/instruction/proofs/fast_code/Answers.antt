@@ -7,27 +7,16 @@ use Rattle.op.specs.Packed.{Known}
 use Rattle.instruction.proofs.Pass.{found}
 use borrow.Author.Rules.{rules}
 use Rattle.instruction.proofs.fast_code.Goals as goal
-use Rattle.instruction.proofs.fast_code.Tie as tie
-use Rattle.instruction.proofs.fast_code.Goals.{After-four-n, Else-code-gt255, Start}
-
--- The way through the code, each place from the next.
-abbrev sized : Else-code-gt255 → After-four-n
-sized c = (goal.at.Else-code-gt255 c).After-four-n
-
-abbrev lent : After-four-n → tie.After-shared_slice_known-1
-lent c = c.before.before.before.before
-
-abbrev start : Else-code-gt255 → Start
-start c = (lent (sized c)).before
+use Rattle.instruction.proofs.fast_code.Goals.{Else-code-gt255}
 
 -- the table knows the name
-known : (c : Else-code-gt255) → Known (take (sized c).four-n.result (drop ((start c).args.at + 4) (start c).args.s.now)) (sized c).four-n.result c.fast_lookup-code.result
-known c = c.fast_lookup-code.ensures (omega (arith, c.if-code-gt255.false)) _ _ (lent (sized c)).shared_slice_known-1.given (omega arith) c.eight.ensures
+known : (c : Else-code-gt255) → Known (take c.four-n.result (drop (c.args.at + 4) c.args.s.now)) c.four-n.result c.fast_lookup-code.result
+known c = c.fast_lookup-code.ensures (omega (arith, c.if-code-gt255.false)) _ _ c.type_inv.s (omega arith) c.eight.ensures
 
 pub returns : goal.returns
 returns c h =
     let l = (goal.at.returns c).Else-code-gt255 in
-    found _ _ _ _ (omega arith) (sized l).four-n.ensures (known l) (sym c.four.ensures ∙ c.if-four-code.false)
+    found _ _ _ _ (omega arith) l.four-n.ensures (known l) (sym c.four.ensures ∙ c.if-four-code.false)
 
 pub returns-then-s-at : goal.returns-then-s-at
 returns-then-s-at c h = absurd (omega arith)

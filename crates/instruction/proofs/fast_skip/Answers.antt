@@ -35,14 +35,14 @@ counted c = (goal.at.Else-count-code c).Else-code-gt255
 
 -- the table knows the name, and so what stands at the instruction's start is found
 known : (c : Else-code-gt255)
-    → Known (take (sized c).four-n.result (drop ((start c).args.at + 4) (start c).args.s.now)) (sized c).four-n.result c.fast_lookup-code.result
-known c = c.fast_lookup-code.ensures (omega (arith, c.if-code-gt255.false)) _ _ (lent (sized c)).shared_slice_known-1.given (omega arith) c.eight.ensures
+    → Known (take c.four-n.result (drop (c.args.at + 4) c.args.s.now)) c.four-n.result c.fast_lookup-code.result
+known c = c.fast_lookup-code.ensures (omega (arith, c.if-code-gt255.false)) _ _ c.type_inv.s (omega arith) c.eight.ensures
 
-here : (c : Else-count-code) → let l = counted c in Found (start l).args.s.now (start l).args.at l.fast_lookup-code.result
-here c = let l = counted c in found _ _ _ _ (omega arith) (sized l).four-n.ensures (known l) (sym c.four-count.ensures ∙ c.if-count-code.false)
+here : (c : Else-count-code) → let l = counted c in Found l.args.s.now l.args.at l.fast_lookup-code.result
+here c = let l = counted c in found _ _ _ _ (omega arith) l.four-n.ensures (known l) (sym c.four-count.ensures ∙ c.if-count-code.false)
 
 pub loop-left-init : goal.loop-left-init
-loop-left-init c = (omega (arith, (known (counted c)).short, c.if-count-code.false), judge_start operand operand_sound _ _ _)
+loop-left-init c = (omega (arith, (known (goal.at.loop-left-init c).Else-code-gt255).short, c.if-count-code.false), judge_start operand operand_sound _ _ _)
 
 pub loop-left-preserved : goal.loop-left-preserved
 loop-left-preserved c =
@@ -56,21 +56,21 @@ abbrev begun : After-loop-left → Else-count-code
 begun c = (goal.at.After-loop-left c).Else-count-code
 
 abbrev is_op : (c : After-loop-left) → ℕ
-is_op c = (counted (begun c)).fast_lookup-code.result / 4
+is_op c = c.fast_lookup-code.result / 4
 
 abbrev operands_at : (c : After-loop-left) → ℕ
-operands_at c = let q = counted (begun c) in (start q).args.at + 4 + (sized q).four-n.result + 4
+operands_at c = let q = counted (begun c) in q.args.at + 4 + q.four-n.result + 4
 
 opcode-read : (c : After-loop-left) → let a = (start (counted (begun c))).args in opcode a.s.now a.at ≡ ok (is_op c) (operands_at c)
 opcode-read c =
     let q = counted (begun c) in
-    (here (begun c)).is ∙ ap (λ n. ok (is_op c) ((start q).args.at + 4 + n + 4)) (sym (sized q).four-n.ensures)
+    (here (goal.at.After-loop-left c).Else-count-code).is ∙ ap (λ n. ok (is_op c) (q.args.at + 4 + n + 4)) (sym q.four-n.ensures)
 
 operands_read : (c : After-loop-left)
     → judged (many operand (get_or counts (is_op c) 0)) (every operand_sound) (start (counted (begun c))).args.s.now (operands_at c) ≡ ok c.loop-left.sound c.loop-left.o
 operands_read c =
     let l = c.loop-left in
-    rw ((here (begun c)).takes, ← (begun c).if-count-code.false) (sym (judge_end operand operand_sound _ _ _ _ l.invariant.1 c.loop-left-test.false))
+    rw ((here (goal.at.After-loop-left c).Else-count-code).takes, ← c.if-count-code.false) (sym (judge_end operand operand_sound _ _ _ _ l.invariant.1 c.loop-left-test.false))
 
 pub returns : goal.returns
 returns c h =
@@ -80,7 +80,7 @@ returns c h =
     let room : o + 21 ≤ length s = omega (arith, d.loop-left.invariant.0) in
     let last : o + 21 - 1 ≡ o + 20 = omega arith in
     let past = fast_ok s _ _ o _ _ room (opcode-read d) (operands_read d) in
-    let seen = instruction-walked s (lent (sized (counted (begun d)))).shared_slice_known-1.given _ past (fast_sound s _ _ o _ _ room (opcode-read d) (operands_read d)) in
+    let seen = instruction-walked s (lent (sized (counted (begun d)))).type_inv.s _ past (fast_sound s _ _ o _ _ room (opcode-read d) (operands_read d)) in
     sym (rw last at seen)
 
 pub returns-then-s-at : goal.returns-then-s-at
@@ -102,7 +102,7 @@ pub returns-then-count-code : goal.returns-then-count-code
 returns-then-count-code c h = absurd (omega arith)
 
 pub overflow_add-o : goal.overflow_add-o
-overflow_add-o c = omega (arith, (known (counted c)).short)
+overflow_add-o c = omega (arith, (known (goal.at.overflow_add-o c).Else-code-gt255).short)
 
 pub fast_operand-operand-requires : goal.fast_operand-operand-requires
 fast_operand-operand-requires c = omega arith

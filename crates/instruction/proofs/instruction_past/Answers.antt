@@ -8,11 +8,7 @@ use Rattle.instruction.proofs.Steps.{skip_on_op, skip_off_op}
 use borrow.Author.Rules.{rules}
 use Rattle.instruction.proofs.instruction_past.Goals as goal
 use Rattle.instruction.proofs.instruction_past.Tie as tie
-use Rattle.instruction.proofs.instruction_past.Goals.{After-operand_count}
-
--- The way through the code, each place from the next.
-abbrev reading : tie.In-Value-2 → tie.After-op_at-op
-reading c = c.before.before
+use Rattle.instruction.proofs.instruction_past.Goals.{After-operand_count, After-operands_run-o, After-then_uint-f, After-then_uint-i, After-then_uint-v}
 
 abbrev operation : After-operand_count → tie.In-Value-2
 operation c = c.before.before.before
@@ -26,7 +22,7 @@ returns-in-Value c =
     let operands = (goal.at.After-then_uint-v vip).After-operands_run-o in
     let count = (goal.at.After-operands_run-o operands).After-operand_count in
     let o = operation count in (
-      skip_on_op _ o.op-1.given.1 (reading o).op_at-op.ensures
+      skip_on_op _ o.in-Value.is o.op_at-op.ensures
           (rw (
             c.then_uint.ensures.0,
             index.then_uint-i.ensures.0,
@@ -35,7 +31,7 @@ returns-in-Value c =
             operands.operands_run-o.ensures.0,
             count.operand_count.ensures,
           ) (after_skip operand _ _ _)),
-      skip_on_op _ o.op-1.given.1 (reading o).op_at-op.ensures
+      skip_on_op _ o.in-Value.is o.op_at-op.ensures
           (rw (
             c.then_uint.ensures.1,
             index.then_uint-i.ensures.1,
@@ -49,6 +45,6 @@ returns-in-Value c =
 pub returns-in_default : goal.returns-in_default
 unfolding instruction appended
 returns-in_default c =
-    let e = c.enum_told-1.given.1 in
+    let e = c.in_default.is in
     let o = c.op_at-op.ensures in
     (skip_off_op _ e o c.op_refusal.ensures, asked-sound _ refl ∙ skip_off_op _ e o c.op_refusal.ensures)

@@ -12,34 +12,30 @@ use Rattle.laws.proofs.Walks.{instruction-within, instruction-walked, walked-no}
 use Rattle.instruction.specs.Answers.{of_asked, when_asked}
 use borrow.Author.Rules.{rules}
 use Rattle.instruction.proofs.instruction_skip.Goals as goal
-use Rattle.instruction.proofs.instruction_skip.Tie as tie
-use Rattle.instruction.proofs.instruction_skip.Goals.{After-shared_slice_known-1}
-
-abbrev known : tie.In-Past-2 → After-shared_slice_known-1
-known c = c.before.before.before
+use Rattle.instruction.proofs.instruction_skip.Goals.{In-Past}
 
 -- it was passed over
-past : (c : tie.In-Past-2) → ok tt c.far-1.given.0.0 ≡ span (instruction (known c).args.s.now (known c).args.at)
-past c = sym (ap of_asked c.far-1.given.1) ∙ c.instruction_past-far.ensures.0
+past : (c : In-Past) → ok tt c.in-Past.end ≡ span (instruction c.args.s.now c.args.at)
+past c = sym (ap of_asked c.in-Past.is) ∙ c.instruction_past-far.ensures.0
 
 -- and what was told is said of what was read
-sound : (c : tie.In-Past-2) (i : Instruction) → instruction (known c).args.s.now (known c).args.at ≡ ok i c.far-1.given.0.0
-    → c.far-1.given.0.1.0 ≡ instruction_sound i
+sound : (c : In-Past) (i : Instruction) → instruction c.args.s.now c.args.at ≡ ok i c.in-Past.end
+    → c.in-Past.sound ≡ instruction_sound i
 unfolding span
 sound c i e =
     asked-told _ _ _
-    (sym (ap when_asked c.far-1.given.1) ∙ c.instruction_past-far.ensures.1 ∙ ap span (instruction_asked _ _ e) ∙ asked-span (instruction_sound i) (ok i _))
+    (sym (ap when_asked c.in-Past.is) ∙ c.instruction_past-far.ensures.1 ∙ ap span (instruction_asked _ _ e) ∙ asked-span (instruction_sound i) (ok i _))
 
 pub returns-in-Past : goal.returns-in-Past
-returns-in-Past c = let far = c.before.before.before in instruction-walked _ (known far).shared_slice_known-1.given _ (past far) (sound far)
+returns-in-Past c = let far = c.before.before.before in instruction-walked _ far.type_inv.s _ (past far) (sound far)
 
 pub returns-in_default : goal.returns-in_default
 returns-in_default c =
     walked-no instruction instruction_bytes instruction_sound _ _
-    (handed (ap of_asked c.enum_told-1.given.1) c.instruction_past-far.ensures.0 c.plain_refusal.ensures)
+    (handed (ap of_asked c.in_default.is) c.instruction_past-far.ensures.0 c.plain_refusal.ensures)
 
 pub overflow_sub-result : goal.overflow_sub-result
-overflow_sub-result c = let far = c.before.before in omega (arith, instruction-within _ (known far).shared_slice_known-1.given _ (past far))
+overflow_sub-result c = let far = c.before.before in omega (arith, instruction-within _ far.type_inv.s _ (past far))
 
 pub bounds-s-end : goal.bounds-s-end
-bounds-s-end c = let far = c.before.before.before in omega (arith, instruction-within _ (known far).shared_slice_known-1.given _ (past far))
+bounds-s-end c = let far = c.before.before.before in omega (arith, instruction-within _ far.type_inv.s _ (past far))

@@ -15,7 +15,7 @@ use Rattle.pod.specs.Layout.{named}
 use borrow.Author.Rules.{rules}
 use Rattle.instruction.proofs.named_at.Goals as goal
 use Rattle.instruction.proofs.named_at.Tie as tie
-use Rattle.instruction.proofs.named_at.Goals.{Start}
+use Rattle.instruction.proofs.named_at.Goals.{In-Value, In-Value-1, In_default, Start}
 
 -- The way through the code, each place from the next.
 abbrev start : tie.After-is_text → Start
@@ -24,8 +24,8 @@ start c = c.before.before.before
 abbrev testing : tie.After-u32_at-count → tie.After-is_text
 testing c = c.before.before
 
-abbrev counting : tie.In-Value-2 → tie.After-u32_at-count
-counting c = c.before.before
+abbrev counting : In-Value → tie.After-u32_at-count
+counting c = (goal.at.In-Value c).In-Value-1
 
 abbrev numbering : tie.After-number_of-k → tie.In-Value-2
 numbering c = c.before.before
@@ -37,8 +37,8 @@ looking_up c = c.before.before
 abbrev Named : Start → Res ℕ
 Named s = named s.args.name.now s.args.s.now s.args.at
 
-text : (c : tie.After-u32_at-count) → is_text (start (testing c)).args.name.now ≡ true
-text c = sym (testing c).is_text.ensures ∙ c.if-is_text.true
+text : (c : tie.After-u32_at-count) → is_text c.args.name.now ≡ true
+text c = sym c.is_text.ensures ∙ c.if-is_text.true
 
 -- the two tests on the operation k and the operand count n, the last one first
 abbrev fitting : ℕ → ℕ → Reader ℕ
@@ -52,19 +52,19 @@ numbered k n = do
   fitting k n
 
 past-count : (c : tie.After-number_of-k) {x : Res ℕ} → (let n = numbering c in
-    x ≡ numbered c.number_of_lem.result n.count-1.given.0.0 (start (testing (counting n))).args.s.now n.count-1.given.0.1.0 → x ≡ Named (start (testing (counting n))))
+    x ≡ numbered c.number_of_lem.result n.in-Value.n (start (testing (counting n))).args.s.now n.in-Value.a → x ≡ Named (start (testing (counting n))))
 unfolding named
 past-count c h =
     let n = numbering c in
-    rw (← c.number_of_lem.ensures) (on-check _ _ _ (text (counting n)) (on-u32 _ n.count-1.given.1 (counting n).u32_at-count.ensures h))
+    rw (← c.number_of_lem.ensures) (on-check _ _ _ (text (counting n)) (on-u32 _ n.in-Value.is n.u32_at-count.ensures h))
 
 past-number : (c : tie.After-operand_count) {x : Res ℕ} → (let k = looking_up c in let n = numbering k in
-    x ≡ fitting k.number_of_lem.result n.count-1.given.0.0 (start (testing (counting n))).args.s.now n.count-1.given.0.1.0 → x ≡ Named (start (testing (counting n))))
+    x ≡ fitting k.number_of_lem.result n.in-Value.n (start (testing (counting n))).args.s.now n.in-Value.a → x ≡ Named (start (testing (counting n))))
 past-number c h = past-count (looking_up c) (on-check _ _ _ (lt-ltb (looking_up c).number_of_lem.result 49 (omega (arith, c.if-k-lt49.true))) h)
 
 -- the operand count that was read, and the one of the operation
 abbrev told : tie.After-operand_count → ℕ
-told c = (numbering (looking_up c)).count-1.given.0.0
+told c = c.in-Value.n
 
 abbrev wanted : tie.After-operand_count → ℕ
 wanted c = get_or counts (looking_up c).number_of_lem.result 0
@@ -83,7 +83,7 @@ unfolding named
 returns-in_default c =
     let refused = (goal.at.returns-in_default c).In_default in
     let n = refused.before.before.before in
-    on-check _ _ _ (text n) (off_u32 _ refused.enum_told-1.given.1 n.u32_at-count.ensures c.u32_refusal.ensures)
+    on-check _ _ _ (text n) (off_u32 _ refused.in_default.is n.u32_at-count.ensures c.u32_refusal.ensures)
 
 pub returns-else-is_text : goal.returns-else-is_text
 unfolding named

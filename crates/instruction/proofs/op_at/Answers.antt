@@ -4,13 +4,9 @@ use native.Mathlib.Omega.{arith}
 use Rattle.instruction.specs.Answers.{Found}
 use borrow.Author.Rules.{rules}
 use Rattle.instruction.proofs.op_at.Goals as goal
-use Rattle.instruction.proofs.op_at.Tie as tie
-use Rattle.instruction.proofs.op_at.Goals.{Start, Then-code-lt256}
+use Rattle.instruction.proofs.op_at.Goals.{Then-code-lt256}
 
-abbrev start : tie.After-fast_code-code → Start
-start c = c.before.before
-
-found : (c : Then-code-lt256) → let a = (start c.before.before).args in Found a.s.now a.at c.fast_code-code.result
+found : (c : Then-code-lt256) → let a = c.args in Found a.s.now a.at c.fast_code-code.result
 found c = c.fast_code-code.ensures (omega (arith, c.if-code-lt256.true))
 
 pub returns-then-code-lt256 : goal.returns-then-code-lt256

@@ -24,7 +24,7 @@ returns-in_default c =
     let d = c.before.before.before.before in
     let l = d.loop-left.invariant in
     let h = d.loop-left-test.true in
-    let e = sym (handed (ap of_operand c.enum_told-1.given.1) d.Operand-at.ensures.0 c.operand_refusal.ensures) in
+    let e = sym (handed (ap of_operand c.in_default.is) d.Operand-at.ensures.0 c.operand_refusal.ensures) in
     (run-stop operand _ _ _ l.0 h e, ask_stop _ _ _ _ l.1 h e)
 
 pub loop-left-preserved : goal.loop-left-preserved
@@ -32,7 +32,7 @@ loop-left-preserved c =
     let d = c.before.before.before.before in
     let l = d.loop-left.invariant in
     let h = d.loop-left-test.true in
-    let told = c.operand-1.given.1 in
+    let told = c.in-Value.is in
     let e = sym d.Operand-at.ensures.0 ∙ ap of_operand told in
     (run_next operand _ _ _ l.0 h e, ask_next _ _ _ _ l.1 h e (operand-told told d.Operand-at.ensures.1))
 

@@ -6,31 +6,20 @@ use borrow.Author.Tests.{leb-true, leb-false}
 use Rattle.instruction.proofs.Asking.{field_past, field-short, field_off}
 use borrow.Author.Rules.{rules}
 use Rattle.instruction.proofs.then_uint.Goals as goal
-use Rattle.instruction.proofs.then_uint.Tie as tie
-use Rattle.instruction.proofs.then_uint.Goals.{Start, Then-within}
-
--- what was passed over so far, from the test on, and the entry
-abbrev passed : tie.After-within → tie.In-Past-2
-passed c = c.before.before
-
-abbrev start : tie.In-Past-2 → Start
-start c = c.before.before.before
-
-abbrev tested : Then-within → tie.In-Past-2
-tested c = passed c.before.before
+use Rattle.instruction.proofs.then_uint.Goals.{Then-within}
 
 -- the test says that the field stands within
-within : (c : Then-within) → (tested c).far-1.given.0.0 + (start (tested c)).args.k ≤ length (start (tested c)).args.s.now
+within : (c : Then-within) → c.in-Past.at + c.args.k ≤ length c.args.s.now
 within c = leb-true _ _ (cc)
 
 pub returns-then-within : goal.returns-then-within
-returns-then-within c = field_past _ _ (tested c).far-1.given.1 (within c)
+returns-then-within c = field_past _ _ c.in-Past.is (within c)
 
 pub returns-else-within : goal.returns-else-within
-returns-else-within c = field-short _ _ (passed c.before.before).far-1.given.1 (leb-false _ _ (cc))
+returns-else-within c = field-short _ _ c.in-Past.is (leb-false _ _ (cc))
 
 pub overflow_add-result : goal.overflow_add-result
 overflow_add-result c = omega (arith, within c)
 
 pub returns-in_default : goal.returns-in_default
-returns-in_default c = field_off _ _ c.enum_told-1.given.1
+returns-in_default c = field_off _ _ c.in_default.is

@@ -5,11 +5,10 @@ use native.Mathlib.Omega.{arith}
 use Rattle.fields.specs.Bytes.{put, zeros}
 use borrow.Author.Rules.{rules}
 use Rattle.journal.proofs.clear_trailer.Goals as goal
-use Rattle.journal.proofs.clear_trailer.Tie as tie
-use Rattle.journal.proofs.clear_trailer.Goals.{Start}
+use Rattle.journal.proofs.clear_trailer.Goals.{After-clear-arg-1, After-slice_known-2-1, Start}
 
-abbrev start : tie.After-clear → Start
-start c = c.before.before.before
+abbrev start : After-slice_known-2-1 → Start
+start c = (goal.at.After-slice_known-2-1 c).After-clear-arg-1
 
 pub returns : goal.returns
 returns c =

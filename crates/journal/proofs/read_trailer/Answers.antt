@@ -19,14 +19,14 @@ place c = (goal.at.After-four-len c).After-four-place
 abbrev len : After-four-kind → After-four-len
 len c = (goal.at.After-four-kind c).After-four-len
 
-octets : (c : After-eight) → Bytes (start c).args.journal.now
-octets c = c.shared_slice_known-1.given
+octets : (c : After-eight) → Bytes c.args.journal.now
+octets c = c.type_inv.journal
 
 pub overflow_cast-place : goal.overflow_cast-place
-overflow_cast-place c = record { fits = rw c.four-place.ensures (le_lt 4 _ _ (octets (vip c))) }
+overflow_cast-place c = record { fits = rw c.four-place.ensures (le_lt 4 _ _ (octets (goal.at.overflow_cast-place c).After-eight)) }
 
 pub overflow_cast-len : goal.overflow_cast-len
-overflow_cast-len c = record { fits = rw c.four-len.ensures (le_lt 4 _ _ (octets (vip (place c)))) }
+overflow_cast-len c = record { fits = rw c.four-len.ensures (le_lt 4 _ _ (octets (goal.at.overflow_cast-len c).After-eight)) }
 
 pub overflow_cast-kind : goal.overflow_cast-kind
 overflow_cast-kind c = record { fits = rw c.four-kind.ensures (le_lt 4 _ _ (octets (vip (place (len c))))) }

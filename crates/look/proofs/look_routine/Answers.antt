@@ -16,7 +16,7 @@ use Rattle.look.specs.Answers.{routine_look}
 use borrow.Author.Rules.{rules}
 use Rattle.look.proofs.look_routine.Goals as goal
 use Rattle.look.proofs.look_routine.Tie as tie
-use Rattle.look.proofs.look_routine.Goals.{After-blocks_of-blocks, After-special_count-spec_conventions, After-word64, Start}
+use Rattle.look.proofs.look_routine.Goals.{After-blocks_of-blocks, After-special_count-spec_conventions, After-word64}
 
 -- the machine's byte
 module _ {s : State} (r : Ready s) where
@@ -35,12 +35,6 @@ module _ {s : State} (r : Ready s) where
   unfolding routine_look
   routine-is e f g = rw (e ∙ word_at 8 _ _ r.holding.holds.entry (entry_at r.holding), f, g, machine-is, r.is)
 
-abbrev lending : tie.After-inspect-refusal → tie.After-shared_slice_known-1
-lending c = c.before.before
-
-abbrev start : tie.After-inspect-refusal → Start
-start c = (lending c).before
-
 abbrev inspecting : After-word64 → tie.Else-refusal-ne0
 inspecting c = c.before.before.before
 
@@ -50,8 +44,8 @@ reading c = (goal.at.After-special_count-spec_conventions c).After-word64
 abbrev counting : After-blocks_of-blocks → After-special_count-spec_conventions
 counting c = (goal.at.After-blocks_of-blocks c).After-special_count-spec_conventions
 
-inspected : (c : tie.Else-refusal-ne0) → let a = (start c.before).args in Ready (state a.image.now a.journal.now a.book)
-inspected c = ready _ (lending c.before).shared_slice_known-1.given c.inspect-refusal.ensures (omega (arith, c.if-refusal-ne0.false))
+inspected : (c : tie.Else-refusal-ne0) → let a = c.args in Ready (state a.image.now a.journal.now a.book)
+inspected c = ready _ c.type_inv.image c.inspect-refusal.ensures (omega (arith, c.if-refusal-ne0.false))
 
 pub returns-then-refusal-ne0 : goal.returns-then-refusal-ne0
 unfolding routine_look
@@ -62,10 +56,10 @@ returns c =
     let b = (goal.at.returns c).After-blocks_of-blocks in
     let n = counting b in
     let r = inspected (inspecting (reading n)) in
-    routine-is r (reading n).word64.ensures (n.special_count-spec_conventions.ensures _ r.holding) (b.blocks_of-blocks.ensures _ r.holding).1
+    routine-is r n.word64.ensures (n.special_count-spec_conventions.ensures _ r.holding) (b.blocks_of-blocks.ensures _ r.holding).1
 
 pub bounds-image-4 : goal.bounds-image-4
 bounds-image-4 c = machine-room (inspected c.before.before)
 
 pub overflow_cast-arch_id : goal.overflow_cast-arch_id
-overflow_cast-arch_id c = omega (arith, c.shared_slice_known-3-1.given 4)
+overflow_cast-arch_id c = omega (arith, c.type_inv.image 4)

@@ -15,29 +15,25 @@ use Rattle.normal.proofs.Runs.{Run, run-start, run_next, run_below, run_end, run
 use borrow.Author.Rules.{rules}
 use Rattle.normal.proofs.normalise_blocks.Goals as goal
 use Rattle.normal.proofs.normalise_blocks.Tie as tie
-use Rattle.normal.proofs.normalise_blocks.Goals.{After-jump-o, After-word32-left}
-
--- The way through the code, each place from the next.
-abbrev known : After-word32-left → tie.After-slice_known-1
-known c = (goal.at.After-word32-left c).Start
+use Rattle.normal.proofs.normalise_blocks.Goals.{After-jump-o, After-shared_slice_known-1, After-struct_known-1, After-word32-left}
 
 abbrev counting : After-jump-o → After-word32-left
 counting c = (goal.at.After-jump-o c).After-shared_slice_known-1
 
-abbrev turn : tie.After-normalise_block-passed → tie.In-loop-left
-turn c = c.before.before
+abbrev turn : After-struct_known-1 → tie.In-loop-left
+turn c = c.before.before.before
 
 pub loop-left-init : goal.loop-left-init
 loop-left-init c =
     let w = counting c in
-    (refl, λ xs n e. run-start (known w).slice_known-1.given e w.word32-left.ensures c.jump-o.ensures)
+    (refl, λ xs n e. run-start w.type_inv.a e w.word32-left.ensures c.jump-o.ensures)
 
 -- with one block more the sum is no more than the whole, which fits
 pub overflow_add-sum : goal.overflow_add-sum
 overflow_add-sum c =
     let call = c.before.before.before.before in
     let l = turn call in
-    let w = (known (counting l.before.before)).requires in
+    let w = l.requires in
     let below = run_below (l.loop-left.invariant.1 w.x w.end w.reads) local-block l.loop-left-test.taken call.normalise_block-passed.ensures in
     omega (arith, below, w.fits)
 

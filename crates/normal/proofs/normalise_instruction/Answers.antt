@@ -4,17 +4,17 @@ use Rattle.normal.proofs.Wholes.{instruction-normal}
 use borrow.Author.Rules.{rules}
 use Rattle.normal.proofs.normalise_instruction.Goals as goal
 use Rattle.normal.proofs.normalise_instruction.Tie as tie
-use Rattle.normal.proofs.normalise_instruction.Goals.{After-rate_at-rate}
+use Rattle.normal.proofs.normalise_instruction.Goals.{After-normalise_flag-arg-1, After-rate_at-rate, After-slice_known-2-1, Start}
 
 -- The way through the code, each place from the next.
 abbrev known : After-rate_at-rate → tie.After-slice_known-1
 known c = (goal.at.After-rate_at-rate c).Start
 
-abbrev rating : tie.After-instruction_end-end → After-rate_at-rate
-rating c = c.before.before
+abbrev rating : After-normalise_flag-arg-1 → After-rate_at-rate
+rating c = (goal.at.After-normalise_flag-arg-1 c).After-rate_at-rate
 
-abbrev ending : tie.After-normalise_flag → tie.After-instruction_end-end
-ending c = c.before.before
+abbrev ending : After-slice_known-2-1 → tie.After-instruction_end-end
+ending c = c.before.before.before
 
 pub returns : goal.returns
 returns c =
@@ -22,4 +22,4 @@ returns c =
     let end = ending flag in
     let rate = rating end in
     let k = known rate in
-    (instruction-normal k.args.table.now k.slice_known-1.given _ rate.rate_at-rate.ensures end.instruction_end-end.ensures flag.normalise_flag.ensures, omega (arith, rate.rate_at-rate.ok))
+    (instruction-normal k.args.table.now k.type_inv.a _ rate.rate_at-rate.ensures end.instruction_end-end.ensures flag.normalise_flag.ensures, omega (arith, rate.rate_at-rate.ok))

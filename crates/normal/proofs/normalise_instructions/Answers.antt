@@ -16,22 +16,18 @@ use Rattle.normal.proofs.Runs.{Run, run-start, run_next, run_end, run_sum}
 use borrow.Author.Rules.{rules}
 use Rattle.normal.proofs.normalise_instructions.Goals as goal
 use Rattle.normal.proofs.normalise_instructions.Tie as tie
-use Rattle.normal.proofs.normalise_instructions.Goals.{After-jump-o, After-word32-left}
-
--- The way through the code, each place from the next.
-abbrev known : After-word32-left → tie.After-slice_known-1
-known c = (goal.at.After-word32-left c).Start
+use Rattle.normal.proofs.normalise_instructions.Goals.{After-jump-o, After-shared_slice_known-1, After-struct_known-1, After-word32-left}
 
 abbrev counting : After-jump-o → After-word32-left
 counting c = (goal.at.After-jump-o c).After-shared_slice_known-1
 
-abbrev turn : tie.After-normalise_instruction-passed → tie.In-loop-left
-turn c = c.before.before
+abbrev turn : After-struct_known-1 → tie.In-loop-left
+turn c = c.before.before.before
 
 pub loop-left-init : goal.loop-left-init
 loop-left-init c =
     let w = counting c in
-    (refl, omega arith, λ xs n e. run-start (known w).slice_known-1.given e w.word32-left.ensures c.jump-o.ensures)
+    (refl, omega arith, λ xs n e. run-start w.type_inv.a e w.word32-left.ensures c.jump-o.ensures)
 
 -- a rate has 32 bits, and so has the count
 pub overflow_add-sum : goal.overflow_add-sum

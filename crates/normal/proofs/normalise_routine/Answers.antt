@@ -6,26 +6,26 @@ use Rattle.normal.proofs.Wholes.{routine-normal, blocks_countable, too_short}
 use borrow.Author.Rules.{rules}
 use Rattle.normal.proofs.normalise_routine.Goals as goal
 use Rattle.normal.proofs.normalise_routine.Tie as tie
-use Rattle.normal.proofs.normalise_routine.Goals.{After-slice_known-5-1}
+use Rattle.normal.proofs.normalise_routine.Goals.{After-normalise_blocks-arg-1, After-normalise_convention-arg-1, After-normalise_convention-arg-2-1, After-normalise_conventions-arg-1, After-slice_known-5-1}
 
 -- The way through the code, each place from the next.
-abbrev known : tie.After-normalise_convention-sub → tie.After-slice_known-1
-known c = c.before.before.before.before
+abbrev known : After-normalise_convention-arg-2-1 → tie.After-slice_known-1
+known c = (goal.at.After-normalise_convention-arg-2-1 c).After-normalise_convention-arg-1
 
-abbrev own : tie.After-normalise_convention-special → tie.After-normalise_convention-sub
-own c = c.before.before.before.before
+abbrev own : After-normalise_conventions-arg-1 → tie.After-normalise_convention-sub
+own c = (goal.at.After-normalise_conventions-arg-1 c).After-normalise_convention-arg-2-1
 
-abbrev sub : tie.After-normalise_conventions-blocks → tie.After-normalise_convention-special
-sub c = c.before.before.before.before
+abbrev sub : After-normalise_blocks-arg-1 → tie.After-normalise_convention-special
+sub c = (goal.at.After-normalise_blocks-arg-1 c).After-normalise_conventions-arg-1
 
-abbrev special : tie.After-normalise_blocks → tie.After-normalise_conventions-blocks
-special c = c.before.before.before.before
+abbrev special : After-slice_known-5-1 → tie.After-normalise_conventions-blocks
+special c = c.before.before.before.before.before
 
 abbrev blocks : After-slice_known-5-1 → tie.After-normalise_blocks
 blocks c = c.before.before.before
 
 pub returns-then-a-le-PAD : goal.returns-then-a-le-PAD
-returns-then-a-le-PAD c = let k = c.before.before.before in too_short k.args.table.now k.slice_known-1.given (omega (arith, c.if-a-le-PAD.true))
+returns-then-a-le-PAD c = let k = c.before.before.before in too_short k.args.table.now k.type_inv.a (omega (arith, c.if-a-le-PAD.true))
 
 pub shape_of-a : goal.shape_of-a
 shape_of-a c =
@@ -34,7 +34,7 @@ shape_of-a c =
     let u = sub v in
     let o = own u in
     b.normalise_blocks.kept.0 ∙ v.normalise_conventions-blocks.kept.0 ∙ u.normalise_convention-special.kept.0 ∙ o.normalise_convention-sub.kept.0
-    ∙ length-set (known o).args.a-1.now _ _
+    ∙ length-set o.args.a-1.now _ _
 
 pub normalise_blocks-requires : goal.normalise_blocks-requires
 normalise_blocks-requires c =
@@ -42,7 +42,7 @@ normalise_blocks-requires c =
     let u = sub v in
     let o = own u in
     let k = known o in
-    blocks_countable k.slice_known-1.given refl o.normalise_convention-sub.ensures u.normalise_convention-special.ensures v.normalise_conventions-blocks.ensures
+    blocks_countable k.type_inv.a refl o.normalise_convention-sub.ensures u.normalise_convention-special.ensures v.normalise_conventions-blocks.ensures
     k.args.table.now k.requires
 
 pub returns : goal.returns
@@ -51,5 +51,5 @@ returns c =
     let v = special b in
     let u = sub v in
     let o = own u in
-    routine-normal (known o).slice_known-1.given refl o.normalise_convention-sub.ensures u.normalise_convention-special.ensures
-    v.normalise_conventions-blocks.ensures (known o).args.table.now b.normalise_blocks.ensures
+    routine-normal o.type_inv.a refl o.normalise_convention-sub.ensures u.normalise_convention-special.ensures
+    v.normalise_conventions-blocks.ensures o.args.table.now b.normalise_blocks.ensures

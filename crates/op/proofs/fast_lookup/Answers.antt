@@ -8,21 +8,17 @@ use Rattle.op.specs.declared.Slot.{Slot}
 use Rattle.op.proofs.Packed.{low_below, known, bits-long}
 use borrow.Author.Rules.{rules}
 use Rattle.op.proofs.fast_lookup.Goals as goal
-use Rattle.op.proofs.fast_lookup.Goals.{After-low-v, After-slot_of, Start}
-
--- The way through the code, each place from the next.
-abbrev measured : After-low-v → Start
-measured c = (goal.at.After-low-v c).Start
+use Rattle.op.proofs.fast_lookup.Goals.{After-low-v, After-slot_of}
 
 abbrev asked : After-slot_of → After-low-v
 asked c = (goal.at.After-slot_of c).After-low-v
 
 -- What is known there: n is at most 6, so the lowest n bytes are less than 2^48.
-short : (c : After-low-v) → (measured c).args.n ≤ 6
+short : (c : After-low-v) → c.args.n ≤ 6
 short c = omega arith
 
 small : (c : After-low-v) → c.low-v.result < 2 ^ 48
-small c = omega (arith, c.low-v.ensures, low_below (measured c).args.word (measured c).args.n (short c))
+small c = omega (arith, c.low-v.ensures, low_below c.args.word c.args.n (short c))
 
 -- the entry found is for names of that length
 at_bits : (n v h : ℕ) (r : Slot) → h ≡ bits n v → Entry (h / 32) h r → Entry n (bits n v) r
@@ -35,7 +31,7 @@ pub returns : goal.returns
 returns c h s o b l e =
     let f = (goal.at.returns c).After-slot_of in
     let g = asked f in
-    let n = (measured g).args.n in
+    let n = g.args.n in
     let q = c.code_of.ensures h in
     let cut : g.low-v.result ≡ le 8 s o % 2 ^ (8 * n) = g.low-v.ensures ∙ ap (λ v. v % 2 ^ (8 * n)) e in
     rw (sym q.1) (known s o n (bits n g.low-v.result) f.slot_of.result b l (short g) (q.0 ∙ cut) (code_of-requires f f.slot_of.lifetimes))

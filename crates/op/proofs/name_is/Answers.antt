@@ -11,11 +11,7 @@ use Rattle.op.specs.Ops.{names}
 use borrow.Author.Rules.{rules}
 use Rattle.op.proofs.name_is.Goals as goal
 use Rattle.op.proofs.name_is.Tie as tie
-use Rattle.op.proofs.name_is.Goals.{After-shared_slice_known-1, Start}
-
--- the way through the code, each place from the next
-abbrev start : tie.At-loop-j → Start
-start c = c.before
+use Rattle.op.proofs.name_is.Goals.{After-shared_slice_known-1}
 
 abbrev turn : After-shared_slice_known-1 → tie.At-loop-j
 turn c = c.before.before.before
@@ -25,17 +21,17 @@ at_byte c = turn c.before
 
 -- the byte of the name that the table has
 spelt : (c : tie.At-loop-j) → c.loop-j.j < 6
-    → get_or (start c).args.table.now ((start c).args.k * 6 + c.loop-j.j) 0 ≡ get_or (get_or names (start c).args.k []) c.loop-j.j 0
+    → get_or c.args.table.now (c.args.k * 6 + c.loop-j.j) 0 ≡ get_or (get_or names c.args.k []) c.loop-j.j 0
 spelt c h =
-    ap (λ l. get_or l ((start c).args.k * 6 + c.loop-j.j) 0) (start c).requires.1.1
-    ∙ in_six_at (start c).args.k c.loop-j.j (start c).requires.0 h
+    ap (λ l. get_or l (c.args.k * 6 + c.loop-j.j) 0) c.requires.1.1
+    ∙ in_six_at c.args.k c.loop-j.j c.requires.0 h
 
 -- the table is long enough
-within : (c : tie.At-loop-j) → c.loop-j.j < 6 → (start c).args.k * 6 + c.loop-j.j < length (start c).args.table.now
-within c h = omega (arith, ap length (start c).requires.1.1, in_six_many, (start c).requires.0)
+within : (c : tie.At-loop-j) → c.loop-j.j < 6 → c.args.k * 6 + c.loop-j.j < length c.args.table.now
+within c h = omega (arith, ap length c.requires.1.1, in_six_many, c.requires.0)
 
 short-name : (c : tie.In-loop-j) → c.loop-j.j < 6
-short-name c = omega (arith, short (start c.before).args.k, c.requires.1.0)
+short-name c = omega (arith, short c.args.k, c.requires.1.0)
 
 pub returns-then-w-j : goal.returns-then-w-j
 returns-then-w-j c =

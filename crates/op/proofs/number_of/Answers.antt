@@ -11,10 +11,11 @@ use Rattle.op.specs.ByLength.{by_length, between, in_six}
 use borrow.Author.Rules.{rules}
 use Rattle.op.proofs.number_of.Goals as goal
 use Rattle.op.proofs.number_of.Tie as tie
+use Rattle.op.proofs.number_of.Goals.{After-table-1}
 
 -- the way through the code, each place from the next; the name, and the end of the part
-abbrev turn : tie.After-listed_at-k → tie.At-loop-i
-turn c = c.before.before.before
+abbrev turn : After-table-1 → tie.At-loop-i
+turn c = c.before.before.before.before
 
 abbrev name : tie.At-loop-i → List ℕ
 name c = c.args.w.now
@@ -26,7 +27,7 @@ pub loop-i-init : goal.loop-i-init
 loop-i-init c = all _ _ c.with_length-part.ensures.holds
 
 -- of the operations still to come the one at the loop's place is the next
-next : (c : tie.After-listed_at-k) → Rest (name (turn c)) (c.listed_at-k.result ∷ between ((turn c).loop-i.i + 1) (end (turn c)))
+next : (c : After-table-1) → Rest (name (turn c)) (c.listed_at-k.result ∷ between (c.loop-i.i + 1) (end (turn c)))
 next c =
     let t = turn c in
     let e : between t.loop-i.i (end t) ≡ get_or by_length t.loop-i.i 49 ∷ between (t.loop-i.i + 1) (end t) =
@@ -36,13 +37,13 @@ next c =
 
 pub name_is-requires : goal.name_is-requires
 unfolding names in_six
-name_is-requires c = let q = next_own _ _ _ (next c.before.before) in (q.0, (sym q.1, refl))
+name_is-requires c = let q = next_own _ _ _ (next c) in (q.0, (sym q.1, refl))
 
 pub returns-then-name_is : goal.returns-then-name_is
-returns-then-name_is c = found _ _ _ (next c.before.before.before.before) (cc)
+returns-then-name_is c = found _ _ _ (next (goal.at.returns-then-name_is c).After-table-1) (cc)
 
 pub loop-i-preserved : goal.loop-i-preserved
-loop-i-preserved c = passed _ _ _ (next c.before.before.before.before) (cc)
+loop-i-preserved c = passed _ _ _ (next (goal.at.loop-i-preserved c).After-table-1) (cc)
 
 pub returns : goal.returns
 returns c =

@@ -14,7 +14,7 @@ use Rattle.outside.proofs.Runs.{Run, run-start, run_stands, run_next, run_end}
 use borrow.Author.Rules.{rules}
 use Rattle.outside.proofs.mask_blocks.Goals as goal
 use Rattle.outside.proofs.mask_blocks.Tie as tie
-use Rattle.outside.proofs.mask_blocks.Goals.{After-mask_block-arg-1, Start}
+use Rattle.outside.proofs.mask_blocks.Goals.{After-mask_block-arg-1}
 
 pub loop-blocks-init : goal.loop-blocks-init
 loop-blocks-init c = (refl, λ xs m h. run-start m h)
@@ -23,13 +23,10 @@ loop-blocks-init c = (refl, λ xs m h. run-start m h)
 abbrev turn : After-mask_block-arg-1 → tie.In-loop-blocks
 turn c = c.before.before
 
-abbrev start : tie.In-loop-blocks → Start
-start c = c.before.before.before
-
 pub mask_block-o-requires : goal.mask_block-o-requires
 mask_block-o-requires c =
     let l = turn c in
-    let w = (start l).requires in
+    let w = l.requires in
     run_stands (l.loop-blocks.invariant.1 w.x w.holds w.at) (omega (arith, l.loop-blocks-test.taken))
 
 pub loop-blocks-preserved : goal.loop-blocks-preserved

@@ -14,7 +14,7 @@ use Rattle.outside.proofs.Runs.{Run, run-start, run_stands, run_next, run_end}
 use borrow.Author.Rules.{rules}
 use Rattle.outside.proofs.mask_instructions.Goals as goal
 use Rattle.outside.proofs.mask_instructions.Tie as tie
-use Rattle.outside.proofs.mask_instructions.Goals.{After-mask_instruction-arg-1, Start}
+use Rattle.outside.proofs.mask_instructions.Goals.{After-mask_instruction-arg-1}
 
 pub loop-instructions-init : goal.loop-instructions-init
 loop-instructions-init c = (refl, λ xs m h. run-start m h)
@@ -23,13 +23,10 @@ loop-instructions-init c = (refl, λ xs m h. run-start m h)
 abbrev turn : After-mask_instruction-arg-1 → tie.In-loop-instructions
 turn c = c.before.before
 
-abbrev start : tie.In-loop-instructions → Start
-start c = c.before.before.before
-
 pub mask_instruction-o-requires : goal.mask_instruction-o-requires
 mask_instruction-o-requires c =
     let l = turn c in
-    let w = (start l).requires in
+    let w = l.requires in
     run_stands (l.loop-instructions.invariant.1 w.x w.holds w.at) (omega (arith, l.loop-instructions-test.taken))
 
 pub loop-instructions-preserved : goal.loop-instructions-preserved

@@ -4,8 +4,7 @@ use Prim.Native.Nat.{◌≤◌}
 use Rattle.outside.proofs.Parts.{operand-within, kind-small, times-kind, operand_masked}
 use borrow.Author.Rules.{rules}
 use Rattle.outside.proofs.mask_operand.Goals as goal
-use Rattle.outside.proofs.mask_operand.Tie as tie
-use Rattle.outside.proofs.mask_operand.Goals.{After-eight, After-four-kind, Start}
+use Rattle.outside.proofs.mask_operand.Goals.{After-eight, After-four-kind, After-slice_known-1, After-slice_known-2-1, Start}
 
 -- The way through the code, each place from the next.
 abbrev start : After-four-kind → Start
@@ -14,33 +13,33 @@ start c = c.before.before.before
 abbrev reading : After-eight → After-four-kind
 reading c = (goal.at.After-eight c).After-slice_known-1
 
-abbrev storing : tie.After-put_u64 → After-eight
-storing c = c.before.before
+abbrev storing : After-slice_known-2-1 → After-eight
+storing c = c.before.before.before
 
 -- What is known at them.
 small : (c : After-four-kind) → c.four-kind.result ≤ 1
-small c = omega (arith, c.four-kind.ensures, kind-small (start c).requires)
+small c = omega (arith, c.four-kind.ensures, kind-small c.requires)
 
 pub four-kind-requires : goal.four-kind-requires
 four-kind-requires c = omega (arith, operand-within c.requires)
 
 pub eight-requires : goal.eight-requires
-eight-requires c = omega (arith, operand-within (start (goal.at.eight-requires c).After-slice_known-1).requires)
+eight-requires c = omega (arith, operand-within c.requires)
 
 pub overflow_mul-kept : goal.overflow_mul-kept
-overflow_mul-kept c = record { fits = omega (arith, times-kind c.eight.result (reading c).four-kind.result (small (reading c))) }
+overflow_mul-kept c = record { fits = omega (arith, times-kind c.eight.result c.four-kind.result (small (goal.at.overflow_mul-kept c).After-four-kind)) }
 
 pub put_u64-requires : goal.put_u64-requires
-put_u64-requires c = omega (arith, operand-within (start (reading (goal.at.put_u64-requires c).After-eight)).requires)
+put_u64-requires c = omega (arith, operand-within c.requires)
 
 pub overflow_mul-more : goal.overflow_mul-more
-overflow_mul-more c = record { fits = omega (arith, small (reading (storing c.before.before.before))) }
+overflow_mul-more c = record { fits = omega (arith, small (goal.at.overflow_mul-more c).After-four-kind) }
 
 pub overflow_add-result-2 : goal.overflow_add-result-2
-overflow_add-result-2 c = record { fits = omega (arith, small (reading (storing c.before.before.before)), operand-within (start (reading (storing c.before.before.before))).requires) }
+overflow_add-result-2 c = record { fits = omega (arith, small (goal.at.overflow_add-result-2 c).After-four-kind, operand-within (start (reading (storing c.before.before.before))).requires) }
 
 pub returns : goal.returns
 returns c =
     let put = c.before.before.before in
     let value = storing put in
-    operand_masked (reading value).four-kind.ensures value.eight.ensures put.put_u64.ensures
+    operand_masked value.four-kind.ensures value.eight.ensures put.put_u64.ensures

@@ -14,7 +14,7 @@ use Rattle.outside.proofs.Runs.{Run, run-start, run_stands, run_next, run_end}
 use borrow.Author.Rules.{rules}
 use Rattle.outside.proofs.mask_operands.Goals as goal
 use Rattle.outside.proofs.mask_operands.Tie as tie
-use Rattle.outside.proofs.mask_operands.Goals.{After-mask_operand-arg-1, Start}
+use Rattle.outside.proofs.mask_operands.Goals.{After-mask_operand-arg-1}
 
 pub loop-operands-init : goal.loop-operands-init
 loop-operands-init c = (refl, λ xs m h. run-start m h)
@@ -23,13 +23,10 @@ loop-operands-init c = (refl, λ xs m h. run-start m h)
 abbrev turn : After-mask_operand-arg-1 → tie.In-loop-operands
 turn c = c.before.before
 
-abbrev start : tie.In-loop-operands → Start
-start c = c.before.before.before
-
 pub mask_operand-o-requires : goal.mask_operand-o-requires
 mask_operand-o-requires c =
     let l = turn c in
-    let w = (start l).requires in
+    let w = l.requires in
     run_stands (l.loop-operands.invariant.1 w.x w.holds w.at) (omega (arith, l.loop-operands-test.taken))
 
 pub loop-operands-preserved : goal.loop-operands-preserved

@@ -60,7 +60,7 @@ lent c = leb-true _ _ (sym c.is_lent.ensures ∙ not-false _ c.if-not-is_lent.fa
 inspected : (c : Held) → Ready (S (at_start c))
 inspected c =
     let i = c.before in
-    ready _ (known (asking i).before.before).shared_slice_known-1.given i.inspect-refusal.ensures (omega (arith, c.if-refusal-ne0.false))
+    ready _ i.type_inv.image i.inspect-refusal.ensures (omega (arith, c.if-refusal-ne0.false))
 
 -- the answer and the second image of the call, where both are known
 both : (s : Start) {r : Written} {left : List ℕ} {x : Outcome ℕ × List ℕ} → outside_copy (S s) (C s) ≡ x → r ≡ write_answer x.0 → left ≡ x.1

@@ -7,17 +7,17 @@ use Rattle.outside.proofs.Copies.{filled-long, holding, blocks_stand, masked-is}
 use borrow.Author.Rules.{rules}
 use Rattle.outside.proofs.put_masked.Goals as goal
 use Rattle.outside.proofs.put_masked.Tie as tie
-use Rattle.outside.proofs.put_masked.Goals.{After-struct_known-1, Start}
+use Rattle.outside.proofs.put_masked.Goals.{After-clear-arg-1, After-slice_known-3-1, After-struct_known-1, Start}
 
 -- The way through the code, each place from the next.
-abbrev start : tie.After-copy_at → Start
-start c = c.before.before.before.before.before
+abbrev start : After-clear-arg-1 → Start
+start c = c.before.before.before.before.before.before
 
-abbrev copying : tie.After-clear → tie.After-copy_at
-copying c = c.before.before.before.before
+abbrev copying : After-slice_known-3-1 → tie.After-copy_at
+copying c = c.before.before.before.before.before
 
-abbrev clearing : tie.After-blocks_of-blocks → tie.After-clear
-clearing c = c.before.before.before.before
+abbrev clearing : After-struct_known-1 → tie.After-clear
+clearing c = c.before.before.before.before.before
 
 abbrev finding : After-struct_known-1 → tie.After-blocks_of-blocks
 finding c = c.before.before.before

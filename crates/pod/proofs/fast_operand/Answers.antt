@@ -19,16 +19,16 @@ lent c = (goal.at.After-four-kind c).After-shared_slice_known-1
 
 -- the width and the offset are numbers of 32 bits
 width_fits : (c : After-four-offset) → c.four-width.result < 2 ^ 32
-width_fits c = rw c.four-width.ensures (le_lt 4 _ _ (lent (kind_read (passed c))).shared_slice_known-1.given)
+width_fits c = rw c.four-width.ensures (le_lt 4 _ _ (lent (kind_read (passed c))).type_inv.s)
 
 offset-fits : (c : After-four-offset) → c.four-offset.result < 2 ^ 32
-offset-fits c = rw c.four-offset.ensures (le_lt 4 _ _ (lent (kind_read (passed c))).shared_slice_known-1.given)
+offset-fits c = rw c.four-offset.ensures (le_lt 4 _ _ (lent (kind_read (passed c))).type_inv.s)
 
 pub returns-then-kind-gt1 : goal.returns-then-kind-gt1
 returns-then-kind-gt1 c = λ h. absurd (omega arith)
 
 pub overflow_mul-kind : goal.overflow_mul-kind
-overflow_mul-kind c = record { fits = small _ _ c.if-kind-gt1.false (rw c.wide-top.ensures (c.shared_slice_known-2-1.given _).fits) }
+overflow_mul-kind c = record { fits = small _ _ c.if-kind-gt1.false (rw c.wide-top.ensures (c.type_inv.s _).fits) }
 
 pub returns-then-kind-top-gt2 : goal.returns-then-kind-top-gt2
 returns-then-kind-top-gt2 c = λ h. absurd (omega arith)
@@ -38,7 +38,7 @@ returns c = λ h.
     let p = passed c in
     let k = kind_read p in
     let w = p.before.before.before in (
-      fast _ _ (lent k).shared_slice_known-1.given (lent k).requires _ _ _ _ k.four-kind.ensures w.wide-top.ensures c.four-width.ensures c.four-offset.ensures
+      fast _ _ k.type_inv.s k.requires _ _ _ _ k.four-kind.ensures w.wide-top.ensures c.four-width.ensures c.four-offset.ensures
           p.if-kind-gt1.left p.if-kind-top-gt2.left,
       omega (arith, p.if-kind-gt1.left),
     )
@@ -47,4 +47,4 @@ pub overflow_add-reach : goal.overflow_add-reach
 overflow_add-reach c = record { fits = omega (arith, width_fits c, offset-fits c) }
 
 pub overflow_mul-result-2 : goal.overflow_mul-result-2
-overflow_mul-result-2 c = record { fits = small_reach _ _ _ (passed c).if-kind-gt1.false (width_fits c) (offset-fits c) }
+overflow_mul-result-2 c = record { fits = small_reach _ _ _ c.if-kind-gt1.false (width_fits c) (offset-fits c) }

@@ -1,6 +1,7 @@
 -- `pod::is_slice` meets its contract: the laws of two signed numbers, each as it stands after its test.
 use Rattle.pod.proofs.Slices.{narrow, before, width_cast, offset_cast, reach_fits, reaches}
 use Rattle.pod.proofs.is_slice.Goals as goal
+use Rattle.pod.proofs.is_slice.Goals.{Start}
 
 pub returns-then-width-lt1 : goal.returns-then-width-lt1
 returns-then-width-lt1 c = narrow _ c.ranges.width _ c.if-width-lt1.true

@@ -19,12 +19,12 @@ pub returns-in_default : goal.returns-in_default
 returns-in_default c =
     let d = c.before.before.before.before in
     judge_stop register is_sound _ _ _ _ d.loop-left.invariant d.loop-left-test.true
-    (sym (handed (ap of_register c.enum_told-1.given.1) d.register_at-register.ensures.0 c.register_refusal.ensures))
+    (sym (handed (ap of_register c.in_default.is) d.register_at-register.ensures.0 c.register_refusal.ensures))
 
 pub loop-left-preserved : goal.loop-left-preserved
 loop-left-preserved c =
     let d = c.before.before.before.before in
-    let told = c.register-1.given.1 in
+    let told = c.in-Value.is in
     judge_next register is_sound _ _ _ _ d.loop-left.invariant d.loop-left-test.true (sym d.register_at-register.ensures.0 ∙ ap of_register told)
     (register-told told d.register_at-register.ensures.1)
 

@@ -14,39 +14,30 @@ use Rattle.pread.proofs.Found.{accepts, refuses, block_room, instructions-end, p
 use borrow.Author.Rules.{rules}
 use Rattle.pread.proofs.block_at.Goals as goal
 use Rattle.pread.proofs.block_at.Tie as tie
-use Rattle.pread.proofs.block_at.Goals.{After-instructions_skip-instructions, After-shared_slice_known-1, After-then_vips-prevs, After-walked_end-in-Past}
-
-abbrev prevs : tie.After-then_vips-nexts → After-then_vips-prevs
-prevs c = c.before
-
-abbrev instructions : tie.After-then_vips-nexts → After-instructions_skip-instructions
-instructions c = (goal.at.After-then_vips-prevs (prevs c)).After-instructions_skip-instructions
-
-abbrev known : tie.After-then_vips-nexts → After-shared_slice_known-1
-known c = (goal.at.After-instructions_skip-instructions (instructions c)).After-shared_slice_known-1
+use Rattle.pread.proofs.block_at.Goals.{After-walked_end-in-Past, In-Past, In-Past-1, In_default}
 
 -- the three walks together
-whole : (c : tie.After-then_vips-nexts) → let a = (known c).args in of_walked c.then_vips-nexts.result ≡ walked block block_bytes block_sound a.s.now a.at
-whole c = rw (c.then_vips-nexts.ensures, (prevs c).then_vips-prevs.ensures, (instructions c).instructions_skip-instructions.ensures) (block_walked _ (known c).shared_slice_known-1.given _)
+whole : (c : tie.After-then_vips-nexts) → let a = c.args in of_walked c.then_vips-nexts.result ≡ walked block block_bytes block_sound a.s.now a.at
+whole c = rw (c.then_vips-nexts.ensures, c.then_vips-prevs.ensures, c.instructions_skip-instructions.ensures) (block_walked _ c.type_inv.s _)
 
-abbrev walking : tie.In-Past-2 → tie.After-then_vips-nexts
-walking c = c.before.before
+abbrev walking : In-Past → tie.After-then_vips-nexts
+walking c = (goal.at.In-Past c).In-Past-1
 
 -- the block that was walked over, and where its lists of vips stand
 
-there : (c : tie.In-Past-2) → let a = (known (walking c)).args in (b : BasicBlock) × (block a.s.now a.at ≡ ok b c.nexts-1.given.0.0)
-there c = accepts block block_bytes block_sound _ _ (ap of_walked c.nexts-1.given.1) (whole (walking c))
+there : (c : In-Past) → let a = c.args in (b : BasicBlock) × (block a.s.now a.at ≡ ok b c.in-Past.end)
+there c = accepts block block_bytes block_sound _ _ (ap of_walked c.in-Past.is) (whole (walking c))
 
 -- where its lists of vips stand
-prevs-at : (c : tie.In-Past-2) → let w = walking c in end_of (of_walked (instructions w).instructions_skip-instructions.result) ≡ prev_list (known w).args.at (there c).0
+prevs-at : (c : In-Past) → let w = walking c in end_of (of_walked w.instructions_skip-instructions.result) ≡ prev_list w.args.at (there c).0
 prevs-at c =
     let w = walking c in
-    ap end_of (instructions w).instructions_skip-instructions.ensures ∙ instructions-end _ (known w).shared_slice_known-1.given _ _ (there c).1
+    ap end_of w.instructions_skip-instructions.ensures ∙ instructions-end _ w.type_inv.s _ _ (there c).1
 
-nexts_at : (c : tie.In-Past-2) → let w = walking c in end_of (of_walked (prevs w).then_vips-prevs.result) ≡ next_list (known w).args.at (there c).0
+nexts_at : (c : In-Past) → let w = walking c in end_of (of_walked w.then_vips-prevs.result) ≡ next_list w.args.at (there c).0
 nexts_at c =
     let w = walking c in
-    rw ((prevs w).then_vips-prevs.ensures, (instructions w).instructions_skip-instructions.ensures) (prevs-end _ (known w).shared_slice_known-1.given _ _ (there c).1)
+    rw (w.then_vips-prevs.ensures, w.instructions_skip-instructions.ensures) (prevs-end _ w.type_inv.s _ _ (there c).1)
 
 abbrev accepted : After-walked_end-in-Past → tie.In-Past-2
 accepted c = c.before.before.before.before
@@ -56,7 +47,7 @@ block_there-requires c =
     let n = accepted c in
     let p = c.walked_end.ensures ∙ prevs-at n in
     let q = c.walked_end-in-Past.ensures ∙ nexts_at n in
-    let room = block_room _ (known (walking n)).shared_slice_known-1.given _ _ (there n).1 in
+    let room = block_room _ n.type_inv.s _ _ (there n).1 in
     (room.0, omega (arith, p, room.1), omega (arith, q, room.2))
 
 pub returns-in-Past : goal.returns-in-Past
@@ -71,4 +62,4 @@ unfolding block_read
 returns-in_default c =
     let told = (goal.at.returns-in_default c).In_default in
     c.no_block.ensures
-    ∙ ap (block_read _) (sym (refuses block block_bytes block_sound _ _ (ap of_walked told.enum_told-1.given.1) (whole told.before.before.before) c.walked_refusal.ensures))
+    ∙ ap (block_read _) (sym (refuses block block_bytes block_sound _ _ (ap of_walked told.in_default.is) (whole told.before.before.before) c.walked_refusal.ensures))

@@ -4,6 +4,7 @@ use mir.ValLaws.{to_z-of_z}
 use Rattle.pread.proofs.Found.{block-found}
 use borrow.Author.Rules.{rules}
 use Rattle.pread.proofs.block_there.Goals as goal
+use Rattle.pread.proofs.block_there.Goals.{After-signed64-sp_offset, After-word32-instructions, After-word32-last_temporary_index, After-word32-prev_vips, After-word32-sp_index, After-word64, After-word64-2}
 
 pub returns : goal.returns
 returns c =
@@ -20,8 +21,8 @@ returns c =
       count.word32-instructions.ensures,
       temporary.word32-last_temporary_index.ensures,
       index.word32-sp_index.ensures,
-      to_z-of_z w64 _ (record { sfits = offset.signed64-sp_offset.type-inv }),
+      to_z-of_z w64 _ (record { sfits = offset.signed64-sp_offset.type_inv }),
       offset.signed64-sp_offset.ensures,
       word.word64-2.ensures,
       vip.word64.ensures,
-    ) (block-found _ vip.shared_slice_known-1.given _ _ e p q)
+    ) (block-found _ vip.type_inv.s _ _ e p q)

@@ -8,9 +8,9 @@ use Rattle.pread.proofs.register_at.Goals as goal
 
 pub returns-in-Value : goal.returns-in-Value
 unfolding register_read
-returns-in-Value c = ap register_read (sym (ap of_register c.field-1.given.1) ∙ c.register_at-field.ensures.0)
+returns-in-Value c = ap register_read (sym (ap of_register c.in-Value.is) ∙ c.register_at-field.ensures.0)
 
 pub returns : goal.returns
 unfolding register_read
 returns c =
-    ap register_read (handed (ap of_register c.enum_told-1.given.1) c.register_at-field.ensures.0 c.register_refusal.ensures)
+    ap register_read (handed (ap of_register c.in_default.is) c.register_at-field.ensures.0 c.register_refusal.ensures)

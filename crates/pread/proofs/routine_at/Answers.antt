@@ -15,31 +15,25 @@ use Rattle.pread.proofs.Found.{accepts, refuses, routine-room, head-end}
 use borrow.Author.Rules.{rules}
 use Rattle.pread.proofs.routine_at.Goals as goal
 use Rattle.pread.proofs.routine_at.Tie as tie
-use Rattle.pread.proofs.routine_at.Goals.{After-head_skip-head, After-shared_slice_known-1, After-walked_end}
-
-abbrev head : tie.After-then_blocks-whole → After-head_skip-head
-head c = c.before
-
-abbrev known : tie.After-then_blocks-whole → After-shared_slice_known-1
-known c = (goal.at.After-head_skip-head (head c)).After-shared_slice_known-1
+use Rattle.pread.proofs.routine_at.Goals.{After-walked_end, In-Past, In-Past-1, In_default}
 
 -- the two walks together
-whole : (c : tie.After-then_blocks-whole) → let a = (known c).args in of_walked c.then_blocks-whole.result ≡ walked routine routine_bytes routine_sound a.s.now a.at
+whole : (c : tie.After-then_blocks-whole) → let a = c.args in of_walked c.then_blocks-whole.result ≡ walked routine routine_bytes routine_sound a.s.now a.at
 unfolding head_walked
-whole c = rw (c.then_blocks-whole.ensures, (head c).head_skip-head.ensures) (routine-walked _ (known c).shared_slice_known-1.given _)
+whole c = rw (c.then_blocks-whole.ensures, c.head_skip-head.ensures) (routine-walked _ c.type_inv.s _)
 
-abbrev walking : tie.In-Past-2 → tie.After-then_blocks-whole
-walking c = c.before.before
+abbrev walking : In-Past → tie.After-then_blocks-whole
+walking c = (goal.at.In-Past c).In-Past-1
 
 -- the routine that was walked over
-there : (c : tie.In-Past-2) → let a = (known (walking c)).args in (r : Routine) × (routine a.s.now a.at ≡ ok r c.whole-1.given.0.0)
-there c = accepts routine routine_bytes routine_sound _ _ (ap of_walked c.whole-1.given.1) (whole (walking c))
+there : (c : In-Past) → let a = c.args in (r : Routine) × (routine a.s.now a.at ≡ ok r c.in-Past.end)
+there c = accepts routine routine_bytes routine_sound _ _ (ap of_walked c.in-Past.is) (whole (walking c))
 
 -- where its blocks stand
-blocks_at : (c : tie.In-Past-2) → let w = walking c in end_of (of_walked (head w).head_skip-head.result) ≡ block_list (known w).args.at (there c).0
+blocks_at : (c : In-Past) → let w = walking c in end_of (of_walked w.head_skip-head.result) ≡ block_list w.args.at (there c).0
 blocks_at c =
     let w = walking c in
-    ap end_of (head w).head_skip-head.ensures ∙ head-end _ (known w).shared_slice_known-1.given _ _ (there c).1
+    ap end_of w.head_skip-head.ensures ∙ head-end _ w.type_inv.s _ _ (there c).1
 
 abbrev accepted : After-walked_end → tie.In-Past-2
 accepted c = c.before.before.before
@@ -48,7 +42,7 @@ pub routine_there-requires : goal.routine_there-requires
 routine_there-requires c =
     let w = accepted c in
     let l = c.walked_end.ensures ∙ blocks_at w in
-    let room = routine-room _ (known (walking w)).shared_slice_known-1.given _ _ (there w).1 in
+    let room = routine-room _ w.type_inv.s _ _ (there w).1 in
     (room.0, omega (arith, l, room.1))
 
 pub returns-in-Past : goal.returns-in-Past
@@ -63,4 +57,4 @@ unfolding routine_read
 returns-in_default c =
     let told = (goal.at.returns-in_default c).In_default in
     c.no_routine.ensures
-    ∙ ap (routine_read _) (sym (refuses routine routine_bytes routine_sound _ _ (ap of_walked told.enum_told-1.given.1) (whole told.before.before.before) c.walked_refusal.ensures))
+    ∙ ap (routine_read _) (sym (refuses routine routine_bytes routine_sound _ _ (ap of_walked told.in_default.is) (whole told.before.before.before) c.walked_refusal.ensures))

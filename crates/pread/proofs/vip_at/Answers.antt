@@ -8,8 +8,8 @@ use Rattle.pread.proofs.vip_at.Goals as goal
 
 pub returns-in-Value : goal.returns-in-Value
 unfolding vip_read
-returns-in-Value c = ap vip_read (sym (ap of_u64 c.field-1.given.1) ∙ c.u64_at-field.ensures)
+returns-in-Value c = ap vip_read (sym (ap of_u64 c.in-Value.is) ∙ c.u64_at-field.ensures)
 
 pub returns : goal.returns
 unfolding vip_read
-returns c = ap vip_read (handed (ap of_u64 c.enum_told-1.given.1) c.u64_at-field.ensures c.u64_refusal.ensures)
+returns c = ap vip_read (handed (ap of_u64 c.in_default.is) c.u64_at-field.ensures c.u64_refusal.ensures)

@@ -9,13 +9,13 @@ use Rattle.buffer.proofs.Put.{put-put}
 use borrow.Author.Rules.{rules}
 use Rattle.remove.proofs.put_entry.Goals as goal
 use Rattle.remove.proofs.put_entry.Tie as tie
-use Rattle.remove.proofs.put_entry.Goals.{Start}
+use Rattle.remove.proofs.put_entry.Goals.{After-copy_at-arg-1, After-put_trailer-arg-1, After-slice_known-3-1, Start}
 
-abbrev start : tie.After-copy_at → Start
-start c = c.before.before.before.before
+abbrev start : After-put_trailer-arg-1 → Start
+start c = (goal.at.After-put_trailer-arg-1 c).After-copy_at-arg-1
 
-abbrev copying : tie.After-put_trailer → tie.After-copy_at
-copying c = c.before.before.before.before
+abbrev copying : After-slice_known-3-1 → tie.After-copy_at
+copying c = c.before.before.before.before.before
 
 pub returns : goal.returns
 returns c =

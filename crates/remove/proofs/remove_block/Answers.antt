@@ -22,7 +22,7 @@ use Rattle.remove.proofs.Steps as K
 use borrow.Author.Rules.{rules}
 use Rattle.remove.proofs.remove_block.Goals as goal
 use Rattle.remove.proofs.remove_block.Tie as tie
-use Rattle.remove.proofs.remove_block.Goals.{After-accept, After-block_end-end, Else-found-place, Start}
+use Rattle.remove.proofs.remove_block.Goals.{After-accept, After-accept-arg-1, After-block_end-end, After-put_entry-arg-2-1, After-struct_known-1, After-swap_remove-arg-1, Else-found-place, Start}
 
 -- the state at entry, the routine that it holds, the place of the vip, and the block there
 abbrev S : Start → State
@@ -44,8 +44,8 @@ lent : (s : Start) → (size (R s) ≤ 16777216) × (s.args.book.used ≤ 167772
 lent s = let g = s.requires.sound in (omega (arith, g.room, g.image_lent), omega (arith, g.used, g.journal_lent))
 
 -- The way through the code, each place from the next: every distance is counted here.
-abbrev start : tie.After-find-found → Start
-start c = c.before.before.before.before
+abbrev start : After-struct_known-1 → Start
+start c = (goal.at.After-struct_known-1 c).Start
 
 abbrev finding : Else-found-place → tie.After-find-found
 finding c = c.before.before.before
@@ -76,17 +76,17 @@ comparing c = c.before
 abbrev at_end : Passed → After-block_end-end
 at_end c = ending (testing (summing (comparing c)))
 
-abbrev passing : tie.After-put_entry → Passed
-passing c = c.before.before.before.before
+abbrev passing : After-swap_remove-arg-1 → Passed
+passing c = (goal.at.After-swap_remove-arg-1 c).After-put_entry-arg-2-1
 
-abbrev entering : tie.After-swap_remove → tie.After-put_entry
-entering c = c.before.before.before.before
+abbrev entering : After-accept-arg-1 → tie.After-put_entry
+entering c = (goal.at.After-accept-arg-1 c).After-swap_remove-arg-1
 
 abbrev removing : After-accept → tie.After-swap_remove
 removing c = c.before.before.before.before
 
 -- What is known at them.
-finds : (c : tie.After-find-found) → Finds (R (start c)) (start c).args.vip.0 c.find-found.result
+finds : (c : After-struct_known-1) → Finds (R (start c)) c.args.vip.0 c.find-found.result
 finds c = c.find-found.ensures (R (start c)) (holding (start c))
 
 there : (c : Else-found-place) → (let s = start (finding c) in P s < length (R s).explored_blocks)
@@ -101,10 +101,10 @@ module _ (c : After-block_end-end) where
   s = start f
 
   ends : c.block_end-end.result ≡ f.find-found.result.at + W s
-  ends = c.block_end-end.ensures ∙ B.end-here (R s) (P s) (there (being_there c)) s.args.image-1.now (holding s) _ (finds f).at
+  ends = c.block_end-end.ensures ∙ B.end-here (R s) (P s) (there (goal.at.After-block_end-end c).Else-found-place) s.args.image-1.now (holding s) _ (finds f).at
 
   whole : c.block_end-end.result ≤ size (R s)
-  whole = omega (arith, ends, (finds f).at, B.tail-size (R s) (P s) (there (being_there c)))
+  whole = omega (arith, ends, (finds f).at, B.tail-size (R s) (P s) (there (goal.at.After-block_end-end c).Else-found-place))
 
   removable : Removable (R s) (P s) s.args.image-1.now f.find-found.result.at c.block_end-end.result s.args.book.written
   removable =
@@ -115,7 +115,7 @@ module _ (c : After-block_end-end) where
         whole = g.written;
         room = g.room;
         lent = g.image_lent;
-        within = there (being_there c);
+        within = there (goal.at.After-block_end-end c).Else-found-place;
         start = (finds f).at;
         stop = ends;
       }
@@ -158,7 +158,7 @@ returns-then-refusal-ne0 c =
     let t = c.before.before.before in
     let e = ending t in
     c.refuse-then-refusal-ne0.ensures _ _ (omega (arith, c.if-refusal-ne0.true))
-    ∙ sym (K.not_admitted (S (s e)) (R (s e)) (s e).requires.sound (s e).requires.none_open _ (there (being_there e)) _ _ (is_left e) (is_spent e) t.admit-refusal.ensures (λ z. omega (arith, z, c.if-refusal-ne0.true)))
+    ∙ sym (K.not_admitted (S (s e)) (R (s e)) (s e).requires.sound (s e).requires.none_open _ (there (goal.at.After-block_end-end e).Else-found-place) _ _ (is_left e) (is_spent e) t.admit-refusal.ensures (λ z. omega (arith, z, c.if-refusal-ne0.true)))
 
 pub returns-then-sum-less : goal.returns-then-sum-less
 returns-then-sum-less c =
@@ -167,7 +167,7 @@ returns-then-sum-less c =
     let t = testing a in
     let e = ending t in
     c.refuse-then-sum-less.ensures _ _ (omega arith)
-    ∙ sym (K.sum-short (S (s e)) (R (s e)) (s e).requires.sound (s e).requires.none_open _ (there (being_there e)) _ _ (is_left e) (is_spent e) t.admit-refusal.ensures (no-refusal a) (comes_to k) (omega (arith, c.if-sum-less.true)))
+    ∙ sym (K.sum-short (S (s e)) (R (s e)) (s e).requires.sound (s e).requires.none_open _ (there (goal.at.After-block_end-end e).Else-found-place) _ _ (is_left e) (is_spent e) t.admit-refusal.ensures (no-refusal a) (comes_to k) (omega (arith, c.if-sum-less.true)))
 
 pub put_entry-requires : goal.put_entry-requires
 put_entry-requires c = let a = summing (comparing c.before.before.before.before) in (omega (arith, room a), omega (arith, (s (ending (testing a))).requires.sound.journal_lent))

@@ -21,7 +21,7 @@ use Rattle.routine.proofs.Rising.{RisesFrom, rises-more, rises-end, all_differen
 use borrow.Author.Rules.{rules}
 use Rattle.routine.proofs.blocks_run.Goals as goal
 use Rattle.routine.proofs.blocks_run.Tie as tie
-use Rattle.routine.proofs.blocks_run.Goals.{After-shared_slice_known-1, In-loop-left}
+use Rattle.routine.proofs.blocks_run.Goals.{After-either-from, After-floor_after-floor, After-shared_slice_known-1, After-word64, In-loop-left, In_default}
 
 abbrev start : tie.At-loop-left → After-shared_slice_known-1
 start c = c.before.before
@@ -30,7 +30,7 @@ abbrev test : tie.After-block_skip-far → In-loop-left
 test c = c.before
 
 all : (c : After-shared_slice_known-1) → Fills block block_bytes c.args.s.now
-all c = fills block_layout c.shared_slice_known-1.given
+all c = fills block_layout c.type_inv.s
 
 pub loop-left-init : goal.loop-left-init
 loop-left-init c = (walk_start block block_bytes (all (goal.at.loop-left-init c).After-shared_slice_known-1) block_sound _ _, λ l r. r, noting_start _ _ _ _ (omega (arith, c.turn_of-turn.ensures)))
@@ -40,8 +40,8 @@ returns-in_default c =
     let told = (goal.at.returns-in_default c).In_default in
     let call = told.before.before.before in
     let loop = (test call).before.before in (
-      walk_stop block block_bytes (all (start loop)) block_sound _ _ _ loop.loop-left.invariant.0 (test call).loop-left-test.true
-          (sym (handed (ap of_walked told.enum_told-1.given.1) call.block_skip-far.ensures c.walked_refusal.ensures)),
+      walk_stop block block_bytes (all (start loop)) block_sound _ _ _ loop.loop-left.invariant.0 call.loop-left-test.true
+          (sym (handed (ap of_walked told.in_default.is) call.block_skip-far.ensures c.walked_refusal.ensures)),
       λ w. false-true w,
       tt,
     )
@@ -55,8 +55,8 @@ loop-left-preserved c =
     let call = far.before.before in
     let loop = (test call).before.before in
     let i = loop.loop-left.invariant in
-    let h = (test call).loop-left-test.true in
-    let past = sym call.block_skip-far.ensures ∙ ap of_walked far.far-1.given.1 in
+    let h = call.loop-left-test.true in
+    let past = sym call.block_skip-far.ensures ∙ ap of_walked far.in-Past.is in
     let passed = walked-past block block_bytes block_sound _ _ past in (
       walk_next block block_bytes (all (start loop)) block_sound _ _ _ i.0 h past,
       λ l r. let f = floor.floor_after-floor.ensures l in i.1 (omega (arith, f.0, f.1)) (rises-more _ _ _ _ _ _ h passed vip.word64.ensures f.0 (rw f.1 at r)),
@@ -67,7 +67,7 @@ pub returns : goal.returns
 returns c =
     let i = c.loop-left.invariant in
     let none = c.loop-left-test.false in (
-      walk_end block block_bytes (all (start c.before.before)) block_sound _ _ _ i.0 none,
+      walk_end block block_bytes (all (goal.at.returns c).After-shared_slice_known-1) block_sound _ _ _ i.0 none,
       λ w. all_different _ _ _ (i.1 (ltb-true _ _ w) (rises-end _ _ _ _ none)),
       noting_end _ _ _ _ i.2 c.turn_of-turn.ensures none,
     )

@@ -21,26 +21,26 @@ abbrev test : tie.After-convention_skip-far → In-loop-left
 test c = c.before
 
 all : (c : After-shared_slice_known-1) → Fills convention convention_bytes c.args.s.now
-all c = fills convention_layout c.shared_slice_known-1.given
+all c = fills convention_layout c.type_inv.s
 
 pub loop-left-init : goal.loop-left-init
 loop-left-init c = walk_start convention convention_bytes (all c) convention_sound _ _
 
 pub returns-in_default : goal.returns-in_default
 returns-in_default c =
-    let far = c.enum_told-1.given.1 in
+    let far = c.in_default.is in
     let call = c.before.before.before in
     let loop = (test call).before.before in
     ap of_walked far
-    ∙ walk_stop convention convention_bytes (all (start loop)) convention_sound _ _ _ loop.loop-left.invariant (test call).loop-left-test.true (sym call.convention_skip-far.ensures ∙ ap of_walked far)
+    ∙ walk_stop convention convention_bytes (all (start loop)) convention_sound _ _ _ loop.loop-left.invariant call.loop-left-test.true (sym call.convention_skip-far.ensures ∙ ap of_walked far)
 
 pub loop-left-preserved : goal.loop-left-preserved
 loop-left-preserved c =
     let far = c.before.before in
     let call = far.before.before in
     let loop = (test call).before.before in
-    walk_next convention convention_bytes (all (start loop)) convention_sound _ _ _ loop.loop-left.invariant (test call).loop-left-test.true
-    (sym call.convention_skip-far.ensures ∙ ap of_walked far.far-1.given.1)
+    walk_next convention convention_bytes (all (start loop)) convention_sound _ _ _ loop.loop-left.invariant call.loop-left-test.true
+    (sym call.convention_skip-far.ensures ∙ ap of_walked far.in-Past.is)
 
 pub returns : goal.returns
-returns c = walk_end convention convention_bytes (all (start c.before.before)) convention_sound _ _ _ c.loop-left.invariant c.loop-left-test.false
+returns c = walk_end convention convention_bytes (all (goal.at.returns c).After-shared_slice_known-1) convention_sound _ _ _ c.loop-left.invariant c.loop-left-test.false

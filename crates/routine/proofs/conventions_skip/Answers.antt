@@ -7,17 +7,18 @@ use Rattle.laws.proofs.Layouts.{convention_layout}
 use Rattle.laws.proofs.Walks.{fills, walked_counted}
 use borrow.Author.Rules.{rules}
 use Rattle.routine.proofs.conventions_skip.Goals as goal
+use Rattle.routine.proofs.conventions_skip.Goals.{In_default}
 
 pub returns-in-Value : goal.returns-in-Value
 returns-in-Value c =
     let count = c.before.before.before in
     let call = count.before.before in
-    let b = call.shared_slice_known-1.given in
-    rw (walked_counted convention convention_bytes (fills convention_layout b) convention_sound b) (on-u32 _ count.count-1.given.1 call.u32_at-count.ensures c.conventions_run.ensures)
+    let b = call.type_inv.s in
+    rw (walked_counted convention convention_bytes (fills convention_layout b) convention_sound b) (on-u32 _ count.in-Value.is call.u32_at-count.ensures c.conventions_run.ensures)
 
 pub returns-in_default : goal.returns-in_default
 returns-in_default c =
     let told = (goal.at.returns-in_default c).In_default in
     let call = told.before.before.before in
-    let b = call.shared_slice_known-1.given in
-    rw (walked_counted convention convention_bytes (fills convention_layout b) convention_sound b) (off_u32 _ told.enum_told-1.given.1 call.u32_at-count.ensures c.u32_refusal.ensures)
+    let b = call.type_inv.s in
+    rw (walked_counted convention convention_bytes (fills convention_layout b) convention_sound b) (off_u32 _ told.in_default.is call.u32_at-count.ensures c.u32_refusal.ensures)

@@ -2,6 +2,7 @@
 use Rattle.routine.specs.Head.{head_walked}
 use borrow.Author.Rules.{rules}
 use Rattle.routine.proofs.head_skip.Goals as goal
+use Rattle.routine.proofs.head_skip.Goals.{After-header_skip-header, After-then_convention-own, After-then_convention-sub, After-then_entry-entry}
 
 pub returns : goal.returns
 unfolding head_walked

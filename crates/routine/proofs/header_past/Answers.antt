@@ -2,6 +2,7 @@
 use Rattle.routine.proofs.Walk.{header_skip}
 use borrow.Author.Rules.{rules}
 use Rattle.routine.proofs.header_past.Goals as goal
+use Rattle.routine.proofs.header_past.Goals.{After-then_arch_id-b, After-then_uint-c}
 
 pub returns : goal.returns
 returns c =

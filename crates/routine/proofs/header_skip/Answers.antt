@@ -10,26 +10,22 @@ use Rattle.pod.specs.Written.{header_bytes}
 use Rattle.laws.proofs.Walks.{header-within, header-walked, walked-no}
 use borrow.Author.Rules.{rules}
 use Rattle.routine.proofs.header_skip.Goals as goal
-use Rattle.routine.proofs.header_skip.Tie as tie
-use Rattle.routine.proofs.header_skip.Goals.{After-shared_slice_known-1}
-
-abbrev known : tie.In-Past-2 → After-shared_slice_known-1
-known c = c.before.before.before
+use Rattle.routine.proofs.header_skip.Goals.{In-Past}
 
 -- it was passed over
-past : (c : tie.In-Past-2) → ok tt c.far-1.given.0.0 ≡ span (header (known c).args.s.now (known c).args.at)
-past c = sym (ap of_skip c.far-1.given.1) ∙ c.header_past-far.ensures
+past : (c : In-Past) → ok tt c.in-Past.n ≡ span (header c.args.s.now c.args.at)
+past c = sym (ap of_skip c.in-Past.is) ∙ c.header_past-far.ensures
 
 pub returns-in-Past : goal.returns-in-Past
-returns-in-Past c = let far = c.before.before.before in header-walked _ (known far).shared_slice_known-1.given _ (past far)
+returns-in-Past c = let far = c.before.before.before in header-walked _ far.type_inv.s _ (past far)
 
 pub returns-in_default : goal.returns-in_default
 returns-in_default c =
     walked-no header header_bytes no_register_in _ _
-    (handed (ap of_skip c.enum_told-1.given.1) c.header_past-far.ensures c.skip_refusal.ensures)
+    (handed (ap of_skip c.in_default.is) c.header_past-far.ensures c.skip_refusal.ensures)
 
 pub overflow_add-result : goal.overflow_add-result
-overflow_add-result c = let far = c.before.before in omega (arith, header-within _ (known far).shared_slice_known-1.given _ (past far))
+overflow_add-result c = let far = c.before.before in omega (arith, header-within _ far.type_inv.s _ (past far))
 
 pub bounds-s-at : goal.bounds-s-at
-bounds-s-at c = let far = c.before.before.before in omega (arith, header-within _ (known far).shared_slice_known-1.given _ (past far))
+bounds-s-at c = let far = c.before.before.before in omega (arith, header-within _ far.type_inv.s _ (past far))

@@ -3,7 +3,7 @@ use borrow.Author.Rules.{rules}
 use Rattle.routine.proofs.walked_of.Goals as goal
 
 pub returns-in-Past : goal.returns-in-Past
-returns-in-Past c = rw c.far-1.given.1
+returns-in-Past c = rw c.in-Past.is
 
 pub returns-in-Refused : goal.returns-in-Refused
-returns-in-Refused c = rw c.far-in-Refused-1.given.1
+returns-in-Refused c = rw c.in-Refused.is

@@ -13,7 +13,7 @@ use Rattle.undo.proofs.Entry as K
 use borrow.Author.Rules.{rules}
 use Rattle.undo.proofs.undo.Goals as goal
 use Rattle.undo.proofs.undo.Tie as tie
-use Rattle.undo.proofs.undo.Goals.{Else-used-lt-TRAILER_SIZE, Start}
+use Rattle.undo.proofs.undo.Goals.{After-slice_known-then-kind-eq-APPEND-2-1, After-slice_known-then-kind-eq-CREATE-2-1, After-slice_known-then-kind-eq-REMOVE-2-1, Else-kind-eq-APPEND, Else-used-lt-TRAILER_SIZE, Start, Then-used-eq0, Then-used-lt-TRAILER_SIZE}
 
 -- the state at entry, and the routine that it holds
 module _ (s : Start) where
@@ -39,26 +39,26 @@ spending c = c.before.before
 abbrev reading : tie.After-read_trailer-last → Else-used-lt-TRAILER_SIZE
 reading c = c.before.before
 
-abbrev created : tie.After-undo_create → tie.Then-kind-eq-CREATE
-created c = c.before.before.before
+abbrev created : After-slice_known-then-kind-eq-CREATE-2-1 → tie.Then-kind-eq-CREATE
+created c = c.before.before.before.before
 
 abbrev not_created : tie.Else-kind-eq-REMOVE → tie.Else-kind-eq-CREATE
 not_created c = c.before
 
-abbrev removed : tie.After-undo_remove → tie.Then-kind-eq-REMOVE
-removed c = c.before.before.before
+abbrev removed : After-slice_known-then-kind-eq-REMOVE-2-1 → tie.Then-kind-eq-REMOVE
+removed c = c.before.before.before.before
 
-abbrev appended : tie.After-undo_append → tie.Then-kind-eq-APPEND
-appended c = c.before.before.before
+abbrev appended : After-slice_known-then-kind-eq-APPEND-2-1 → tie.Then-kind-eq-APPEND
+appended c = c.before.before.before.before
 
 -- What is known at them.
-some : (c : tie.Else-used-eq0) → 0 < (start c).args.book.used
+some : (c : tie.Else-used-eq0) → 0 < c.args.book.used
 some c = omega (arith, c.if-used-eq0.false)
 
 abbrev start₂ : Else-used-lt-TRAILER_SIZE → Start
 start₂ c = start (spending c)
 
-enough : (c : Else-used-lt-TRAILER_SIZE) → 20 ≤ (start₂ c).args.book.used
+enough : (c : Else-used-lt-TRAILER_SIZE) → 20 ≤ c.args.book.used
 enough c = omega (arith, c.if-used-lt-TRAILER_SIZE.false)
 
 -- the trailer that was read is the last of the used part
@@ -66,7 +66,7 @@ abbrev start₃ : tie.After-read_trailer-last → Start
 start₃ c = start₂ (reading c)
 
 last : (c : tie.After-read_trailer-last) → let s = start₃ c in K.Last (S s) (R s) (trailer_of c.read_trailer-last.result)
-last c = record { sound = sound (start₃ c); none_open = (start₃ c).requires.none_open; enough = enough (reading c); is = c.read_trailer-last.ensures }
+last c = record { sound = sound (start₃ c); none_open = c.requires.none_open; enough = enough (reading c); is = c.read_trailer-last.ensures }
 
 pub returns-then-used-eq0 : goal.returns-then-used-eq0
 returns-then-used-eq0 c = let t = (goal.at.returns-then-used-eq0 c).Then-used-eq0 in let s = (goal.at.Then-used-eq0 t).Start in c.refuse.ensures _ _ (omega arith) ∙ K.nothing (S s) (R s) (sound s) s.requires.none_open (omega (arith, t.if-used-eq0.true))

@@ -13,7 +13,7 @@ use Rattle.undo_append.proofs.Unappends as U
 use borrow.Author.Rules.{rules}
 use Rattle.undo_append.proofs.drop_instruction.Goals as goal
 use Rattle.undo_append.proofs.drop_instruction.Tie as tie
-use Rattle.undo_append.proofs.drop_instruction.Goals.{Start}
+use Rattle.undo_append.proofs.drop_instruction.Goals.{After-clear-arg-1, After-move_within-arg-1, After-put_u32-arg-1, After-slice_known-4-1, Start}
 
 -- the block at entry, and that it is within the image
 abbrev Here : Start → Routine → ℕ → Type 0
@@ -23,27 +23,27 @@ here : (s : Start) → Here s s.requires.r s.requires.i
 here s = s.requires.last_in
 
 -- The way through the code, each place from the next.
-abbrev start : tie.After-word32-count → Start
-start c = c.before.before.before
+abbrev start : After-move_within-arg-1 → Start
+start c = (goal.at.After-move_within-arg-1 c).Start
 
-abbrev counting : tie.After-move_within → tie.After-word32-count
-counting c = c.before.before
+abbrev counting : After-clear-arg-1 → tie.After-word32-count
+counting c = c.before.before.before
 
-abbrev moving : tie.After-clear → tie.After-move_within
-moving c = c.before.before.before.before
+abbrev moving : After-put_u32-arg-1 → tie.After-move_within
+moving c = (goal.at.After-put_u32-arg-1 c).After-clear-arg-1
 
-abbrev clearing : tie.After-put_u32 → tie.After-clear
-clearing c = c.before.before.before.before
+abbrev clearing : After-slice_known-4-1 → tie.After-clear
+clearing c = c.before.before.before.before.before
 
 -- What is known at them, of the block of any routine that stands there.
-counted : (c : tie.After-word32-count) {r : Routine} {i : ℕ} → Here (start c) r i → c.word32-count.result ≡ length (the_block r i).instructions
+counted : (c : After-move_within-arg-1) {r : Routine} {i : ℕ} → Here (start c) r i → c.word32-count.result ≡ length (the_block r i).instructions
 counted c o = c.word32-count.ensures ∙ U.counted o.block
 
 pub overflow_add-at : goal.overflow_add-at
 overflow_add-at c = let o = here c.before.before in omega (arith, inside o, o.written_is, room o.block)
 
 -- what the moves want: all lies within the written length, and that within the image
-module _ (c : tie.After-word32-count) where
+module _ (c : After-move_within-arg-1) where
   abbrev s : Start
   s = start c
 

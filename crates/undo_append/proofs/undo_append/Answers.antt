@@ -29,7 +29,7 @@ use Rattle.undo_append.proofs.Unappends as U
 use borrow.Author.Rules.{rules}
 use Rattle.undo_append.proofs.undo_append.Goals as goal
 use Rattle.undo_append.proofs.undo_append.Tie as tie
-use Rattle.undo_append.proofs.undo_append.Goals.{After-block_offset-at, Else-blocks-place, Else-sum-less, Else-word64-last, Start}
+use Rattle.undo_append.proofs.undo_append.Goals.{After-accept-arg-1, After-block_offset-at, After-clear_trailer-arg-1, After-struct_known-3-1, After-sum_of_instruction-arg-1, Else-blocks-place, Else-sum-less, Else-word64-last, Start, Then-blocks-place, Then-not-has_size, Then-word64-last}
 
 -- the state at entry, the routine that it holds, the trailer and the block at its place
 module _ (s : Start) where
@@ -78,14 +78,14 @@ at_vip c = c.before.before
 abbrev comparing : Else-word64-last → tie.After-word64
 comparing c = c.before.before.before
 
-abbrev at_last : tie.After-last_instruction-instruction → Else-word64-last
-at_last c = c.before.before
+abbrev at_last : After-struct_known-3-1 → Else-word64-last
+at_last c = (goal.at.After-struct_known-3-1 c).Else-word64-last
 
 abbrev sizing : tie.After-has_size → tie.After-last_instruction-instruction
 sizing c = c.before.before
 
-abbrev looking : tie.Else-not-has_size → tie.After-has_size
-looking c = c.before
+abbrev looking : After-sum_of_instruction-arg-1 → tie.After-has_size
+looking c = c.before.before
 
 abbrev summing : tie.After-sum_of_instruction-less → tie.Else-not-has_size
 summing c = c.before.before
@@ -93,11 +93,11 @@ summing c = c.before.before
 abbrev taking : Else-sum-less → tie.After-sum_of_instruction-less
 taking c = c.before.before
 
-abbrev dropping : tie.After-drop_instruction → Else-sum-less
-dropping c = c.before.before
+abbrev dropping : After-clear_trailer-arg-1 → Else-sum-less
+dropping c = c.before.before.before
 
-abbrev clearing : tie.After-clear_trailer-before → tie.After-drop_instruction
-clearing c = c.before.before.before.before
+abbrev clearing : After-accept-arg-1 → tie.After-drop_instruction
+clearing c = (goal.at.After-accept-arg-1 c).After-clear_trailer-arg-1
 
 -- What is known at them.
 counted : (c : tie.After-blocks_of-blocks) → c.blocks_of-blocks.result.count ≡ length (R (start c)).explored_blocks
@@ -121,8 +121,8 @@ here c =
     let s = start₃ c in
     record {
       holding = holding s;
-      within = within (placing c);
-      at_is = c.block_offset-at.ensures (R s) (holding s) (omega (arith, within (placing c)));
+      within = within (goal.at.After-block_offset-at c).Else-blocks-place;
+      at_is = c.block_offset-at.ensures (R s) (holding s) (omega (arith, within (goal.at.After-block_offset-at c).Else-blocks-place));
     }
 
 -- its vip is that of the entry
@@ -141,45 +141,45 @@ start₄ c = start₃ (offset c)
 same-vip : (c : Else-word64-last) → let s = start₄ c in undo_append (R s) (T s) ≡ U.if_last (R s) (T s)
 same-vip c =
     let s = start₄ c in
-    placed (placing (offset c)) ∙ unless_on 13 _ (eq-eqb (B s).vip (T s).vip (omega (arith, c.if-word64-last.false, vip_read (comparing c))))
+    placed (goal.at.Else-word64-last c).Else-blocks-place ∙ unless_on 13 _ (eq-eqb (B s).vip (T s).vip (omega (arith, c.if-word64-last.false, vip_read (comparing c))))
 
 -- its last instruction was reached
-abbrev start₅ : tie.After-last_instruction-instruction → Start
+abbrev start₅ : After-struct_known-3-1 → Start
 start₅ c = start₄ (at_last c)
 
-found : (c : tie.After-last_instruction-instruction) → let s = start₅ c in FindsLast (R s) (T s).place c.last_instruction-instruction.result
+found : (c : After-struct_known-3-1) → let s = start₅ c in FindsLast (R s) (T s).place c.last_instruction-instruction.result
 found c =
     let s = start₅ c in
-    let o = here (offset (at_last c)) in
+    let o = here (goal.at.After-struct_known-3-1 c).After-block_offset-at in
     c.last_instruction-instruction.ensures (R s) (T s).place o.holding o.within o.at_is
 
 -- and has the entry's size
 last-read : (c : tie.After-has_size) → let s = start₅ (sizing c) in c.has_size.result ≡ last_size_is (T s).len (B s).instructions
 last-read c = let s = start₅ (sizing c) in c.has_size.ensures (R s) (T s).place (found (sizing c))
 
-abbrev last : tie.Else-not-has_size → tie.After-last_instruction-instruction
+abbrev last : After-sum_of_instruction-arg-1 → tie.After-last_instruction-instruction
 last c = sizing (looking c)
 
-abbrev start₆ : tie.Else-not-has_size → Start
+abbrev start₆ : After-sum_of_instruction-arg-1 → Start
 start₆ c = start₅ (last c)
 
-abbrev block : tie.Else-not-has_size → After-block_offset-at
+abbrev block : After-sum_of_instruction-arg-1 → After-block_offset-at
 block c = offset (at_last (last c))
 
-last_in : (c : tie.Else-not-has_size) → let s = start₆ c in
-    LastIn s.args.image-1.now (R s) (T s).place (block c).block_offset-at.result (last c).last_instruction-instruction.result.end (T s).len s.args.book.written
+last_in : (c : After-sum_of_instruction-arg-1) → let s = start₆ c in
+    LastIn s.args.image-1.now (R s) (T s).place c.block_offset-at.result c.last_instruction-instruction.result.end (T s).len s.args.book.written
 last_in c =
     let s = start₆ c in
     record {
-      block = here (block c);
+      block = here (goal.at.After-sum_of_instruction-arg-1 c).After-block_offset-at;
       is = (sound s).image-1;
       written_is = (sound s).written;
-      ends = (found (last c)).end;
+      ends = (found (goal.at.After-sum_of_instruction-arg-1 c).After-struct_known-3-1).end;
       last = sym (last-read (looking c)) ∙ not-false _ c.if-not-has_size.false;
     }
 
-passed : (c : tie.Else-not-has_size) → let s = start₆ c in undo_append (R s) (T s) ≡ U.done (R s) (T s)
-passed c = same-vip (at_last (last c)) ∙ unless_on 13 _ (last_in c).last
+passed : (c : After-sum_of_instruction-arg-1) → let s = start₆ c in undo_append (R s) (T s) ≡ U.done (R s) (T s)
+passed c = same-vip (goal.at.After-sum_of_instruction-arg-1 c).Else-word64-last ∙ unless_on 13 _ (last_in c).last
 
 -- what the sum becomes without what that instruction comes to
 module _ (c : tie.After-sum_of_instruction-less) where

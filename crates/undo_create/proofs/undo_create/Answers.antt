@@ -29,7 +29,7 @@ use Rattle.undo_create.proofs.Uncreates as U
 use borrow.Author.Rules.{rules}
 use Rattle.undo_create.proofs.undo_create.Goals as goal
 use Rattle.undo_create.proofs.undo_create.Tie as tie
-use Rattle.undo_create.proofs.undo_create.Goals.{After-block_offset-at, After-blocks_of-blocks, Else-last-ne0, Else-place-blocks, Else-word64-last, Start}
+use Rattle.undo_create.proofs.undo_create.Goals.{After-accept-arg-1, After-block_offset-at, After-blocks_of-blocks, After-clear_trailer-arg-1, After-drop_block-arg-1, After-struct_known-2-1, Else-last-ne0, Else-place-blocks, Else-word64-last, Start, Then-last-ne0, Then-not-is_fresh, Then-place-blocks, Then-word64-last}
 
 -- the state at entry, the routine that it holds, the trailer and the block at its place
 module _ (s : Start) where
@@ -87,14 +87,14 @@ comparing c = c.before.before.before
 abbrev at_fresh : tie.After-is_fresh → Else-word64-last
 at_fresh c = c.before.before
 
-abbrev looking : tie.Else-not-is_fresh → tie.After-is_fresh
-looking c = c.before
+abbrev looking : After-drop_block-arg-1 → tie.After-is_fresh
+looking c = c.before.before
 
-abbrev dropping : tie.After-drop_block → tie.Else-not-is_fresh
-dropping c = c.before.before
+abbrev dropping : After-clear_trailer-arg-1 → tie.Else-not-is_fresh
+dropping c = c.before.before.before
 
-abbrev clearing : tie.After-clear_trailer-before → tie.After-drop_block
-clearing c = c.before.before.before.before
+abbrev clearing : After-accept-arg-1 → tie.After-drop_block
+clearing c = (goal.at.After-accept-arg-1 c).After-clear_trailer-arg-1
 
 -- What is known at them.
 abbrev start₁ : Else-last-ne0 → Start
@@ -117,10 +117,10 @@ abbrev start₃ : Else-place-blocks → Start
 start₃ c = start₂ (counting c)
 
 last-place : (c : Else-place-blocks) → (T (start₃ c)).place + 1 ≡ length (R (start₃ c)).explored_blocks
-last-place c = omega (arith, c.if-place-blocks.false, counted (counting c))
+last-place c = omega (arith, c.if-place-blocks.false, counted (goal.at.Else-place-blocks c).After-blocks_of-blocks)
 
 last : (c : Else-place-blocks) → let s = start₃ c in undo_create (R s) (T s) ≡ U.if_there (R s) (T s)
-last c = empty (at_blocks (counting c)) ∙ unless_on 13 _ (eq-eqb _ _ (last-place c))
+last c = empty (goal.at.Else-place-blocks c).Else-last-ne0 ∙ unless_on 13 _ (eq-eqb _ _ (last-place c))
 
 within : (c : Else-place-blocks) → (T (start₃ c)).place < length (R (start₃ c)).explored_blocks
 within c = omega (arith, last-place c)
@@ -130,10 +130,10 @@ abbrev start₄ : After-block_offset-at → Start
 start₄ c = start₃ (placing c)
 
 placed : (c : After-block_offset-at) → c.block_offset-at.result ≡ block_start (R (start₄ c)) (T (start₄ c)).place
-placed c = let s = start₄ c in c.block_offset-at.ensures (R s) (holding s) (omega (arith, within (placing c)))
+placed c = let s = start₄ c in c.block_offset-at.ensures (R s) (holding s) (omega (arith, within (goal.at.After-block_offset-at c).Else-place-blocks))
 
-ends : (c : After-block_offset-at) → c.block_offset-at.result + 36 ≤ (start₄ c).args.book.written
-ends c = let s = start₄ c in omega (arith, placed c, block-fits (S s) (R s) (sound s) (T s).place (within (placing c)))
+ends : (c : After-block_offset-at) → c.block_offset-at.result + 36 ≤ c.args.book.written
+ends c = let s = start₄ c in omega (arith, placed c, block-fits (S s) (R s) (sound s) (T s).place (within (goal.at.After-block_offset-at c).Else-place-blocks))
 
 vip_read : (c : tie.After-word64) → c.word64.result ≡ (B (start₄ (at_vip c))).vip
 vip_read c =
@@ -160,20 +160,20 @@ fresh c =
     let l = within (placing a) in
     c.is_fresh.ensures (B s) (block-holds (holding s) (T s).place l) (stands_here (R s) (T s).place (holding s) l (placed a))
 
-abbrev start₇ : tie.Else-not-is_fresh → Start
+abbrev start₇ : After-drop_block-arg-1 → Start
 start₇ c = start₆ (looking c)
 
-abbrev offset : tie.Else-not-is_fresh → After-block_offset-at
+abbrev offset : After-drop_block-arg-1 → After-block_offset-at
 offset c = at_vip (comparing (at_fresh (looking c)))
 
-is_new : (c : tie.Else-not-is_fresh) → is_fresh (B (start₇ c)) ≡ true
+is_new : (c : After-drop_block-arg-1) → is_fresh (B (start₇ c)) ≡ true
 is_new c = sym (fresh (looking c)) ∙ not-false _ c.if-not-is_fresh.false
 
-passed : (c : tie.Else-not-is_fresh) → let s = start₇ c in undo_create (R s) (T s) ≡ U.done (R s) (T s)
-passed c = same-vip (at_fresh (looking c)) ∙ unless_on 13 _ (is_new c)
+passed : (c : After-drop_block-arg-1) → let s = start₇ c in undo_create (R s) (T s) ≡ U.done (R s) (T s)
+passed c = same-vip (goal.at.After-drop_block-arg-1 c).Else-word64-last ∙ unless_on 13 _ (is_new c)
 
 -- it comes to nothing, so a sum of 64 bits is carried on as it is
-sum_stays : (c : tie.Else-not-is_fresh) → let s = start₇ c in
+sum_stays : (c : After-drop_block-arg-1) → let s = start₇ c in
     carried s.args.book.rates.rate (R s) (up_to (R s) (T s).place) s.args.book.sum ≡ accepted s.args.book.sum
 sum_stays c =
     let s = start₇ c in
@@ -182,16 +182,16 @@ sum_stays c =
     carried-to rates (R s) (up_to (R s) (T s).place) _ _ (omega (arith, dropped_sum rates (R s) (T s).place (within p) (last-place p) (is_new c))) (sum_fits s)
 
 -- The block, as what drops it asks for it
-ends_with : (c : tie.Else-not-is_fresh) → let s = start₇ c in
-    EndsWith s.args.image-1.now (R s) (counting (placing (offset c))).blocks_of-blocks.result.start (offset c).block_offset-at.result s.args.book.written (T s).place
+ends_with : (c : After-drop_block-arg-1) → let s = start₇ c in
+    EndsWith s.args.image-1.now (R s) (counting (placing (offset c))).blocks_of-blocks.result.start c.block_offset-at.result s.args.book.written (T s).place
 ends_with c =
     let s = start₇ c in
     record {
       is = (sound s).image-1;
       start_is = begins (counting (placing (offset c)));
-      at_is = placed (offset c);
+      at_is = placed (goal.at.After-drop_block-arg-1 c).After-block_offset-at;
       written_is = (sound s).written;
-      last = last-place (placing (offset c));
+      last = last-place (goal.at.After-drop_block-arg-1 c).Else-place-blocks;
     }
 
 pub returns-then-last-ne0 : goal.returns-then-last-ne0
@@ -203,7 +203,7 @@ returns-then-place-blocks c =
     let b = (goal.at.Then-place-blocks t).After-blocks_of-blocks in
     let s = start₂ b in
     refuses s (c.refuse-then-place-blocks.ensures _ _ (omega arith))
-    (empty (at_blocks b) ∙ unless_off 13 _ (ne_eqb ((T s).place + 1) (length (R s).explored_blocks) (λ e. omega (arith, t.if-place-blocks.true, counted b))))
+    (empty (goal.at.After-blocks_of-blocks b).Else-last-ne0 ∙ unless_off 13 _ (ne_eqb ((T s).place + 1) (length (R s).explored_blocks) (λ e. omega (arith, t.if-place-blocks.true, counted b))))
 
 pub returns-then-word64-last : goal.returns-then-word64-last
 returns-then-word64-last c =
@@ -239,5 +239,5 @@ returns c =
     let a = offset e in
     over s _
     (c.accept.ensures _ _
-    ∙ restored-to (S s) (R s) (up_to (R s) (T s).place) (passed e) (sum_stays e) _ _ _ _ (placed a ∙ sym (up_to_size (R s) (T s).place (omega (arith, within (placing a)))))
+    ∙ restored-to (S s) (R s) (up_to (R s) (T s).place) (passed e) (sum_stays e) _ _ _ _ (placed a ∙ sym (up_to_size (R s) (T s).place (omega (arith, within (goal.at.After-block_offset-at a).Else-place-blocks))))
     t.clear_trailer-before.ensures.0 (d.drop_block.ensures (R s) (ends_with e)) t.clear_trailer-before.ensures.1)

@@ -17,7 +17,7 @@ use Rattle.undo_remove.proofs.Entries as K
 use borrow.Author.Rules.{rules}
 use Rattle.undo_remove.proofs.entry_refusal.Goals as goal
 use Rattle.undo_remove.proofs.entry_refusal.Tie as tie
-use Rattle.undo_remove.proofs.entry_refusal.Goals.{Else-count-place, Else-entries-size, Start}
+use Rattle.undo_remove.proofs.entry_refusal.Goals.{After-struct_known-3-1, Else-count-place, Else-entries-size, Else-not-is_block, Start}
 
 abbrev T : Start → Trailer
 T s = trailer_of s.args.last
@@ -29,8 +29,8 @@ start c = (goal.at.Else-entries-size c).Start
 abbrev cutting : tie.After-is_block → Else-entries-size
 cutting c = c.before.before
 
-abbrev asking : tie.After-find-found → tie.After-is_block
-asking c = c.before.before
+abbrev asking : After-struct_known-3-1 → tie.After-is_block
+asking c = (goal.at.After-struct_known-3-1 c).Else-not-is_block
 
 abbrev finding : tie.Else-found-count → tie.After-find-found
 finding c = c.before.before.before
@@ -39,7 +39,7 @@ abbrev absent : Else-count-place → tie.Else-found-count
 absent c = c.before.before
 
 -- What is known at them.
-long : (c : Else-entries-size) → (T (start c)).len ≤ length (start c).args.entries.now
+long : (c : Else-entries-size) → (T (start c)).len ≤ length c.args.entries.now
 long c = omega (arith, c.if-entries-size.false)
 
 tested : (c : tie.After-is_block)
@@ -48,18 +48,18 @@ tested c =
     let s = start (cutting c) in
     c.is_block.ensures ∙ ap (is_block (T s).vip-1) (K.cut-end (length s.args.entries.now - (T s).len) s.args.entries.now)
 
-abbrev at_find : tie.After-find-found → Start
+abbrev at_find : After-struct_known-3-1 → Start
 at_find c = start (cutting (asking c))
 
-whole : (c : tie.After-find-found) → (let s = at_find c in is_block (T s).vip-1 (last_bytes (T s).len s.args.entries.now) ≡ true)
+whole : (c : After-struct_known-3-1) → (let s = at_find c in is_block (T s).vip-1 (last_bytes (T s).len s.args.entries.now) ≡ true)
 whole c = sym (tested (asking c)) ∙ not-false _ c.if-not-is_block.false
 
 -- the routine that the image holds
 module _ (r : Routine) where
-  finds : (c : tie.After-find-found) → Holding (at_find c).args.image.now r → Finds r (T (at_find c)).vip-1 c.find-found.result
+  finds : (c : After-struct_known-3-1) → Holding c.args.image.now r → Finds r (T (at_find c)).vip-1 c.find-found.result
   finds c h = c.find-found.ensures r h
 
-  gone : (c : tie.Else-found-count) → Holding (at_find (finding c)).args.image.now r
+  gone : (c : tie.Else-found-count) → Holding c.args.image.now r
       → length r.explored_blocks ≤ place (T (at_find (finding c))).vip-1 r.explored_blocks
   gone c h = let f = finds (finding c) h in omega (arith, c.if-found-count.false, f.place, f.count)
 
@@ -84,10 +84,10 @@ pub returns-then-image-written : goal.returns-then-image-written
 returns-then-image-written c = λ r h w.
     let p = (goal.at.returns-then-image-written c).Else-count-place in
     let f = finding (absent p) in
-    K.no_room _ r _ _ (long (cutting (asking f))) (whole f) (gone r (absent p) h) (omega (arith, p.if-count-place.false, (finds r f h).count)) (omega (arith, c.if-image-written.true, (at_find f).requires, w))
+    K.no_room _ r _ _ (long (cutting (asking f))) (whole f) (gone r (absent p) h) (omega (arith, p.if-count-place.false, (finds r f h).count)) (omega (arith, c.if-image-written.true, f.requires, w))
 
 pub returns : goal.returns
 returns c = λ r h w.
     let p = (goal.at.returns c).Else-count-place in
     let f = finding (absent p) in
-    K.fits _ r _ _ (long (cutting (asking f))) (whole f) (gone r (absent p) h) (omega (arith, p.if-count-place.false, (finds r f h).count)) (omega (arith, c.if-image-written.false, (at_find f).requires, w))
+    K.fits _ r _ _ (long (cutting (asking f))) (whole f) (gone r (absent p) h) (omega (arith, p.if-count-place.false, (finds r f h).count)) (omega (arith, c.if-image-written.false, f.requires, w))

@@ -12,22 +12,17 @@ use Rattle.undo_remove.proofs.Whole as W
 use borrow.Author.Rules.{rules}
 use Rattle.undo_remove.proofs.is_block.Goals as goal
 use Rattle.undo_remove.proofs.is_block.Tie as tie
-use Rattle.undo_remove.proofs.is_block.Goals.{Start}
-
--- The way through the code, each place from the next.
-abbrev start : tie.After-block_skip → Start
-start c = c.before.before
 
 abbrev walking : tie.In-Past → tie.After-block_skip
 walking c = c.before.before.before
 
 -- What is known at them.
-octets : (c : tie.After-block_skip) → Bytes (start c).args.s.now
-octets c = c.shared_slice_known-1.given
+octets : (c : tie.After-block_skip) → Bytes c.args.s.now
+octets c = c.type_inv.s
 
 ends : (c : tie.In-Past) → let g = c.end-1.given.0 in
-    walked block block_bytes block_sound (start (walking c)).args.s.now 0 ≡ ok (sight g.1.0 g.1.1.0) g.0
-ends c = sym (walking c).block_skip.ensures ∙ ap of_walked c.end-1.given.1
+    walked block block_bytes block_sound c.args.s.now 0 ≡ ok (sight g.1.0 g.1.1.0) g.0
+ends c = sym c.block_skip.ensures ∙ ap of_walked c.in-Past.is
 
 pub eight-requires : goal.eight-requires
 eight-requires c = let k = c.before.before in omega (arith, W.long-enough 0 _ (octets (walking k)) (ends k) c.if-end-s.true)
@@ -39,4 +34,4 @@ pub returns-else-end-s : goal.returns-else-end-s
 returns-else-end-s c = let k = c.before.before in W.not-all _ _ (octets (walking k)) (ends k) c.if-end-s.false
 
 pub returns-in_default : goal.returns-in_default
-returns-in_default c = let w = c.before.before.before in W.not-read _ _ (octets w) (sym w.block_skip.ensures ∙ ap of_walked c.enum_told-1.given.1)
+returns-in_default c = let w = c.before.before.before in W.not-read _ _ (octets w) (sym w.block_skip.ensures ∙ ap of_walked c.in_default.is)

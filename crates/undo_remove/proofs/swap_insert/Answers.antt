@@ -14,46 +14,46 @@ use Rattle.undo_remove.proofs.Entered as E
 use borrow.Author.Rules.{rules}
 use Rattle.undo_remove.proofs.swap_insert.Goals as goal
 use Rattle.undo_remove.proofs.swap_insert.Tie as tie
-use Rattle.undo_remove.proofs.swap_insert.Goals.{After-block_offset-at, Start}
+use Rattle.undo_remove.proofs.swap_insert.Goals.{After-block_offset-at, After-copy_at-arg-1, After-copy_at-arg-2-1, After-exchange-arg-1, After-put_u32-arg-1, After-put_u32-arg-2-1, After-shared_slice_known-1, After-slice_known-4-1, After-slice_known-then-count-place-2-1, After-struct_known-1, Start}
 
 abbrev Comes : Start → Routine → Type 0
 Comes s r = Insertable r s.args.image-1.now s.args.place s.args.written s.args.block.now
 
 -- The way through the code, each place from the next: first where the block goes last, then where another stands at its place.
-abbrev start : tie.After-blocks_of-blocks → Start
-start c = c.before.before.before.before
+abbrev start : After-struct_known-1 → Start
+start c = (goal.at.After-struct_known-1 c).Start
 
-abbrev counting_last : tie.After-copy_at → tie.After-blocks_of-blocks
-counting_last c = c.before.before.before.before
+abbrev counting_last : After-put_u32-arg-1 → tie.After-blocks_of-blocks
+counting_last c = (goal.at.After-put_u32-arg-1 c).After-copy_at-arg-1
 
-abbrev storing : tie.After-put_u32 → tie.After-copy_at
-storing c = c.before.before.before.before
+abbrev storing : After-slice_known-then-count-place-2-1 → tie.After-copy_at
+storing c = c.before.before.before.before.before
 
-abbrev finding : tie.After-block_end-next → After-block_offset-at
-finding c = c.before.before
+abbrev finding : After-copy_at-arg-2-1 → After-block_offset-at
+finding c = (goal.at.After-copy_at-arg-2-1 c).After-block_offset-at
 
 abbrev counting_mid : After-block_offset-at → tie.After-blocks_of-blocks
 counting_mid c = (goal.at.After-block_offset-at c).After-shared_slice_known-1
 
-abbrev ending : tie.After-copy_at-2 → tie.After-block_end-next
-ending c = c.before.before
+abbrev ending : After-exchange-arg-1 → tie.After-block_end-next
+ending c = c.before.before.before
 
-abbrev copying : tie.After-exchange → tie.After-copy_at-2
-copying c = c.before.before.before.before
+abbrev copying : After-put_u32-arg-2-1 → tie.After-copy_at-2
+copying c = (goal.at.After-put_u32-arg-2-1 c).After-exchange-arg-1
 
-abbrev exchanging : tie.After-put_u32-2 → tie.After-exchange
-exchanging c = c.before.before.before.before
+abbrev exchanging : After-slice_known-4-1 → tie.After-exchange
+exchanging c = c.before.before.before.before.before
 
 -- What is known at them.
-counted : (c : tie.After-blocks_of-blocks) (r : Routine) → Comes (start c) r
+counted : (c : After-struct_known-1) (r : Routine) → Comes (start c) r
     → (c.blocks_of-blocks.result.start ≡ blocks_start r) × (c.blocks_of-blocks.result.count ≡ length r.explored_blocks)
 counted c r l = c.blocks_of-blocks.ensures r (E.holding r _ _ _ _ l)
 
 -- the count stands in the image, and one more fits it
-sure : (c : tie.After-blocks_of-blocks)
-    → (4 ≤ c.blocks_of-blocks.result.start) × ((c.blocks_of-blocks.result.start ≤ length (start c).args.image-1.now) × (c.blocks_of-blocks.result.count ≤ 16777216))
+sure : (c : After-struct_known-1)
+    → (4 ≤ c.blocks_of-blocks.result.start) × ((c.blocks_of-blocks.result.start ≤ length c.args.image-1.now) × (c.blocks_of-blocks.result.count ≤ 16777216))
 sure c =
-    let p = (start c).requires in
+    let p = c.requires in
     let k = counted c p.r p.insertable in
     (omega (arith, k.0), (omega (arith, k.0, E.start_in p.r _ _ _ _ p.insertable), omega (arith, k.1, E.few p.r _ _ _ _ p.insertable)))
 
@@ -61,7 +61,7 @@ room : (s : Start) → s.args.written + length s.args.block.now ≤ length s.arg
 room s = E.room s.requires.r _ _ _ _ s.requires.insertable
 
 -- the place is that of a block, which stands from `at` to `next`
-module _ (c : tie.After-block_end-next) where
+module _ (c : After-copy_at-arg-2-1) where
   abbrev o : After-block_offset-at
   o = finding c
 
@@ -109,10 +109,10 @@ returns c = λ r b l e.
     E.in_mid r _ _ _ _ l b e _ _ n.0 n.1 (there u r l) _ _ (at_is u r l) (next-is u r l) _ _ _ y.copy_at-2.ensures x.exchange.ensures p.put_u32-2.ensures
 
 pub overflow_sub-count_at : goal.overflow_sub-count_at
-overflow_sub-count_at c = omega (arith, sure c.before.before)
+overflow_sub-count_at c = omega (arith, sure c)
 
 pub overflow_add-more : goal.overflow_add-more
-overflow_add-more c = omega (arith, sure c.before.before)
+overflow_add-more c = omega (arith, sure c)
 
 pub overflow_add-end : goal.overflow_add-end
 overflow_add-end c = omega (arith, room (start c.before.before))
@@ -121,7 +121,7 @@ pub copy_at-requires : goal.copy_at-requires
 copy_at-requires c = room (start c.before.before.before.before)
 
 pub put_u32-requires : goal.put_u32-requires
-put_u32-requires c = omega (arith, sure (counting_last c.before.before.before.before))
+put_u32-requires c = omega (arith, sure (goal.at.put_u32-requires c).After-struct_known-1)
 
 pub copy_at-requires-2 : goal.copy_at-requires-2
 copy_at-requires-2 c = room (s c.before.before)

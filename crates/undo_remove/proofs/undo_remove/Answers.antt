@@ -25,7 +25,7 @@ use Rattle.undo_remove.proofs.Entries as K
 use borrow.Author.Rules.{rules}
 use Rattle.undo_remove.proofs.undo_remove.Goals as goal
 use Rattle.undo_remove.proofs.undo_remove.Tie as tie
-use Rattle.undo_remove.proofs.undo_remove.Goals.{After-accept, After-sum_of_block-more, After-swap_insert-arg-2-1, Start}
+use Rattle.undo_remove.proofs.undo_remove.Goals.{After-accept, After-slice_known-4-1, After-struct_known-1, After-sum_of_block-more, After-swap_insert-arg-2-1, Start}
 
 -- the state at entry, the routine that it holds, the trailer, and the journal's used part before it
 abbrev S : Start → State
@@ -57,8 +57,8 @@ sum_fits s = omega arith
 abbrev start : tie.After-entry_refusal-refusal → Start
 start c = c.before.before.before.before.before
 
-abbrev testing : tie.Else-refusal-ne0 → tie.After-entry_refusal-refusal
-testing c = c.before
+abbrev testing : After-struct_known-1 → tie.After-entry_refusal-refusal
+testing c = c.before.before
 
 abbrev summing : After-sum_of_block-more → tie.Else-refusal-ne0
 summing c = c.before.before.before.before.before
@@ -69,8 +69,8 @@ adding c = c.before
 abbrev passing : After-swap_insert-arg-2-1 → tie.Else-not-can_add
 passing c = c.before.before.before.before.before
 
-abbrev inserting : tie.After-clear → tie.After-swap_insert
-inserting c = c.before.before.before.before
+abbrev inserting : After-slice_known-4-1 → tie.After-swap_insert
+inserting c = c.before.before.before.before.before
 
 abbrev clearing : After-accept → tie.After-clear
 clearing c = c.before.before.before.before
@@ -79,7 +79,7 @@ clearing c = c.before.before.before.before
 tested : (c : tie.After-entry_refusal-refusal) → c.entry_refusal-refusal.result ≡ refusal_of (back (start c) (R (start c)))
 tested c = let s = start c in c.entry_refusal-refusal.ensures (R s) (sound-holding (sound s)) (sound s).written
 
-module _ (c : tie.Else-refusal-ne0) where
+module _ (c : After-struct_known-1) where
   abbrev s : Start
   s = start (testing c)
 
@@ -110,10 +110,10 @@ module _ (c : tie.After-can_add) where
   p = summing (adding c)
 
   abbrev more : ℕ
-  more = (adding c).sum_of_block-more.result
+  more = c.sum_of_block-more.result
 
   comes_to : more ≡ block_sum (s p).args.book.rates.rate (fitting p).b
-  comes_to = (adding c).sum_of_block-more.ensures _ _ (K.reads-block (S (s p)) (R (s p)) (sound (s p)) (T (s p)) (s p).requires.1 (fitting p))
+  comes_to = c.sum_of_block-more.ensures _ _ (K.reads-block (S (s p)) (R (s p)) (sound (s p)) (T (s p)) (s p).requires.1 (fitting p))
 
   over_64 : c.can_add.result ≡ false → 2 ^ 64 ≤ (s p).args.book.sum + more
   over_64 h = ltb-false ((s p).args.book.sum + more) (2 ^ 64) (sym c.can_add.ensures ∙ h)

@@ -7,23 +7,20 @@ use Rattle.fields.specs.Parse.{le}
 use Rattle.value.proofs.Fast.{kept-fits, immediate-kept}
 use borrow.Author.Rules.{rules}
 use Rattle.value.proofs.fast_immediate.Goals as goal
-use Rattle.value.proofs.fast_immediate.Goals.{After-kept-value, After-kept-width, After-shared_slice_known-1}
+use Rattle.value.proofs.fast_immediate.Goals.{After-kept-value, After-kept-width}
 
 -- The way through the code, each place from the next.
 abbrev valued : After-kept-width → After-kept-value
 valued c = (goal.at.After-kept-width c).After-kept-value
 
-abbrev lent : After-kept-width → After-shared_slice_known-1
-lent c = (goal.at.After-kept-value (valued c)).After-shared_slice_known-1
-
-width : (c : After-kept-width) → let a = (lent c).args in c.kept-width.result ≡ choose a.there (le 4 a.s.now (a.at + 8)) 0
-width c = c.kept-width.ensures ∙ ap (λ v. choose (lent c).args.there v 0) c.four.ensures
+width : (c : After-kept-width) → let a = c.args in c.kept-width.result ≡ choose a.there (le 4 a.s.now (a.at + 8)) 0
+width c = c.kept-width.ensures ∙ ap (λ v. choose c.args.there v 0) c.four.ensures
 
 pub overflow_cast-result : goal.overflow_cast-result
-overflow_cast-result c = let a = (lent c).args in omega (arith, width c, kept-fits a.there a.s.now (a.at + 8) (lent c).shared_slice_known-1.given)
+overflow_cast-result c = let a = c.args in omega (arith, width c, kept-fits a.there a.s.now (a.at + 8) c.type_inv.s)
 
 pub returns : goal.returns
 returns c =
     let k = valued c in
-    let a = (lent c).args in
+    let a = c.args in
     immediate-kept a.s.now a.at a.there (k.kept-value.ensures ∙ ap (λ v. choose a.there v 0) k.eight.ensures) (width c)

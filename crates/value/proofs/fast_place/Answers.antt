@@ -16,9 +16,6 @@ use Rattle.value.proofs.fast_place.Goals.{After-kept-kind, After-shared_slice_kn
 abbrev marked : Else-mark-gt2 → tie.After-kept-mark
 marked c = c.before.before
 
-abbrev lent : tie.After-kept-mark → After-shared_slice_known-1
-lent c = c.before.before
-
 abbrev holding : Else-register-gt2 → tie.After-fast_register-register
 holding c = c.before.before.before
 
@@ -29,10 +26,10 @@ pub overflow_add-four : goal.overflow_add-four
 overflow_add-four c =
     let k = (goal.at.overflow_add-four c).After-shared_slice_known-1 in
     let a = k.args in
-    omega (arith, c.four.ensures, le_lt 4 a.s.now a.at k.shared_slice_known-1.given)
+    omega (arith, c.four.ensures, le_lt 4 a.s.now a.at k.type_inv.s)
 
-mark : (c : tie.After-kept-mark) → let a = (lent c).args in c.kept-mark.result ≡ choose a.used (le 4 a.s.now a.at + 1) 0
-mark c = c.kept-mark.ensures ∙ ap (λ v. choose (lent c).args.used (v + 1) 0) c.four.ensures
+mark : (c : tie.After-kept-mark) → let a = c.args in c.kept-mark.result ≡ choose a.used (le 4 a.s.now a.at + 1) 0
+mark c = c.kept-mark.ensures ∙ ap (λ v. choose c.args.used (v + 1) 0) c.four.ensures
 
 -- what is kept of a number is at most that
 most : (t : Bool) (v : ℕ) {r : ℕ} → r ≡ choose t v 0 → r ≤ v
@@ -45,8 +42,8 @@ returns c h =
     let e = sized c in
     let r = holding e in
     let m = marked r.before in
-    let a = (lent m).args in
-    fills a.s.now a.at (lent m).requires a.used m.kept-mark.result (mark m) (omega (arith, r.if-mark-gt2.left)) r.fast_register-register.ensures (omega (arith, e.if-register-gt2.left))
+    let a = m.args in
+    fills a.s.now a.at m.requires a.used m.kept-mark.result (mark m) (omega (arith, r.if-mark-gt2.left)) r.fast_register-register.ensures (omega (arith, e.if-register-gt2.left))
     c.fast_immediate-immediate.ensures c.kept.ensures c.kept-2.ensures c.kept-kind.ensures
 
 pub returns-then-mark-gt2 : goal.returns-then-mark-gt2

@@ -8,7 +8,7 @@ use Rattle.fields.specs.Parse.{le, int}
 use Rattle.value.proofs.Fast.{kept-fits, register-kept}
 use borrow.Author.Rules.{rules}
 use Rattle.value.proofs.fast_register.Goals as goal
-use Rattle.value.proofs.fast_register.Goals.{After-kept-flags, After-kept-id, After-kept-offset, After-kept-width, After-shared_slice_known-1, Start}
+use Rattle.value.proofs.fast_register.Goals.{After-kept-flags, After-kept-id, After-kept-offset, After-kept-width, After-shared_slice_known-1, After-signed32}
 
 -- The way through the code, each place from the next.
 abbrev counted : After-kept-offset → After-kept-width
@@ -23,27 +23,24 @@ flagged c = (goal.at.After-kept-id c).After-kept-flags
 abbrev lent : After-kept-flags → After-shared_slice_known-1
 lent c = (goal.at.After-kept-flags c).After-shared_slice_known-1
 
-abbrev start : After-kept-width → Start
-start c = (lent (flagged (named c))).before
-
 -- the width and the offset, as they are kept
-width : (c : After-kept-width) → let a = (start c).args in c.kept-width.result ≡ choose a.there (le 4 a.s.now (a.at + 8 + 8)) 0
-width c = c.kept-width.ensures ∙ ap (λ v. choose (start c).args.there v 0) c.four.ensures
+width : (c : After-kept-width) → let a = c.args in c.kept-width.result ≡ choose a.there (le 4 a.s.now (a.at + 8 + 8)) 0
+width c = c.kept-width.ensures ∙ ap (λ v. choose c.args.there v 0) c.four.ensures
 
-offset : (c : After-kept-offset) → let a = (start (counted c)).args in c.kept-offset.result ≡ choose a.there (le 4 a.s.now (a.at + 8 + 8 + 4)) 0
-offset c = c.kept-offset.ensures ∙ ap (λ v. choose (start (counted c)).args.there v 0) c.four-2.ensures
+offset : (c : After-kept-offset) → let a = c.args in c.kept-offset.result ≡ choose a.there (le 4 a.s.now (a.at + 8 + 8 + 4)) 0
+offset c = c.kept-offset.ensures ∙ ap (λ v. choose c.args.there v 0) c.four-2.ensures
 
 pub overflow_cast-width : goal.overflow_cast-width
 overflow_cast-width c =
     let k = counted c in
-    let a = (start k).args in
-    omega (arith, width k, kept-fits a.there a.s.now (a.at + 8 + 8) (lent (flagged (named k))).shared_slice_known-1.given)
+    let a = k.args in
+    omega (arith, width k, kept-fits a.there a.s.now (a.at + 8 + 8) (lent (flagged (named k))).type_inv.s)
 
 pub overflow_cast-offset : goal.overflow_cast-offset
 overflow_cast-offset c =
     let k = counted (goal.at.overflow_cast-offset c).After-kept-offset in
-    let a = (start k).args in
-    omega (arith, offset (goal.at.overflow_cast-offset c).After-kept-offset, kept-fits a.there a.s.now (a.at + 8 + 8 + 4) (lent (flagged (named k))).shared_slice_known-1.given)
+    let a = k.args in
+    omega (arith, offset (goal.at.overflow_cast-offset c).After-kept-offset, kept-fits a.there a.s.now (a.at + 8 + 8 + 4) (lent (flagged (named k))).type_inv.s)
 
 pub returns : goal.returns
 returns c =
@@ -52,7 +49,7 @@ returns c =
     let w = counted o in
     let i = named w in
     let f = flagged i in
-    let a = (start w).args in
+    let a = w.args in
     register-kept a.s.now a.at a.there (f.kept-flags.ensures ∙ ap (λ v. choose a.there v 0) f.eight.ensures)
     (i.kept-id.ensures ∙ ap (λ v. choose a.there v 0) i.eight-2.ensures)
     (s.signed32.ensures ∙ ap (int w32) (width w)) (c.signed32-2.ensures ∙ ap (int w32) (offset o)) (search rules) (search rules)

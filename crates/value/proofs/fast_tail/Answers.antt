@@ -22,11 +22,11 @@ pub overflow_cast-result : goal.overflow_cast-result
 overflow_cast-result c =
     let k = lent (measured c) in
     let a = k.args in
-    omega (arith, c.four-index.ensures, le_lt 4 a.s.now (a.at + 8 + 8) k.shared_slice_known-1.given)
+    omega (arith, c.four-index.ensures, le_lt 4 a.s.now (a.at + 8 + 8) k.type_inv.s)
 
 pub returns : goal.returns
 returns c =
     let m = measured c in
-    let a = (lent m).args in
+    let a = m.args in
     tail-stands _ _ _ m.signed64-offset.result (search rules)
     (tail-ok a.s.now a.at (omega arith) m.eight.ensures (m.signed64-offset.ensures ∙ ap (int w64) m.eight-2.ensures) c.four-index.ensures refl)

@@ -16,11 +16,7 @@ use Rattle.value.proofs.Fast.{filled}
 use borrow.Author.Rules.{rules}
 use Rattle.value.proofs.instruction_at.Goals as goal
 use Rattle.value.proofs.instruction_at.Tie as tie
-use Rattle.value.proofs.instruction_at.Goals.{After-four, After-struct_known-4-1, Else-code-gt255, Else-x-eq0, Else-y-eq0, Else-z-eq0, Start}
-
--- The way through the code, each place from the next.
-abbrev start : Else-code-gt255 → Start
-start c = (goal.at.Else-code-gt255 c).Start
+use Rattle.value.proofs.instruction_at.Goals.{After-four, After-struct_known-4-1, Else-code-gt255, Else-x-eq0, Else-y-eq0, Else-z-eq0}
 
 abbrev coded : After-four → Else-code-gt255
 coded c = (goal.at.After-four c).Else-code-gt255
@@ -34,8 +30,8 @@ second c = c.before.before.before
 abbrev third : Else-z-eq0 → tie.After-fast_place-z
 third c = c.before.before.before
 
-abbrev ended : tie.After-fast_tail-rest → Else-z-eq0
-ended c = c.before
+abbrev ended : After-struct_known-4-1 → Else-z-eq0
+ended c = c.before.before
 
 abbrev taken : After-struct_known-4-1 → tie.After-fast_tail-rest
 taken c = c.before.before.before.before.before.before
@@ -44,46 +40,46 @@ abbrev named : Else-y-eq0 → After-four
 named c = (first (second c).before).before
 
 -- What is known at them: the operation, and that each place is filled.
-found : (c : Else-code-gt255) → Found (start c).args.s.now (start c).args.at c.fast_code-code.result
+found : (c : Else-code-gt255) → Found c.args.s.now c.args.at c.fast_code-code.result
 found c = c.fast_code-code.ensures (omega (arith, c.if-code-gt255.false))
 
 short : (c : After-four) → c.four.result ≤ 6
-short c = omega (arith, c.four.ensures, (found (coded c)).short)
+short c = omega (arith, c.four.ensures, (found (goal.at.After-four c).Else-code-gt255).short)
 
 abbrev code : After-four → ℕ
-code c = (coded c).fast_code-code.result
+code c = c.fast_code-code.result
 
 abbrev file : After-four → List ℕ
-file c = (start (coded c)).args.s.now
+file c = c.args.s.now
 
 first-filled : (c : Else-x-eq0)
-    → let f = (first c).before in Fills (file f) ((start (coded f)).args.at + 4 + f.four.result + 4) (ltb 0 (code f % 4)) (first c).fast_place-x.result
-first-filled c = (first c).fast_place-x.ensures (omega (arith, c.if-x-eq0.false))
+    → let f = (first c).before in Fills (file f) (f.args.at + 4 + f.four.result + 4) (ltb 0 (code f % 4)) c.fast_place-x.result
+first-filled c = c.fast_place-x.ensures (omega (arith, c.if-x-eq0.false))
 
 second-filled : (c : Else-y-eq0)
-    → Fills (file (named c)) (first (second c).before).fast_place-x.result.next (ltb 1 (code (named c) % 4)) (second c).fast_place-y.result
-second-filled c = (second c).fast_place-y.ensures (omega (arith, c.if-y-eq0.false))
+    → Fills (file (named c)) c.fast_place-x.result.next (ltb 1 (code (named c) % 4)) c.fast_place-y.result
+second-filled c = c.fast_place-y.ensures (omega (arith, c.if-y-eq0.false))
 
 third-filled : (c : Else-z-eq0)
-    → let y = (third c).before in Fills (file (named y)) (second y).fast_place-y.result.next (ltb 2 (code (named y) % 4)) (third c).fast_place-z.result
-third-filled c = (third c).fast_place-z.ensures (omega (arith, c.if-z-eq0.false))
+    → let y = (third c).before in Fills (file (named y)) y.fast_place-y.result.next (ltb 2 (code (named y) % 4)) c.fast_place-z.result
+third-filled c = c.fast_place-z.ensures (omega (arith, c.if-z-eq0.false))
 
 -- there is room for what follows each
-after_first : (c : Else-x-eq0) → (first c).fast_place-x.result.next + 77 ≤ length (file (first c).before)
-after_first c = let f = (first c).before in omega (arith, (first-filled c).near, (found (coded f)).room, short f)
+after_first : (c : Else-x-eq0) → c.fast_place-x.result.next + 77 ≤ length (file (first c).before)
+after_first c = let f = (first c).before in omega (arith, (first-filled c).near, (found (goal.at.After-four f).Else-code-gt255).room, short f)
 
-after-second : (c : Else-y-eq0) → (second c).fast_place-y.result.next + 49 ≤ length (file (named c))
-after-second c = omega (arith, (second-filled c).near, after_first (second c).before)
+after-second : (c : Else-y-eq0) → c.fast_place-y.result.next + 49 ≤ length (file (named c))
+after-second c = omega (arith, (second-filled c).near, after_first (goal.at.Else-y-eq0 c).Else-x-eq0)
 
-after-third : (c : Else-z-eq0) → (third c).fast_place-z.result.next + 21 ≤ length (file (named (third c).before))
-after-third c = omega (arith, (third-filled c).near, after-second (third c).before)
+after-third : (c : Else-z-eq0) → c.fast_place-z.result.next + 21 ≤ length (file (named (third c).before))
+after-third c = omega (arith, (third-filled c).near, after-second (goal.at.Else-z-eq0 c).Else-y-eq0)
 
 -- and no number of the answer wraps
 lent : (c : After-four) → length (file c) < 2 ^ 63
 lent c = omega arith
 
-end_fits : (c : Else-z-eq0) → (third c).fast_place-z.result.next + 21 < 2 ^ 64
-end_fits c = omega (arith, after-third c, lent (named (third c).before))
+end_fits : (c : Else-z-eq0) → c.fast_place-z.result.next + 21 < 2 ^ 64
+end_fits c = omega (arith, after-third c, lent (goal.at.Else-z-eq0 c).After-four)
 
 op_fits : (c : Else-z-eq0) → code (named (third c).before) / 4 < 2 ^ 32
 op_fits c = omega (arith, (found (coded (named (third c).before))).listed)
@@ -91,8 +87,8 @@ op_fits c = omega (arith, (found (coded (named (third c).before))).listed)
 count_fits : (c : Else-z-eq0) → code (named (third c).before) % 4 < 2 ^ 32
 count_fits c = omega arith
 
-offset-fits : (c : tie.After-fast_tail-rest) → SFits w64 c.fast_tail-rest.result.sp_offset
-offset-fits c = let g = c.fast_tail-rest.type-inv in search rules
+offset-fits : (c : After-struct_known-4-1) → SFits w64 c.fast_tail-rest.result.sp_offset
+offset-fits c = let g = c.fast_tail-rest.type_inv in search rules
 
 pub returns : goal.returns
 returns c =
@@ -102,8 +98,8 @@ returns c =
     let y = second z.before in
     let x = first y.before in
     let f = x.before in
-    let a = (start (coded f)).args in
-    let w = found (coded f) in
+    let a = f.args in
+    let w = found (goal.at.After-four f).Else-code-gt255 in
     all-on a.s.now a.at (w.is ∙ ap (λ n. ok (code f / 4) (a.at + 4 + n + 4)) (sym f.four.ensures))
     (record { refusal = 0; next = z.fast_place-z.result.next; places = x.fast_place-x.result.place ∷ y.fast_place-y.result.place ∷ z.fast_place-z.result.place ∷ [] })
     (code f % 4) (sym w.takes) (filled (code f % 4) _ _ _ _ _ (omega arith) (first-filled y.before) (second-filled z.before) (third-filled e))
@@ -119,13 +115,13 @@ pub four-requires : goal.four-requires
 four-requires c = omega (arith, (found c).room)
 
 pub overflow_add-a-2 : goal.overflow_add-a-2
-overflow_add-a-2 c = omega (arith, (found (coded c)).room, short c)
+overflow_add-a-2 c = omega (arith, (found (goal.at.overflow_add-a-2 c).Else-code-gt255).room, short c)
 
 pub overflow_add-a-3 : goal.overflow_add-a-3
-overflow_add-a-3 c = omega (arith, (found (coded c)).room, short c)
+overflow_add-a-3 c = omega (arith, (found (goal.at.overflow_add-a-3 c).Else-code-gt255).room, short c)
 
 pub fast_place-x-requires : goal.fast_place-x-requires
-fast_place-x-requires c = omega (arith, (found (coded c)).room, short c)
+fast_place-x-requires c = omega (arith, (found (goal.at.fast_place-x-requires c).Else-code-gt255).room, short c)
 
 pub returns-then-x-eq0 : goal.returns-then-x-eq0
 returns-then-x-eq0 c = c.instruction_by_fields-then-x-eq0.ensures
@@ -146,10 +142,10 @@ pub fast_tail-rest-requires : goal.fast_tail-rest-requires
 fast_tail-rest-requires c = omega (arith, after-third c)
 
 pub overflow_add-result : goal.overflow_add-result
-overflow_add-result c = record { fits = end_fits (ended (taken c)) }
+overflow_add-result c = record { fits = end_fits (goal.at.overflow_add-result c).Else-z-eq0 }
 
 pub overflow_cast-result : goal.overflow_cast-result
-overflow_cast-result c = record { fits = op_fits (ended (taken c)) }
+overflow_cast-result c = record { fits = op_fits (goal.at.overflow_cast-result c).Else-z-eq0 }
 
 pub overflow_cast-result-2 : goal.overflow_cast-result-2
-overflow_cast-result-2 c = record { fits = count_fits (ended (taken c)) }
+overflow_cast-result-2 c = record { fits = count_fits (goal.at.overflow_cast-result-2 c).Else-z-eq0 }

@@ -6,8 +6,8 @@ use Rattle.value.proofs.operand_desc.Goals as goal
 
 pub returns-in-Imm : goal.returns-in-Imm
 unfolding operand_desc
-returns-in-Imm c = sym (ap operand_desc c.x-1.given.1)
+returns-in-Imm c = sym (ap operand_desc c.in-Imm.is)
 
 pub returns-in-Reg : goal.returns-in-Reg
 unfolding operand_desc
-returns-in-Reg c = sym (ap operand_desc c.x-in-Reg-1.given.1)
+returns-in-Reg c = sym (ap operand_desc c.in-Reg.is)

@@ -30,23 +30,23 @@ pub returns-in_default : goal.returns-in_default
 unfolding operands_read
 returns-in_default c =
     let d : tie.After-operand_at-operand = c.before.before.before.before in
-    let l = (turn d).loop-i in
-    let q = handed (ap of_operand c.enum_told-1.given.1) d.Operand-at.ensures.0 c.operand_refusal.ensures in
+    let l = d.loop-i in
+    let q = handed (ap of_operand c.in_default.is) d.Operand-at.ensures.0 c.operand_refusal.ensures in
     let e = got_stop operand (N (turn d)) _ _ l.invariant.0 l.i _ l.invariant.4 (omega arith) (sym q) in
-    rw (e, places-none _ (turn d).unused_place-none.ensures)
+    rw (e, places-none _ d.unused_place-none.ensures)
 
 pub loop-i-preserved : goal.loop-i-preserved
 loop-i-preserved c =
     let v : tie.In-Value-2 = c.before.before.before in
     let d : tie.After-operand_at-operand = v.before.before in
     let l = d.loop-i in
-    let x = v.operand-1.given.0.0 in
+    let x = v.in-Value.x in
     let h : length l.invariant.0 ≡ l.i = l.invariant.1 in (
       l.invariant.0 ++ x ∷ [],
       length-append l.invariant.0 (x ∷ []) ∙ omega arith,
       omega arith,
       rw (c.operand_desc.ensures, l.invariant.3, ← h) (places-set l.invariant.0 x (omega arith)),
-      got_more operand (N (turn d)) _ _ l.invariant.0 l.i _ l.invariant.4 (omega arith) (sym d.Operand-at.ensures.0 ∙ ap of_operand v.operand-1.given.1),
+      got_more operand (N (turn d)) _ _ l.invariant.0 l.i _ l.invariant.4 (omega arith) (sym d.Operand-at.ensures.0 ∙ ap of_operand v.in-Value.is),
     )
 
 pub returns : goal.returns

@@ -14,10 +14,10 @@ returns-in-Value-sp_offset c =
     let offset : tie.In-Value-sp_offset-2 = c.before.before.before in
     let asked : tie.After-i64_at-sp_offset = offset.before.before in
     let vip : tie.In-Value-2 = asked.before.before in
-    let z = offset.sp_offset-1.given.0.0 in
+    let z = offset.in-Value-sp_offset.z in
     let f : SFits w64 z = search rules in
     let e = c.sp_at.ensures in
-    on-u64 _ vip.vip-1.given.1 vip.u64_at-vip.ensures (on-i64 _ offset.sp_offset-1.given.1 asked.i64_at-sp_offset.ensures (rw (to_z-of_z w64 z f) at e))
+    on-u64 _ vip.in-Value.is vip.u64_at-vip.ensures (on-i64 _ offset.in-Value-sp_offset.is asked.i64_at-sp_offset.ensures (rw (to_z-of_z w64 z f) at e))
 
 pub returns-in_default-sp_offset : goal.returns-in_default-sp_offset
 unfolding tail

@@ -13,14 +13,11 @@ use Rattle.laws.proofs.Walks.{walked-past, walked-refused}
 use Rattle.vtil.proofs.Told.{ends, told-ok, told-no, minus_fits, within_limit, over_limit}
 use borrow.Author.Rules.{rules}
 use Rattle.vtil.proofs.vtil_check.Goals as goal
-use Rattle.vtil.proofs.vtil_check.Tie as tie
-
-abbrev known : tie.After-pass_file-far → tie.After-shared_slice_known-1
-known c = c.before.before
+use Rattle.vtil.proofs.vtil_check.Goals.{In-Past}
 
 -- the walk accepts
-past : (c : tie.In-Past-2) → ok tt c.far-1.given.0.0 ≡ span (read_file (known c.before.before).args.file.now)
-past c = walked-past routine routine_bytes routine_sound _ 0 (sym c.pass_file-far.ensures ∙ ap of_walked c.far-1.given.1)
+past : (c : In-Past) → ok tt c.in-Past.n ≡ span (read_file c.args.file.now)
+past c = walked-past routine routine_bytes routine_sound _ 0 (sym c.pass_file-far.ensures ∙ ap of_walked c.in-Past.is)
 
 pub returns-then-file-gt-MOST_LENGTH : goal.returns-then-file-gt-MOST_LENGTH
 returns-then-file-gt-MOST_LENGTH c = over_limit _ c.if-file-gt-MOST_LENGTH.true
@@ -28,18 +25,18 @@ returns-then-file-gt-MOST_LENGTH c = over_limit _ c.if-file-gt-MOST_LENGTH.true
 pub signed-requires : goal.signed-requires
 signed-requires c =
     let far = c.before.before in
-    omega (arith, ends _ (known far.before.before).shared_slice_known-1.given (past far))
+    omega (arith, ends _ far.type_inv.file (past far))
 
 pub returns-in-Past : goal.returns-in-Past
 returns-in-Past c =
     let far = c.before.before.before in
-    to_z-of_z w64 _ (record { sfits = c.signed.type-inv }) ∙ c.signed.ensures ∙ told-ok _ (past far) ∙ within_limit _ far.if-file-gt-MOST_LENGTH.false
+    to_z-of_z w64 _ (record { sfits = c.signed.type_inv }) ∙ c.signed.ensures ∙ told-ok _ (past far) ∙ within_limit _ far.if-file-gt-MOST_LENGTH.false
 
 pub returns-in_default : goal.returns-in_default
 returns-in_default c =
     let call = c.before.before.before.before in
     told-no _ (omega arith)
-    (walked-refused routine routine_bytes routine_sound _ 0 (sym (handed (ap of_walked c.enum_told-1.given.1) call.pass_file-far.ensures c.walked_refusal.ensures)))
+    (walked-refused routine routine_bytes routine_sound _ 0 (sym (handed (ap of_walked c.in_default.is) call.pass_file-far.ensures c.walked_refusal.ensures)))
     ∙ within_limit _ call.if-file-gt-MOST_LENGTH.false
 
 pub overflow_sub-result-in_default : goal.overflow_sub-result-in_default

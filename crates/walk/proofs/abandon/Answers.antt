@@ -5,6 +5,7 @@ use borrow.Author.Rules.{rules}
 use Rattle.walk.proofs.Walked.{spoiled, not_abandoned, abandoned}
 use Rattle.walk.proofs.abandon.Goals as goal
 use Rattle.walk.proofs.abandon.Tie as tie
+use Rattle.walk.proofs.abandon.Goals.{Else-book-eq-CLOSED, Then-book-eq-CLOSED, Then-refusal-ne0}
 
 pub returns-then-refusal-ne0 : goal.returns-then-refusal-ne0
 returns-then-refusal-ne0 c =
@@ -21,7 +22,7 @@ returns-then-book-eq-CLOSED c =
     let e = t.before.before.before in
     let call = inspecting e in
     c.refuse-then-book-eq-CLOSED.ensures _ _ (omega arith)
-    ∙ not_abandoned _ call.inspect-refusal.ensures call.shared_slice_known-1.given (omega (arith, e.if-refusal-ne0.false)) (omega (arith, t.if-book-eq-CLOSED.true))
+    ∙ not_abandoned _ call.inspect-refusal.ensures call.type_inv.image (omega (arith, e.if-refusal-ne0.false)) (omega (arith, t.if-book-eq-CLOSED.true))
 
 pub returns : goal.returns
 returns c =
@@ -29,4 +30,4 @@ returns c =
     let e = o.before.before.before in
     let call = inspecting e in
     c.accept_walk.ensures _ _
-    ∙ abandoned _ call.inspect-refusal.ensures call.shared_slice_known-1.given (omega (arith, e.if-refusal-ne0.false)) (λ z. omega (arith, o.if-book-eq-CLOSED.false))
+    ∙ abandoned _ call.inspect-refusal.ensures call.type_inv.image (omega (arith, e.if-refusal-ne0.false)) (λ z. omega (arith, o.if-book-eq-CLOSED.false))

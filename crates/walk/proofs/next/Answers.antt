@@ -8,7 +8,7 @@ use Rattle.book.proofs.Answers.{hands_nothing}
 use Rattle.walk.proofs.Walked.{spoiled, no-next, ended, handed, small, ordered}
 use Rattle.walk.proofs.next.Goals as goal
 use Rattle.walk.proofs.next.Tie as tie
-use Rattle.walk.proofs.next.Goals.{Else-found}
+use Rattle.walk.proofs.next.Goals.{After-refuse, After-refuse-then-walk-eq-CLOSED, Else-found, Then-found, Then-found-ne0, Then-walk-eq-CLOSED}
 
 -- The way through the code, each place from the next.
 abbrev inspecting : tie.Else-found-ne0 → tie.After-inspect_at-found
@@ -21,13 +21,13 @@ abbrev comparing : Else-found → tie.Else-walk-eq-CLOSED
 comparing c = c.before.before.before
 
 -- What is known at them: what was lent are bytes, then nothing was refused, then a walk is open.
-octets : (c : tie.Else-found-ne0) → Bytes (inspecting c).args.image.now
-octets c = (inspecting c).shared_slice_known-1.given
+octets : (c : tie.Else-found-ne0) → Bytes c.args.image.now
+octets c = c.type_inv.image
 
-none : (c : tie.Else-found-ne0) → (inspecting c).inspect_at-found.result.refusal ≡ 0
+none : (c : tie.Else-found-ne0) → c.inspect_at-found.result.refusal ≡ 0
 none c = omega (arith, c.if-found-ne0.false)
 
-walks : (c : tie.Else-walk-eq-CLOSED) → (inspecting (passing c)).args.book.walk ≡ 0 → ⊥
+walks : (c : tie.Else-walk-eq-CLOSED) → c.args.book.walk ≡ 0 → ⊥
 walks c z = omega (arith, c.if-walk-eq-CLOSED.false)
 
 pub returns-then-found-ne0 : goal.returns-then-found-ne0
@@ -45,7 +45,7 @@ returns-then-walk-eq-CLOSED c =
     let e = t.before.before in
     c.hand_nothing-then-walk-eq-CLOSED.ensures _ _
     ∙ hands_nothing _ _ _
-    (r.refuse-then-walk-eq-CLOSED.ensures _ _ (omega arith) ∙ no-next _ (inspecting e).inspect_at-found.ensures.0 (octets e) (none e) (omega (arith, t.if-walk-eq-CLOSED.true)))
+    (r.refuse-then-walk-eq-CLOSED.ensures _ _ (omega arith) ∙ no-next _ e.inspect_at-found.ensures.0 (octets e) (none e) (omega (arith, t.if-walk-eq-CLOSED.true)))
 
 pub returns-then-found : goal.returns-then-found
 returns-then-found c =
@@ -60,7 +60,7 @@ pub overflow_add-walk : goal.overflow_add-walk
 overflow_add-walk c =
     let o = comparing c in
     let e = passing o in
-    omega (arith, small _ (inspecting e).inspect_at-found.ensures.0 (octets e) (none e) (walks o))
+    omega (arith, small _ e.inspect_at-found.ensures.0 (octets e) (none e) (walks o))
 
 pub overflow_sub-found : goal.overflow_sub-found
 overflow_sub-found c =

@@ -4,6 +4,7 @@ use native.Mathlib.Omega.{arith}
 use borrow.Author.Rules.{rules}
 use Rattle.walk.proofs.Walked.{not_started, started}
 use Rattle.walk.proofs.start.Goals as goal
+use Rattle.walk.proofs.start.Goals.{Else-refusal-ne0, Then-refusal-ne0}
 
 pub returns-then-refusal-ne0 : goal.returns-then-refusal-ne0
 returns-then-refusal-ne0 c =
@@ -14,4 +15,4 @@ pub returns : goal.returns
 returns c =
     let e = (goal.at.returns c).Else-refusal-ne0 in
     let call = e.before.before in
-    c.accept_walk.ensures _ _ ∙ started _ call.inspect_unwalked-refusal.ensures call.shared_slice_known-1.given (omega (arith, e.if-refusal-ne0.false))
+    c.accept_walk.ensures _ _ ∙ started _ call.inspect_unwalked-refusal.ensures call.type_inv.image (omega (arith, e.if-refusal-ne0.false))

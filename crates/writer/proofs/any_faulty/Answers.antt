@@ -17,7 +17,7 @@ abbrev turn : tie.After-is_faulty → tie.At-loop-i
 turn c = c.before.before.before
 
 three : (c : tie.At-loop-i) → length c.args.t1 ≡ 3
-three c = c.before.well-formed.0.1.0.1
+three c = c.before.well_formed.0.1.0.1
 
 pub returns-then-is_faulty : goal.returns-then-is_faulty
 returns-then-is_faulty c =

@@ -3,11 +3,6 @@ use native.Mathlib.Omega.{arith}
 use borrow.Author.Tests.{eq-eqb, ne_eqb}
 use Rattle.fields.specs.Lists.{choose}
 use Rattle.writer.proofs.is_faulty.Goals as goal
-use Rattle.writer.proofs.is_faulty.Tie as tie
-use Rattle.writer.proofs.is_faulty.Goals.{Start}
-
-abbrev start : tie.After-struct_known-2-1 → Start
-start c = c.before.before.before
 
 pub returns-then-e-ne-FOREIGN_REGISTER : goal.returns-then-e-ne-FOREIGN_REGISTER
 unfolding choose
@@ -15,8 +10,8 @@ returns-then-e-ne-FOREIGN_REGISTER c = rw (ne_eqb c.args.e 5 (λ z. omega arith)
 
 pub returns-then-d-eq1 : goal.returns-then-d-eq1
 unfolding choose
-returns-then-d-eq1 c = let s = (start c.before.before.before).args in rw (eq-eqb s.e 5 (omega arith), eq-eqb s.d.kind 1 (omega arith))
+returns-then-d-eq1 c = let s = c.args in rw (eq-eqb s.e 5 (omega arith), eq-eqb s.d.kind 1 (omega arith))
 
 pub returns-else-d-eq1 : goal.returns-else-d-eq1
 unfolding choose
-returns-else-d-eq1 c = let s = (start c.before.before).args in rw (eq-eqb s.e 5 (omega arith), ne_eqb s.d.kind 1 (λ z. omega arith))
+returns-else-d-eq1 c = let s = c.args in rw (eq-eqb s.e 5 (omega arith), ne_eqb s.d.kind 1 (λ z. omega arith))

@@ -10,7 +10,7 @@ use Rattle.writer.proofs.operands_size.Goals as goal
 use Rattle.writer.proofs.operands_size.Tie as tie
 
 three : (c : tie.At-loop-i) → length c.args.t1 ≡ 3
-three c = c.before.well-formed.0.1.0.1
+three c = c.before.well_formed.0.1.0.1
 
 pub overflow_add-n : goal.overflow_add-n
 overflow_add-n c = omega (arith, c.operand_size-n.ensures.1)

@@ -8,13 +8,13 @@ use Rattle.writer.proofs.Name.{size-name}
 use borrow.Author.Rules.{rules}
 use Rattle.writer.proofs.put_instruction.Goals as goal
 use Rattle.writer.proofs.put_instruction.Tie as tie
-use Rattle.writer.proofs.put_instruction.Goals.{After-put_operands-arg-1, After-put_tail-arg-1, Start}
+use Rattle.writer.proofs.put_instruction.Goals.{After-put_name-arg-1, After-put_operands-arg-1, After-put_tail-arg-1, After-put_u32-arg-1, After-struct_known-2-1, Start}
 
-abbrev start : tie.After-put_name-a → Start
-start c = c.before.before.before.before
+abbrev start : After-put_u32-arg-1 → Start
+start c = (goal.at.After-put_u32-arg-1 c).After-put_name-arg-1
 
-abbrev naming : tie.After-put_u32 → tie.After-put_name-a
-naming c = c.before.before.before.before
+abbrev naming : After-struct_known-2-1 → tie.After-put_name-a
+naming c = c.before.before.before.before.before
 
 abbrev counting : After-put_operands-arg-1 → tie.After-put_u32
 counting c = c.before.before.before.before.before.before
@@ -23,14 +23,14 @@ abbrev filling : After-put_tail-arg-1 → tie.After-put_operands-b
 filling c = c.before.before.before.before
 
 -- what the parts after the name take
-room : (c : tie.After-put_name-a) → c.put_name-a.result + 25 + length (used_bytes (start c).args.value) ≤ length (start c).args.image-1.now
-room c = let v = (start c).args.value in omega (arith, size-whole v, size-name v.op, c.put_name-a.ensures.0)
+room : (c : After-put_u32-arg-1) → c.put_name-a.result + 25 + length (used_bytes c.args.value) ≤ length c.args.image-1.now
+room c = let v = c.args.value in omega (arith, size-whole v, size-name v.op, c.put_name-a.ensures.0)
 
 pub put_name-a-requires : goal.put_name-a-requires
 put_name-a-requires c = let v = c.args.value in (omega arith, omega (arith, size-whole v, size-name v.op))
 
 pub put_operands-b-requires : goal.put_operands-b-requires
-put_operands-b-requires c = (omega arith, omega (arith, room (naming (counting c))))
+put_operands-b-requires c = (omega arith, omega (arith, room (goal.at.put_operands-b-requires c).After-put_u32-arg-1))
 
 pub put_tail-requires : goal.put_tail-requires
 put_tail-requires c = let o = filling c in omega (arith, room (naming (counting o.before)), o.put_operands-b.ensures.0)
@@ -42,7 +42,7 @@ returns c =
     whole-put s.args.value three (omega arith) _ _ (cc) (omega arith)
 
 pub put_u32-requires : goal.put_u32-requires
-put_u32-requires c = omega (arith, room c.before.before.before.before)
+put_u32-requires c = omega (arith, room c)
 
 pub overflow_add-a : goal.overflow_add-a
-overflow_add-a c = omega (arith, room (naming (counting c)))
+overflow_add-a c = omega (arith, room (goal.at.overflow_add-a c).After-put_u32-arg-1)

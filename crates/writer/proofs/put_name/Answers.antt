@@ -11,12 +11,13 @@ use Rattle.writer.proofs.Rest.{Rest, rest_all}
 use borrow.Author.Rules.{rules}
 use Rattle.writer.proofs.put_name.Goals as goal
 use Rattle.writer.proofs.put_name.Tie as tie
+use Rattle.writer.proofs.put_name.Goals.{After-put_u32-arg-1}
 
 abbrev naming : tie.At-loop-j → tie.After-name_len-n
 naming c = c.before.before.before.before.before
 
 -- the name's length, which is small, and fits after its size
-counted : (c : tie.After-name_len-n) → (c.name_len-n.result ≡ length (get_or names c.args.k []))
+counted : (c : After-put_u32-arg-1) → (c.name_len-n.result ≡ length (get_or names c.args.k []))
     × ((c.name_len-n.result ≤ 6) × (4 + c.name_len-n.result ≤ length c.args.image-1.now))
 counted c =
     let k = c.args.k in
@@ -34,27 +35,27 @@ loop-j-preserved c =
 
 pub returns : goal.returns
 returns c =
-    let n = counted (naming c.before.before) in
-    let k = (naming c.before.before).args.k in
+    let n = counted (goal.at.returns c).After-put_u32-arg-1 in
+    let k = c.args.k in
     (omega (arith, size-name k), name-put k _ _ _ n.0 (byte-none _ c.loop-j.j c.loop-j.invariant.1 (omega arith) ∙ cc) (omega arith))
 
 pub overflow_cast-n : goal.overflow_cast-n
-overflow_cast-n c = omega (arith, counted c.before.before)
+overflow_cast-n c = omega (arith, counted c)
 
 pub put_u32-requires : goal.put_u32-requires
-put_u32-requires c = omega (arith, counted c.before.before)
+put_u32-requires c = omega (arith, counted c)
 
 pub name_byte-requires : goal.name_byte-requires
-name_byte-requires c = omega (arith, counted (naming c.before.before))
+name_byte-requires c = omega (arith, counted (goal.at.name_byte-requires c).After-put_u32-arg-1)
 
 pub overflow_add-image : goal.overflow_add-image
-overflow_add-image c = omega (arith, counted (naming c.before.before.before))
+overflow_add-image c = omega (arith, counted (goal.at.overflow_add-image c).After-put_u32-arg-1)
 
 pub bounds-image-j : goal.bounds-image-j
-bounds-image-j c = omega (arith, counted (naming c.before.before.before))
+bounds-image-j c = omega (arith, counted (goal.at.bounds-image-j c).After-put_u32-arg-1)
 
 pub overflow_add-result : goal.overflow_add-result
-overflow_add-result c = omega (arith, counted (naming c.before.before))
+overflow_add-result c = omega (arith, counted (goal.at.overflow_add-result c).After-put_u32-arg-1)
 
 pub shape_of-image : goal.shape_of-image
 shape_of-image c = omega arith

@@ -20,20 +20,20 @@ turn c = c.before.before.before.before
 abbrev start : tie.At-loop-i → Start
 start c = c.before.before
 
-three : (c : tie.At-loop-i) → length (start c).args.t1 ≡ 3
-three c = (start c).well-formed.0.1.0.1
+three : (c : tie.At-loop-i) → length c.args.t1 ≡ 3
+three c = (start c).well_formed.0.1.0.1
 
 pub put_operand-o-requires : goal.put_operand-o-requires
 put_operand-o-requires c =
     let l = turn c in
-    left-room _ _ l.loop-i.i (three l) (start l).requires.0 l.loop-i.invariant.1 _ (omega arith) (start l).requires.1
+    left-room _ _ l.loop-i.i (three l) l.requires.0 l.loop-i.invariant.1 _ (omega arith) l.requires.1
 
 pub loop-i-preserved : goal.loop-i-preserved
 loop-i-preserved c =
     let q : tie.After-put_operand-o = c.before.before.before in
     let l = turn q.before in
     let e = q.put_operand-o.ensures in
-    (omega arith, left-more _ _ l.loop-i.i (three l) (start l).requires.0 l.loop-i.invariant.1 _ (omega arith) (start l).requires.1 e.0 e.1)
+    (omega arith, left-more _ _ l.loop-i.i (three l) l.requires.0 l.loop-i.invariant.1 _ (omega arith) l.requires.1 e.0 e.1)
 
 pub returns : goal.returns
-returns c = let l = c.before.before in left-none _ _ l.loop-i.i (three l) (start l).requires.0 l.loop-i.invariant.1 (omega arith)
+returns c = let l = c.before.before in left-none _ _ l.loop-i.i (three l) l.requires.0 l.loop-i.invariant.1 (omega arith)

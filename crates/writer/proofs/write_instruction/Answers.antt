@@ -16,14 +16,10 @@ use Rattle.writer.proofs.Writes.{Regular, Writable, lent_too_large, op_unknown, 
 use borrow.Author.Rules.{rules}
 use Rattle.writer.proofs.write_instruction.Goals as goal
 use Rattle.writer.proofs.write_instruction.Tie as tie
-use Rattle.writer.proofs.write_instruction.Goals.{Else-any_faulty-2, Start, Then-not-is_lent}
+use Rattle.writer.proofs.write_instruction.Goals.{After-struct_known-2-1, After-struct_known-4-1, After-struct_known-5-1, Else-any_faulty-2, Then-not-is_lent}
 
--- The way through the code, each place from the next.
-abbrev start : tie.After-is_lent → Start
-start c = c.before.before
-
-abbrev lending : tie.Else-value-gt48 → tie.Else-not-is_lent
-lending c = c.before.before
+abbrev lending : After-struct_known-2-1 → tie.Else-not-is_lent
+lending c = c.before.before.before
 
 abbrev naming : tie.After-operand_count → tie.Else-value-gt48
 naming c = c.before.before
@@ -36,34 +32,34 @@ owning c = c.before.before
 
 -- What is known at them: the value, the image, and the tests that they passed.
 abbrev D : tie.Else-not-is_lent → InstructionDesc
-D c = (start c.before).args.value
+D c = c.args.value
 
 abbrev A : tie.Else-not-is_lent → List ℕ
-A c = (start c.before).args.image-1.now
+A c = c.args.image-1.now
 
 lent : (c : tie.Else-not-is_lent) → length (A c) ≤ most_lent
 lent c = leb-true _ _ (sym c.is_lent.ensures ∙ not-false _ c.if-not-is_lent.false)
 
-abbrev counted : tie.Else-value-operand_count → tie.After-operand_count
-counted c = c.before.before
+abbrev counted : After-struct_known-4-1 → tie.After-operand_count
+counted c = c.before.before.before
 
-abbrev entered : tie.Else-value-operand_count → tie.Else-not-is_lent
+abbrev entered : After-struct_known-4-1 → tie.Else-not-is_lent
 entered c = lending (naming (counted c))
 
-regular : (c : tie.Else-value-operand_count) → Regular (A (entered c)) (D (entered c))
-regular c = record { lent = lent (entered c); op = omega arith; count = omega (arith, (counted c).operand_count.ensures) }
+regular : (c : After-struct_known-4-1) → Regular (A (entered c)) (D (entered c))
+regular c = record { lent = lent (entered c); op = omega arith; count = omega (arith, c.operand_count.ensures) }
 
-few : (c : tie.Else-value-operand_count) → (D (entered c)).count ≤ 3
+few : (c : After-struct_known-4-1) → (D (entered c)).count ≤ 3
 few c = rw (regular c).count (counts-small _)
 
-none-foreign : (c : tie.Else-any_faulty) → any (faulty 5) (used_operands (D (entered (counting c.before)))) ≡ false
+none-foreign : (c : After-struct_known-5-1) → any (faulty 5) (used_operands (D (entered (counting c.before.before)))) ≡ false
 none-foreign c = sym c.any_faulty.ensures ∙ c.if-any_faulty.false
 
 abbrev tested : Else-any_faulty-2 → tie.Else-value-operand_count
 tested c = counting (owning c.before.before).before
 
 writable : (c : Else-any_faulty-2) → Writable (A (entered (tested c))) (D (entered (tested c)))
-writable c = record { regular = regular (tested c); own = none-foreign (owning c.before.before); kinds = sym c.any_faulty-2.ensures ∙ c.if-any_faulty-2.false }
+writable c = record { regular = regular (goal.at.Else-any_faulty-2 c).After-struct_known-4-1; own = none-foreign (goal.at.Else-any_faulty-2 c).After-struct_known-5-1; kinds = sym c.any_faulty-2.ensures ∙ c.if-any_faulty-2.false }
 
 pub returns-then-not-is_lent : goal.returns-then-not-is_lent
 returns-then-not-is_lent c =
@@ -80,7 +76,7 @@ returns-then-value-operand_count c =
     count_wrong (A l) (D l) c.refusal-then-value-operand_count.ensures (lent l) (omega arith) (λ e. omega (arith, n.operand_count.ensures))
 
 pub any_faulty-requires : goal.any_faulty-requires
-any_faulty-requires c = few c.before.before.before
+any_faulty-requires c = few c
 
 pub returns-then-any_faulty : goal.returns-then-any_faulty
 returns-then-any_faulty c =
@@ -88,7 +84,7 @@ returns-then-any_faulty c =
     register-foreign _ _ (regular (counting t)) c.refusal-then-any_faulty.ensures (sym t.any_faulty.ensures ∙ c.if-any_faulty.true)
 
 pub any_faulty-requires-2 : goal.any_faulty-requires-2
-any_faulty-requires-2 c = few (counting c.before.before.before)
+any_faulty-requires-2 c = few (goal.at.any_faulty-requires-2 c).After-struct_known-4-1
 
 pub returns-then-any_faulty-2 : goal.returns-then-any_faulty-2
 returns-then-any_faulty-2 c =
@@ -97,7 +93,7 @@ returns-then-any_faulty-2 c =
     kind_unknown _ _ (regular (counting f.before)) c.refusal-then-any_faulty-2.ensures (none-foreign f) (sym t.any_faulty-2.ensures ∙ c.if-any_faulty-2.true)
 
 pub instruction_size-size-requires : goal.instruction_size-size-requires
-instruction_size-size-requires c = (omega arith, few (tested c))
+instruction_size-size-requires c = (omega arith, few (goal.at.instruction_size-size-requires c).After-struct_known-4-1)
 
 pub returns-then-image-size : goal.returns-then-image-size
 returns-then-image-size c =

@@ -15,7 +15,7 @@ reaching c = c.before
 
 pub returns-then-b-ne0 : goal.returns-then-b-ne0
 unfolding block_look
-returns-then-b-ne0 c = c.no_block.ensures ∙ ap block_look (sym ((reaching c.before.before.before).reach_block-b.ensures.refuses (omega (arith, c.if-b-ne0.true))))
+returns-then-b-ne0 c = c.no_block.ensures ∙ ap block_look (sym (c.reach_block-b.ensures.refuses (omega (arith, c.if-b-ne0.true))))
 
 pub returns : goal.returns
 unfolding block_look block_read
@@ -23,5 +23,5 @@ returns c =
     let r = c.before.before.before in
     let b = reaching r.before.before in
     let t = b.reach_block-b.ensures.there (omega (arith, r.if-b-ne0.false)) in
-    let h = read-holds block_layout b.shared_slice_known-1.given t.reads in
+    let h = read-holds block_layout b.type_inv.image t.reads in
     rw (r.block_at-block.ensures, t.reads, t.is, to_z-of_z w64 t.it.sp_offset h.sp_offset)

@@ -31,18 +31,18 @@ walking c = (goal.at.After-instruction-1 c).After-instructions_end-at
 
 there : (c : Else-b-ne0)
     → let b = reaching c.before.before in
-    let a = (start b).args in
+    let a = b.args in
     Standing block a.image.now (look_block a.block (state a.image.now a.journal.now a.book)) b.reach_block-b.result.at
-there c = (reaching c.before.before).reach_block-b.ensures.there (omega (arith, c.if-b-ne0.false))
+there c = c.reach_block-b.ensures.there (omega (arith, c.if-b-ne0.false))
 
-known : (c : Else-b-ne0) → Bytes (start (reaching c.before.before)).args.image.now
-known c = (reaching c.before.before).shared_slice_known-1.given
+known : (c : Else-b-ne0) → Bytes c.args.image.now
+known c = c.type_inv.image
 
-room : (c : Else-b-ne0) → let b = reaching c.before.before in b.reach_block-b.result.at + 24 + 4 ≤ length (start b).args.image.now
+room : (c : Else-b-ne0) → let b = reaching c.before.before in b.reach_block-b.result.at + 24 + 4 ≤ length b.args.image.now
 room c = (instructions-listed (known c) _ (there c).reads).fits
 
-counted : (c : After-word32-count) → c.word32-count.result ≡ length (there (counting c)).it.instructions
-counted c = c.word32-count.ensures ∙ (instructions-listed (known (counting c)) _ (there (counting c)).reads).count
+counted : (c : After-word32-count) → c.word32-count.result ≡ length (there (goal.at.After-word32-count c).Else-b-ne0).it.instructions
+counted c = c.word32-count.ensures ∙ (instructions-listed (known (goal.at.After-word32-count c).Else-b-ne0) _ (there (goal.at.After-word32-count c).Else-b-ne0).reads).count
 
 pub returns-then-b-ne0 : goal.returns-then-b-ne0
 unfolding instruction_look
@@ -54,7 +54,7 @@ pub returns-then-count-place : goal.returns-then-count-place
 unfolding instruction_look
 returns-then-count-place c =
     let n = (goal.at.returns-then-count-place c).After-word32-count in
-    let t = there (counting n) in
+    let t = there (goal.at.After-word32-count n).Else-b-ne0 in
     c.no_instruction-then-count-place.ensures ∙ ap instruction_look (sym (goes_on _ _ t.is ∙ element-no _ t.it.instructions (omega (arith, counted n, c.if-count-place.true))))
 
 pub returns : goal.returns
@@ -62,13 +62,13 @@ unfolding instruction_look instruction_read
 returns c =
     let a = walking c in
     let n = (goal.at.After-instructions_end-at a).After-word32-count in
-    let t = there (counting n) in
+    let t = there (goal.at.After-word32-count n).Else-b-ne0 in
     let h : (start (reaching (counting n).before.before)).args.place < length t.it.instructions = omega (arith, counted n, a.if-count-place.left) in
-    let i = instruction-stands (known (counting n)) _ t.reads _ h in
+    let i = instruction-stands (known (goal.at.After-word32-count n).Else-b-ne0) _ t.reads _ h in
     rw (c.instruction_by_fields-found.ensures, a.instructions_end-at.ensures, i.reads) (ap instruction_look (sym (goes_on _ _ t.is ∙ i.is)))
 
 pub overflow_add-start : goal.overflow_add-start
 overflow_add-start c = omega (arith, room c)
 
 pub overflow_add-start-2 : goal.overflow_add-start-2
-overflow_add-start-2 c = omega (arith, room (counting (goal.at.overflow_add-start-2 c).After-word32-count))
+overflow_add-start-2 c = omega (arith, room (goal.at.overflow_add-start-2 c).Else-b-ne0)

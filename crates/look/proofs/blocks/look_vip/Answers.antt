@@ -15,33 +15,30 @@ use Rattle.look.proofs.Listing.{vip-sized, element-past, element-there, element-
 use borrow.Author.Rules.{rules}
 use Rattle.look.proofs.blocks.look_vip.Goals as goal
 use Rattle.look.proofs.blocks.look_vip.Tie as tie
-use Rattle.look.proofs.blocks.look_vip.Goals.{Else-b-ne0, Else-vips-place, Start}
-
-abbrev start : tie.After-reach_block-b → Start
-start c = c.before.before.before
+use Rattle.look.proofs.blocks.look_vip.Goals.{Else-b-ne0, Else-vips-place}
 
 abbrev reaching : Else-b-ne0 → tie.After-reach_block-b
 reaching c = c.before.before.before
 
 abbrev place : tie.After-vips_of-vips → ℕ
-place c = (start (reaching c.before)).args.place
+place c = c.args.place
 
 abbrev choosing : Else-vips-place → tie.After-vips_of-vips
 choosing c = c.before.before.before
 
 there : (c : Else-b-ne0)
     → let p = reaching c in
-    let a = (start p).args in
+    let a = p.args in
     Standing block a.image.now (look_block a.block (state a.image.now a.journal.now a.book)) p.reach_block-b.result.at
-there c = (reaching c).reach_block-b.ensures.there (omega (arith, c.if-b-ne0.false))
+there c = c.reach_block-b.ensures.there (omega (arith, c.if-b-ne0.false))
 
-list : (c : tie.After-vips_of-vips) → let a = (start (reaching c.before)).args in Lists u64 a.image.now (vip_list a.list (there c.before).it) c.vips_of-vips.result
+list : (c : tie.After-vips_of-vips) → let a = c.args in Lists u64 a.image.now (vip_list a.list (there c.before).it) c.vips_of-vips.result
 list c = let t = there c.before in c.vips_of-vips.ensures t.it t.end t.reads
 
-within : (c : Else-vips-place) → place (choosing c) < (choosing c).vips_of-vips.result.count
+within : (c : Else-vips-place) → place (choosing c) < c.vips_of-vips.result.count
 within c = omega (arith, c.if-vips-place.false)
 
-room : (c : Else-vips-place) → let n = choosing c in n.vips_of-vips.result.first + 8 * place n + 8 ≤ length (start (reaching n.before)).args.image.now
+room : (c : Else-vips-place) → let n = choosing c in n.vips_of-vips.result.first + 8 * place n + 8 ≤ length n.args.image.now
 room c = element-room (list (choosing c)) _ 8 (vip-sized _) (within c)
 
 pub returns-then-b-ne0 : goal.returns-then-b-ne0

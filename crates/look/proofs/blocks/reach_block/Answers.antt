@@ -16,22 +16,16 @@ use Rattle.look.proofs.Reaches.{element-no, element-read, hands_on, finds_none, 
 use borrow.Author.Rules.{rules}
 use Rattle.look.proofs.blocks.reach_block.Goals as goal
 use Rattle.look.proofs.blocks.reach_block.Tie as tie
-use Rattle.look.proofs.blocks.reach_block.Goals.{After-struct_known-1, Else-refusal-ne0, Start}
+use Rattle.look.proofs.blocks.reach_block.Goals.{After-struct_known-1, Else-refusal-ne0}
 
-abbrev lending : tie.After-inspect-refusal → tie.After-shared_slice_known-1
-lending c = c.before.before
-
-abbrev start : tie.After-inspect-refusal → Start
-start c = (lending c).before
-
-abbrev inspecting : tie.After-blocks_of-blocks → Else-refusal-ne0
-inspecting c = c.before
+abbrev inspecting : After-struct_known-1 → Else-refusal-ne0
+inspecting c = c.before.before
 
 abbrev counting : After-struct_known-1 → tie.After-blocks_of-blocks
 counting c = c.before.before
 
-inspected : (c : Else-refusal-ne0) → let a = (start c.before.before).args in Ready (state a.image.now a.journal.now a.book)
-inspected c = ready _ (lending c.before.before).shared_slice_known-1.given c.inspect-refusal.ensures (omega (arith, c.if-refusal-ne0.false))
+inspected : (c : Else-refusal-ne0) → let a = c.args in Ready (state a.image.now a.journal.now a.book)
+inspected c = ready _ c.type_inv.image c.inspect-refusal.ensures (omega (arith, c.if-refusal-ne0.false))
 
 pub returns-then-refusal-ne0 : goal.returns-then-refusal-ne0
 returns-then-refusal-ne0 c = hands_on _ _ c.inspect-refusal.ensures (omega (arith, c.if-refusal-ne0.true))
@@ -47,7 +41,7 @@ returns c =
     let b = counting (goal.at.returns c).After-struct_known-1 in
     let r = inspected (inspecting b) in
     let e = b.blocks_of-blocks.ensures r.routine r.holding in
-    let h : (start (inspecting b).before.before).args.place < length r.routine.explored_blocks = omega (arith, e.1, c.if-blocks-place.false) in
+    let h : b.args.place < length r.routine.explored_blocks = omega (arith, e.1, c.if-blocks-place.false) in
     let bs = r.routine.explored_blocks in
     let all = ap (many block _ _) e.0 ∙ many-reads block block_bytes block_layout.back _ bs refl r.holding.holds.blocks.listed.each _ _ (blocks_at r.holding) in
     comes_to _ _ r.is (rw c.blocks_end-at.ensures (element-read block _ _ (λ o b n. block_ends _ o) _ _ bs all h))

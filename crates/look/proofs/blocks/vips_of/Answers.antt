@@ -9,22 +9,18 @@ use Rattle.look.proofs.InBlock.{prev-listed, next-listed}
 use borrow.Author.Rules.{rules}
 use Rattle.look.proofs.blocks.vips_of.Goals as goal
 use Rattle.look.proofs.blocks.vips_of.Tie as tie
-use Rattle.look.proofs.blocks.vips_of.Goals.{Start}
 
-abbrev start : tie.After-block_at-block → Start
-start c = c.before.before
-
-abbrev known : (c : tie.After-block_at-block) → Bytes (start c).args.image.now
-known c = c.shared_slice_known-1.given
+abbrev known : (c : tie.After-block_at-block) → Bytes c.args.image.now
+known c = c.type_inv.image
 
 pub returns-then-list-eq0 : goal.returns-then-list-eq0
-returns-then-list-eq0 c = let r = c.before.before in λ b n e. prev-listed (known r) _ e r.block_at-block.ensures (start r).args.list (omega (arith, c.if-list-eq0.true))
+returns-then-list-eq0 c = let r = c.before.before in λ b n e. prev-listed (known r) _ e r.block_at-block.ensures r.args.list (omega (arith, c.if-list-eq0.true))
 
 pub returns-then-list-eq1 : goal.returns-then-list-eq1
-returns-then-list-eq1 c = let r = c.before.before.before in λ b n e. next-listed (known r) _ e r.block_at-block.ensures (start r).args.list (omega (arith, c.if-list-eq1.true))
+returns-then-list-eq1 c = let r = c.before.before.before in λ b n e. next-listed (known r) _ e r.block_at-block.ensures r.args.list (omega (arith, c.if-list-eq1.true))
 
 pub returns : goal.returns
 unfolding choose
 returns c =
-    let k = (start c.before.before.before).args.list in
+    let k = c.args.list in
     λ b n e. list-none u64 _ (rw (ne_eqb k 0 (λ z. omega (arith, z, c.if-list-eq0.false)), ne_eqb k 1 (λ z. omega (arith, z, c.if-list-eq1.false))))

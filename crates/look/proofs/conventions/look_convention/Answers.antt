@@ -5,18 +5,14 @@ use Rattle.pread.specs.Answers.{convention_read}
 use Rattle.look.specs.Answers.{convention_look}
 use borrow.Author.Rules.{rules}
 use Rattle.look.proofs.conventions.look_convention.Goals as goal
-use Rattle.look.proofs.conventions.look_convention.Tie as tie
-
-abbrev reaching : tie.After-struct_known-1 → tie.After-reach_convention-c
-reaching c = c.before
 
 pub returns-then-c-ne0 : goal.returns-then-c-ne0
 unfolding convention_look
-returns-then-c-ne0 c = c.no_convention.ensures ∙ ap convention_look (sym ((reaching c.before.before.before).reach_convention-c.ensures.refuses (omega (arith, c.if-c-ne0.true))))
+returns-then-c-ne0 c = c.no_convention.ensures ∙ ap convention_look (sym (c.reach_convention-c.ensures.refuses (omega (arith, c.if-c-ne0.true))))
 
 pub returns : goal.returns
 unfolding convention_look convention_read
 returns c =
     let r = c.before.before in
-    let t = (reaching r.before.before).reach_convention-c.ensures.there (omega (arith, r.if-c-ne0.false)) in
+    let t = r.reach_convention-c.ensures.there (omega (arith, r.if-c-ne0.false)) in
     rw (r.convention_at-convention.ensures, t.reads, t.is)

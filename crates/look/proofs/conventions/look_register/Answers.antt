@@ -25,27 +25,27 @@ abbrev reaching : Else-c-ne0 → tie.After-reach_convention-c
 reaching c = c.before.before.before
 
 abbrev place : tie.After-registers_of-registers → ℕ
-place c = (start (reaching c.before)).args.place
+place c = c.args.place
 
 abbrev choosing : Else-registers-place → tie.After-registers_of-registers
 choosing c = c.before.before.before
 
 there : (c : Else-c-ne0)
     → let p = reaching c in
-    let a = (start p).args in
+    let a = p.args in
     Standing convention a.image.now (look_convention a.convention (state a.image.now a.journal.now a.book)) p.reach_convention-c.result.at
-there c = (reaching c).reach_convention-c.ensures.there (omega (arith, c.if-c-ne0.false))
+there c = c.reach_convention-c.ensures.there (omega (arith, c.if-c-ne0.false))
 
-list : (c : tie.After-registers_of-registers) → let a = (start (reaching c.before)).args in Lists register a.image.now (register_list a.list (there c.before).it) c.registers_of-registers.result
+list : (c : tie.After-registers_of-registers) → let a = c.args in Lists register a.image.now (register_list a.list (there c.before).it) c.registers_of-registers.result
 list c = let t = there c.before in c.registers_of-registers.ensures t.it t.end t.reads
 
 known : (c : Else-registers-place) → Bytes (start (reaching (choosing c).before)).args.image.now
-known c = (reaching (choosing c).before).shared_slice_known-1.given
+known c = c.type_inv.image
 
-within : (c : Else-registers-place) → place (choosing c) < (choosing c).registers_of-registers.result.count
+within : (c : Else-registers-place) → place (choosing c) < c.registers_of-registers.result.count
 within c = omega (arith, c.if-registers-place.false)
 
-room : (c : Else-registers-place) → let n = choosing c in n.registers_of-registers.result.first + 24 * place n + 24 ≤ length (start (reaching n.before)).args.image.now
+room : (c : Else-registers-place) → let n = choosing c in n.registers_of-registers.result.first + 24 * place n + 24 ≤ length n.args.image.now
 room c = element-room (list (choosing c)) _ 24 (register-sized _ (known c)) (within c)
 
 pub returns-then-c-ne0 : goal.returns-then-c-ne0

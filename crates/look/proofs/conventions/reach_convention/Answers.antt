@@ -9,32 +9,22 @@ use Rattle.look.proofs.Reaches.{element-no, hands_on, finds_none, comes_to}
 use Rattle.look.proofs.InConvention.{convention-stands}
 use borrow.Author.Rules.{rules}
 use Rattle.look.proofs.conventions.reach_convention.Goals as goal
-use Rattle.look.proofs.conventions.reach_convention.Tie as tie
-use Rattle.look.proofs.conventions.reach_convention.Goals.{After-special_count-special, Else-refusal-ne0, Start}
+use Rattle.look.proofs.conventions.reach_convention.Goals.{After-special_count-special, Else-refusal-ne0}
 
-abbrev lending : tie.After-inspect-refusal → tie.After-shared_slice_known-1
-lending c = c.before.before
-
-abbrev start : tie.After-inspect-refusal → Start
-start c = (lending c).before
-
-abbrev inspecting : After-special_count-special → Else-refusal-ne0
-inspecting c = (goal.at.After-special_count-special c).Else-refusal-ne0
-
-inspected : (c : Else-refusal-ne0) → let a = (start c.before.before).args in Ready (state a.image.now a.journal.now a.book)
-inspected c = ready _ (lending c.before.before).shared_slice_known-1.given c.inspect-refusal.ensures (omega (arith, c.if-refusal-ne0.false))
+inspected : (c : Else-refusal-ne0) → let a = c.args in Ready (state a.image.now a.journal.now a.book)
+inspected c = ready _ c.type_inv.image c.inspect-refusal.ensures (omega (arith, c.if-refusal-ne0.false))
 
 pub returns-then-refusal-ne0 : goal.returns-then-refusal-ne0
 returns-then-refusal-ne0 c = hands_on _ _ c.inspect-refusal.ensures (omega (arith, c.if-refusal-ne0.true))
 
 pub returns-then-special-place : goal.returns-then-special-place
 returns-then-special-place c =
-    let r = inspected (inspecting (goal.at.returns-then-special-place c).After-special_count-special) in
+    let r = inspected (goal.at.returns-then-special-place c).Else-refusal-ne0 in
     finds_none _ _ r.is (element-no _ (conventions r.routine) (omega (arith, c.special_count-special.ensures r.routine r.holding, c.if-special-place.true)))
 
 pub returns : goal.returns
 returns c =
     let n = (goal.at.returns c).After-special_count-special in
-    let r = inspected (inspecting n) in
-    let h : (start (inspecting n).before.before).args.place < length (conventions r.routine) = omega (arith, n.special_count-special.ensures r.routine r.holding, c.if-special-place.false) in
+    let r = inspected (goal.at.After-special_count-special n).Else-refusal-ne0 in
+    let h : n.args.place < length (conventions r.routine) = omega (arith, n.special_count-special.ensures r.routine r.holding, c.if-special-place.false) in
     comes_to _ _ r.is (rw (c.convention_offset-at.ensures r.routine r.holding h) (convention-stands r.holding _ h))

@@ -9,27 +9,23 @@ use Rattle.look.proofs.InConvention.{volatile-listed, param-listed, retval-liste
 use borrow.Author.Rules.{rules}
 use Rattle.look.proofs.conventions.registers_of.Goals as goal
 use Rattle.look.proofs.conventions.registers_of.Tie as tie
-use Rattle.look.proofs.conventions.registers_of.Goals.{Start}
 
-abbrev start : tie.After-convention_at-convention → Start
-start c = c.before.before
-
-abbrev known : (c : tie.After-convention_at-convention) → Bytes (start c).args.image.now
-known c = c.shared_slice_known-1.given
+abbrev known : (c : tie.After-convention_at-convention) → Bytes c.args.image.now
+known c = c.type_inv.image
 
 pub returns-then-list-eq0 : goal.returns-then-list-eq0
-returns-then-list-eq0 c = let r = c.before.before in λ k n e. volatile-listed (known r) _ e r.convention_at-convention.ensures (start r).args.list (omega (arith, c.if-list-eq0.true))
+returns-then-list-eq0 c = let r = c.before.before in λ k n e. volatile-listed (known r) _ e r.convention_at-convention.ensures r.args.list (omega (arith, c.if-list-eq0.true))
 
 pub returns-then-list-eq1 : goal.returns-then-list-eq1
-returns-then-list-eq1 c = let r = c.before.before.before in λ k n e. param-listed (known r) _ e r.convention_at-convention.ensures (start r).args.list (omega (arith, c.if-list-eq1.true))
+returns-then-list-eq1 c = let r = c.before.before.before in λ k n e. param-listed (known r) _ e r.convention_at-convention.ensures r.args.list (omega (arith, c.if-list-eq1.true))
 
 pub returns-then-list-eq2 : goal.returns-then-list-eq2
-returns-then-list-eq2 c = let r = c.before.before.before.before in λ k n e. retval-listed (known r) _ e r.convention_at-convention.ensures (start r).args.list (omega (arith, c.if-list-eq2.true))
+returns-then-list-eq2 c = let r = c.before.before.before.before in λ k n e. retval-listed (known r) _ e r.convention_at-convention.ensures r.args.list (omega (arith, c.if-list-eq2.true))
 
 pub returns : goal.returns
 unfolding choose
 returns c =
-    let k = (start c.before.before.before.before).args.list in
+    let k = c.args.list in
     λ b n e.
     list-none register _
     (rw (ne_eqb k 0 (λ z. omega (arith, z, c.if-list-eq0.false)), ne_eqb k 1 (λ z. omega (arith, z, c.if-list-eq1.false)), ne_eqb k 2 (λ z. omega (arith, z, c.if-list-eq2.false))))
