@@ -6,14 +6,12 @@ use Rattle.image.proofs.Parts.{any_instruction}
 use Rattle.image.proofs.Lasts.{none, some, final-read}
 use borrow.Author.Rules.{rules}
 use Rattle.append.proofs.is_closed.Goals as goal
-use Rattle.append.proofs.is_closed.Goals.{After-op_of}
 
 pub returns-then-last : goal.returns-then-last
 returns-then-last c x i h l z = sym (last-is-none _ _ (none x i z c.if-last.true))
 
 pub returns : goal.returns
 returns c x i h l z =
-    let o = (goal.at.returns c).After-op_of in
-    let n = some x i z o.if-last.false in
+    let n = some x i z c.if-last.false in
     let r = final-read x i z h l n in
-    c.leaves_block.ensures ∙ ap leaves_block (o.op_of.ensures _ r.0 r.1) ∙ sym (last-is-at _ any_instruction _ n)
+    c.leaves_block.ensures ∙ ap leaves_block (c.op_of.ensures _ r.0 r.1) ∙ sym (last-is-at _ any_instruction _ n)

@@ -4,17 +4,14 @@ use native.Mathlib.Omega.{arith}
 use Rattle.block.proofs.Walk.{block_walked}
 use borrow.Author.Rules.{rules}
 use Rattle.block.proofs.block_skip.Goals as goal
-use Rattle.block.proofs.block_skip.Goals.{After-instructions_skip-instructions, After-then_vips-prevs}
 
 pub returns-then-is_bare : goal.returns-then-is_bare
 returns-then-is_bare c = sym (c.is_bare.ensures c.if-is_bare.true).1
 
 pub returns : goal.returns
 returns c =
-    let prevs = (goal.at.returns c).After-then_vips-prevs in
-    let instructions = (goal.at.After-then_vips-prevs prevs).After-instructions_skip-instructions in
-    rw (c.then_vips.ensures, prevs.then_vips-prevs.ensures, instructions.instructions_skip-instructions.ensures)
-    (block_walked _ instructions.type_inv.s _)
+    rw (c.then_vips.ensures, c.then_vips-prevs.ensures, c.instructions_skip-instructions.ensures)
+    (block_walked _ c.type_inv.s _)
 
 pub overflow_add-result : goal.overflow_add-result
 overflow_add-result c = let h = (c.is_bare.ensures c.if-is_bare.true).0 in omega (arith, h)

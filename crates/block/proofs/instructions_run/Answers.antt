@@ -11,14 +11,7 @@ use Rattle.laws.proofs.Layouts.{instruction_layout}
 use Rattle.laws.proofs.Walks.{Fills, fills, walk_start, walk_end, walk_next, walk_stop}
 use borrow.Author.Rules.{rules}
 use Rattle.block.proofs.instructions_run.Goals as goal
-use Rattle.block.proofs.instructions_run.Tie as tie
-use Rattle.block.proofs.instructions_run.Goals.{After-shared_slice_known-1, In-loop-left}
-
-abbrev start : tie.At-loop-left → After-shared_slice_known-1
-start c = c.before
-
-abbrev test : tie.After-one_skip-far → In-loop-left
-test c = c.before
+use Rattle.block.proofs.instructions_run.Goals.{After-shared_slice_known-1}
 
 all : (c : After-shared_slice_known-1) → Fills instruction instruction_bytes c.args.s.now
 all c = fills instruction_layout c.type_inv.s
@@ -29,19 +22,14 @@ loop-left-init c = walk_start instruction instruction_bytes (all c) instruction_
 pub returns-in_default : goal.returns-in_default
 returns-in_default c =
     let far = c.in_default.is in
-    let call = c.before.before.before in
-    let loop = (test call).before.before in
     ap of_walked far
-    ∙ walk_stop instruction instruction_bytes (all (start loop)) instruction_sound _ _ _ loop.loop-left.invariant call.loop-left-test.true
-    (sym call.one_skip-far.ensures ∙ ap of_walked far)
+    ∙ walk_stop instruction instruction_bytes (all (goal.at.returns-in_default c).After-shared_slice_known-1) instruction_sound _ _ _ c.loop-left.invariant c.loop-left-test.true
+    (sym c.one_skip-far.ensures ∙ ap of_walked far)
 
 pub loop-left-preserved : goal.loop-left-preserved
 loop-left-preserved c =
-    let far = c.before.before in
-    let call = far.before.before in
-    let loop = (test call).before.before in
-    walk_next instruction instruction_bytes (all (start loop)) instruction_sound _ _ _ loop.loop-left.invariant call.loop-left-test.true
-    (sym call.one_skip-far.ensures ∙ ap of_walked far.in-Past.is)
+    walk_next instruction instruction_bytes (all (goal.at.loop-left-preserved c).After-shared_slice_known-1) instruction_sound _ _ _ c.loop-left.invariant c.loop-left-test.true
+    (sym c.one_skip-far.ensures ∙ ap of_walked c.in-Past.is)
 
 pub returns : goal.returns
 returns c = walk_end instruction instruction_bytes (all (goal.at.returns c).After-shared_slice_known-1) instruction_sound _ _ _ c.loop-left.invariant c.loop-left-test.false

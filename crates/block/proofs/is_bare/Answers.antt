@@ -7,22 +7,17 @@ use borrow.Author.Tests.{leb-true, eqb-true}
 use Rattle.block.proofs.Walk.{bare}
 use borrow.Author.Rules.{rules}
 use Rattle.block.proofs.is_bare.Goals as goal
-use Rattle.block.proofs.is_bare.Goals.{Then-eight-eq0, Then-within}
-
-abbrev tested : Then-eight-eq0 → Then-within
-tested c = (goal.at.Then-eight-eq0 c).Then-within
+use Rattle.block.proofs.is_bare.Goals.{Then-within}
 
 -- 36 bytes stand within
 fits : (c : Then-within) → c.args.at + 36 ≤ length c.args.s.now
 fits c = leb-true _ _ (sym c.within.ensures ∙ c.if-within.true)
 
 pub returns-then-eight-eq0 : goal.returns-then-eight-eq0
-returns-then-eight-eq0 c = λ h.
-    let two = (goal.at.returns-then-eight-eq0 c).Then-eight-eq0 in
-    let one = tested two in
-    let last : one.args.at + 24 + 8 ≡ one.args.at + 32 = omega arith in
+returns-then-eight-eq0 c = let here = goal.at.returns-then-eight-eq0 c in λ h.
+    let last : c.args.at + 24 + 8 ≡ c.args.at + 32 = omega arith in
     let zero = rw last at (sym c.four.ensures ∙ eqb-true c.four.result 0 h) in
-    (fits one, bare _ one.type_inv.s _ (fits one) (sym two.eight.ensures ∙ two.if-eight-eq0.true) zero)
+    (fits here.Then-within, bare _ c.type_inv.s _ (fits here.Then-within) (sym c.eight.ensures ∙ c.if-eight-eq0.true) zero)
 
 pub overflow_add-at : goal.overflow_add-at
 overflow_add-at c = omega (arith, fits c)

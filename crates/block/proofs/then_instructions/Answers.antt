@@ -10,23 +10,18 @@ use Rattle.laws.proofs.Layouts.{instruction_layout}
 use Rattle.laws.proofs.Walks.{fills, walked_counted}
 use borrow.Author.Rules.{rules}
 use Rattle.block.proofs.then_instructions.Goals as goal
-use Rattle.block.proofs.then_instructions.Goals.{In_default-count}
 
 pub returns-in-Value : goal.returns-in-Value
 returns-in-Value c =
-    let count = c.before.before.before in
-    let call = count.before.before in
-    let b = call.type_inv.s in
-    far-past _ call.in-Past.is
-    (rw (walked_counted instruction instruction_bytes (fills instruction_layout b) instruction_sound b) (on-u32 _ count.in-Value.is call.u32_at-count.ensures c.instructions_run.ensures))
+    let b = c.type_inv.s in
+    far-past _ c.in-Past.is
+    (rw (walked_counted instruction instruction_bytes (fills instruction_layout b) instruction_sound b) (on-u32 _ c.in-Value.is c.u32_at-count.ensures c.instructions_run.ensures))
 
 pub returns-in_default-count : goal.returns-in_default-count
 returns-in_default-count c =
-    let told = (goal.at.returns-in_default-count c).In_default-count in
-    let call = told.before.before.before in
-    let b = call.type_inv.s in
-    far-past _ call.in-Past.is
-    (rw (walked_counted instruction instruction_bytes (fills instruction_layout b) instruction_sound b) (off_u32 _ told.in_default-count.is call.u32_at-count.ensures c.u32_refusal.ensures))
+    let b = c.type_inv.s in
+    far-past _ c.in-Past.is
+    (rw (walked_counted instruction instruction_bytes (fills instruction_layout b) instruction_sound b) (off_u32 _ c.in_default-count.is c.u32_at-count.ensures c.u32_refusal.ensures))
 
 pub returns-in_default : goal.returns-in_default
 returns-in_default c = off _ (ap of_skip c.in_default.is) refl c.skip_refusal.ensures

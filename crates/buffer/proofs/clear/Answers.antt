@@ -18,5 +18,5 @@ loop-i-preserved c =
 
 pub returns : goal.returns
 returns c =
-    let s : Start = (goal.at.returns c).Start in
+    let s : Start = c.before.before in
     c.loop-i.invariant.1.1.1 ∙ ap (λ (k : ℕ). put s.args.from (zeros (k - s.args.from)) s.args.a.now) (omega arith)

@@ -5,4 +5,4 @@ use borrow.Author.Rules.{rules}
 use Rattle.buffer.proofs.copy_at.Goals as goal
 
 pub returns : goal.returns
-returns c = copied _ _ _ _ (omega arith) c.before.before.before.copy.ensures.1
+returns c = copied _ _ _ _ (omega arith) c.before.before.copy.ensures.1

@@ -7,14 +7,6 @@ use lib.ListN.{length}
 use Rattle.buffer.proofs.Alike.{Alike, alike_none, alike_more, alike_one, le_alike, none-bytes, le-nothing, zeros-yes, zeros-no, zeros-no-byte}
 use borrow.Author.Rules.{rules}
 use Rattle.buffer.proofs.is_zero.Goals as goal
-use Rattle.buffer.proofs.is_zero.Tie as tie
-use Rattle.buffer.proofs.is_zero.Goals.{At-loop-i}
-
-abbrev in_turn : tie.After-eight → At-loop-i
-in_turn c = c.before.before
-
-abbrev in_turn2 : tie.After-shared_slice_known-in-loop-i-2-1 → tie.At-loop-i-2
-in_turn2 c = c.before.before
 
 pub returns-then-a-from : goal.returns-then-a-from
 returns-then-a-from c = let s = c.args in zeros-yes s.a.now s.from _ refl (alike_none (omega arith))
@@ -24,24 +16,21 @@ loop-i-init c = (refl, (omega arith, (omega arith, alike_none (omega arith))))
 
 pub returns-then-eight-ne0 : goal.returns-then-eight-ne0
 returns-then-eight-ne0 c =
-    let at = in_turn c.before.before in
-    zeros-no at.args.a.now at.args.from 8 at.loop-i.i (omega arith) (λ z. omega (arith, c.eight.ensures))
+    zeros-no c.args.a.now c.args.from 8 c.loop-i.i (omega arith) (λ z. omega (arith, c.eight.ensures))
 
 pub loop-i-preserved : goal.loop-i-preserved
 loop-i-preserved c =
-    let at = in_turn c.before.before in
-    let i = at.loop-i.i in
-    let more = le_alike 8 at.args.a.now [] i at.type_inv.a none-bytes (omega (arith, c.eight.ensures, le-nothing 8 i)) in
-    (omega arith, (omega arith, (omega arith, alike_more at.loop-i.invariant.1.1.1 more)))
+    let i = c.loop-i.i in
+    let more = le_alike 8 c.args.a.now [] i c.type_inv.a none-bytes (omega (arith, c.eight.ensures, le-nothing 8 i)) in
+    (omega arith, (omega arith, (omega arith, alike_more c.loop-i.invariant.1.1.1 more)))
 
 pub loop-i-2-init : goal.loop-i-2-init
 loop-i-2-init c = c.loop-i.invariant
 
 pub returns-then-a-i-ne0 : goal.returns-then-a-i-ne0
 returns-then-a-i-ne0 c =
-    let at = in_turn2 c.before.before in
-    let s = at.args in
-    zeros-no-byte s.a.now s.from at.loop-i-2.i (omega arith) (λ z. omega arith)
+    let s = c.args in
+    zeros-no-byte s.a.now s.from c.loop-i-2.i (omega arith) (λ z. omega arith)
 
 pub loop-i-2-preserved : goal.loop-i-2-preserved
 loop-i-2-preserved c = (omega arith, (omega arith, (omega arith, alike_more c.loop-i-2.invariant.1.1.1 (alike_one _ _ _ (omega arith)))))

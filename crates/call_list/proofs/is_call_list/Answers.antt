@@ -8,17 +8,16 @@ use borrow.Author.Rules.{rules}
 use Rattle.machine.specs.CallList.{is_call_list}
 use Rattle.call_list.proofs.Words as W
 use Rattle.call_list.proofs.is_call_list.Goals as goal
-use Rattle.call_list.proofs.is_call_list.Tie as tie
-use Rattle.call_list.proofs.is_call_list.Goals.{Else-n-i-lt4, Else-words-i, Else-words-i-gt6}
+use Rattle.call_list.proofs.is_call_list.Goals.{At-loop-i, Else-n-i-lt4}
 
-abbrev words : tie.At-loop-i → List ℕ
+abbrev words : At-loop-i → List ℕ
 words a = a.args.words.now
 
-abbrev bytes : tie.At-loop-i → List ℕ
+abbrev bytes : At-loop-i → List ℕ
 bytes a = a.args.bytes.now
 
 -- four words are there
-whole : (c : Else-n-i-lt4) → c.loop-i.i + 4 ≤ length (words c.before.before.before)
+whole : (c : Else-n-i-lt4) → c.loop-i.i + 4 ≤ length (words (goal.at.Else-n-i-lt4 c).At-loop-i)
 whole c = omega (arith, c.if-n-i-lt4.false, c.loop-i-test.true)
 
 pub loop-i-init : goal.loop-i-init
@@ -28,8 +27,8 @@ pub overflow_sub-n : goal.overflow_sub-n
 overflow_sub-n c = search rules
 
 pub returns-then-n-i-lt4 : goal.returns-then-n-i-lt4
-returns-then-n-i-lt4 c = let a = c.before.before.before in let n = length-drop a.loop-i.i (words a) in
-    sym (a.loop-i.invariant.1 ∙ W.too_few (drop a.loop-i.i (words a)) (bytes a) (omega arith) (omega arith))
+returns-then-n-i-lt4 c = let here = goal.at.returns-then-n-i-lt4 c in let n = length-drop c.loop-i.i (words here.At-loop-i) in
+    sym (c.loop-i.invariant.1 ∙ W.too_few (drop c.loop-i.i (words here.At-loop-i)) (bytes here.At-loop-i) (omega arith) (omega arith))
 
 pub offset_bounds-words-i : goal.offset_bounds-words-i
 offset_bounds-words-i c = search rules
@@ -38,7 +37,7 @@ pub bounds-words-i : goal.bounds-words-i
 bounds-words-i c = search rules
 
 pub returns-then-words-i-gt6 : goal.returns-then-words-i-gt6
-returns-then-words-i-gt6 c = let e = (goal.at.returns-then-words-i-gt6 c).Else-n-i-lt4 in let a = e.before.before.before in sym (a.loop-i.invariant.1 ∙ W.wrong_kind _ _ _ (whole e) c.if-words-i-gt6.true)
+returns-then-words-i-gt6 c = sym (c.loop-i.invariant.1 ∙ W.wrong_kind _ _ _ (whole (goal.at.returns-then-words-i-gt6 c).Else-n-i-lt4) c.if-words-i-gt6.true)
 
 pub overflow_add-i : goal.overflow_add-i
 overflow_add-i c = search rules
@@ -59,8 +58,8 @@ pub bounds-words-i-in-loop-i-2 : goal.bounds-words-i-in-loop-i-2
 bounds-words-i-in-loop-i-2 c = search rules
 
 pub returns-then-words-i : goal.returns-then-words-i
-returns-then-words-i c = let k = (goal.at.returns-then-words-i c).Else-words-i-gt6 in let e = (goal.at.Else-words-i-gt6 k).Else-n-i-lt4 in let a = e.before.before.before in
-    sym (a.loop-i.invariant.1 ∙ W.wrong_order _ _ _ (whole e) k.if-words-i-gt6.false c.if-words-i.true)
+returns-then-words-i c = 
+    sym (c.loop-i.invariant.1 ∙ W.wrong_order _ _ _ (whole (goal.at.returns-then-words-i c).Else-n-i-lt4) c.if-words-i-gt6.false c.if-words-i.true)
 
 pub overflow_add-i-in-loop-i-2 : goal.overflow_add-i-in-loop-i-2
 overflow_add-i-in-loop-i-2 c = search rules
@@ -72,8 +71,8 @@ pub bounds-words-i-in-loop-i-3 : goal.bounds-words-i-in-loop-i-3
 bounds-words-i-in-loop-i-3 c = search rules
 
 pub returns-then-most-words : goal.returns-then-most-words
-returns-then-most-words c = let o = (goal.at.returns-then-most-words c).Else-words-i in let k = (goal.at.Else-words-i o).Else-words-i-gt6 in let e = (goal.at.Else-words-i-gt6 k).Else-n-i-lt4 in let a = e.before.before.before in
-    sym (a.loop-i.invariant.1 ∙ W.outside _ _ _ (whole e) k.if-words-i-gt6.false o.if-words-i.false c.if-most-words.true)
+returns-then-most-words c = 
+    sym (c.loop-i.invariant.1 ∙ W.outside _ _ _ (whole (goal.at.returns-then-most-words c).Else-n-i-lt4) c.if-words-i-gt6.false c.if-words-i.false c.if-most-words.true)
 
 pub overflow_add-i-in-loop-i-3 : goal.overflow_add-i-in-loop-i-3
 overflow_add-i-in-loop-i-3 c = search rules
@@ -82,10 +81,10 @@ pub loop-i-smaller : goal.loop-i-smaller
 loop-i-smaller c = search rules
 
 pub loop-i-preserved : goal.loop-i-preserved
-loop-i-preserved c = let o = (goal.at.loop-i-preserved c).Else-words-i in let k = (goal.at.Else-words-i o).Else-words-i-gt6 in let e = (goal.at.Else-words-i-gt6 k).Else-n-i-lt4 in let a = e.before.before.before in
-    (whole e, a.loop-i.invariant.1 ∙ W.well _ _ _ (whole e) k.if-words-i-gt6.false o.if-words-i.false c.if-most-words.false)
+loop-i-preserved c = let here = goal.at.loop-i-preserved c in 
+    (whole here.Else-n-i-lt4, c.loop-i.invariant.1 ∙ W.well _ _ _ (whole here.Else-n-i-lt4) c.if-words-i-gt6.false c.if-words-i.false c.if-most-words.false)
 
 pub returns : goal.returns
 unfolding is_call_list
-returns c = let a = c.before.before in
-    sym (a.loop-i.invariant.1 ∙ ap (λ l. is_call_list l (bytes a)) (W.none_left (words a) (bytes a) a.loop-i.i (omega arith) (omega arith)))
+returns c = let here = goal.at.returns c in 
+    sym (c.loop-i.invariant.1 ∙ ap (λ l. is_call_list l (bytes here.At-loop-i)) (W.none_left (words here.At-loop-i) (bytes here.At-loop-i) c.loop-i.i (omega arith) (omega arith)))

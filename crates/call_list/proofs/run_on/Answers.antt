@@ -7,22 +7,20 @@ use borrow.Author.Rules.{rules}
 use Rattle.machine.specs.CallList.{is_call_list}
 use Rattle.call_list.proofs.Runs as R
 use Rattle.call_list.proofs.run_on.Goals as goal
-use Rattle.call_list.proofs.run_on.Goals.{After-run_calls-arg-2-1, Then-not-is_call_list}
+use Rattle.call_list.proofs.run_on.Goals.{Else-not-is_call_list}
 
-encoded : (c : After-run_calls-arg-2-1) → is_call_list c.args.words.now c.args.bytes.now ≡ true
+encoded : (c : Else-not-is_call_list) → is_call_list c.args.words.now c.args.bytes.now ≡ true
 encoded c = sym c.is_call_list.ensures ∙ not-false _ c.if-not-is_call_list.false
 
 pub returns-then-not-is_call_list : goal.returns-then-not-is_call_list
 returns-then-not-is_call_list c =
-    let t = (goal.at.returns-then-not-is_call_list c).Then-not-is_call_list in
     c.not_run.ensures _ _
     ∙ R.not_made _ _ _ (c.refuse.ensures _ _ (omega arith))
-    ∙ R.no-list-on _ _ _ (sym t.is_call_list.ensures ∙ not-true _ t.if-not-is_call_list.true)
+    ∙ R.no-list-on _ _ _ (sym c.is_call_list.ensures ∙ c.if-not-is_call_list.true)
 
 pub run_calls-requires : goal.run_calls-requires
-run_calls-requires c = encoded c
+run_calls-requires c = encoded (goal.at.run_calls-requires c).Else-not-is_call_list
 
 pub returns : goal.returns
 returns c =
-    let k = c.before.before.before.before.before.before in
-    c.done.ensures _ _ ∙ R.ran_on _ _ _ (encoded k.before.before.before) _ k.run_calls.ensures
+    c.done.ensures _ _ ∙ R.ran_on _ _ _ (encoded (goal.at.returns c).Else-not-is_call_list) _ c.run_calls.ensures

@@ -3,10 +3,9 @@ use native.Mathlib.Omega.{arith}
 use borrow.Author.Rules.{rules}
 use Rattle.calls.proofs.Inspected.{sound, spoiled}
 use Rattle.calls.proofs.append.Goals as goal
-use Rattle.calls.proofs.append.Goals.{Then-unsound-ne0}
 
 pub returns-then-unsound-ne0 : goal.returns-then-unsound-ne0
-returns-then-unsound-ne0 c = let t = (goal.at.returns-then-unsound-ne0 c).Then-unsound-ne0 in spoiled _ _ _ _ t.inspect-unsound.ensures _ (c.refuse.ensures _ _) (λ z. omega (arith, t.if-unsound-ne0.true))
+returns-then-unsound-ne0 c = spoiled _ _ _ _ c.inspect-unsound.ensures _ (c.refuse.ensures _ _) (λ z. omega (arith, c.if-unsound-ne0.true))
 
 pub append-requires : goal.append-requires
 append-requires c = search (rules, sound)

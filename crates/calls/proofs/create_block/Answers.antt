@@ -3,10 +3,9 @@ use native.Mathlib.Omega.{arith}
 use borrow.Author.Rules.{rules}
 use Rattle.calls.proofs.Inspected.{sound, spoiled}
 use Rattle.calls.proofs.create_block.Goals as goal
-use Rattle.calls.proofs.create_block.Goals.{Then-first-ne0}
 
 pub returns-then-first-ne0 : goal.returns-then-first-ne0
-returns-then-first-ne0 c = let t = (goal.at.returns-then-first-ne0 c).Then-first-ne0 in spoiled _ _ _ _ t.inspect-first.ensures _ (c.refuse.ensures _ _) (λ z. omega (arith, t.if-first-ne0.true))
+returns-then-first-ne0 c = spoiled _ _ _ _ c.inspect-first.ensures _ (c.refuse.ensures _ _) (λ z. omega (arith, c.if-first-ne0.true))
 
 pub create_block-requires : goal.create_block-requires
 create_block-requires c = search (rules, sound)

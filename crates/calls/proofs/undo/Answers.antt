@@ -4,10 +4,9 @@ use borrow.Author.Rules.{rules}
 use Rattle.machine.proofs.Calls.{undo-barred}
 use Rattle.calls.proofs.Inspected.{sound-unwalked, turned_away}
 use Rattle.calls.proofs.undo.Goals as goal
-use Rattle.calls.proofs.undo.Goals.{Then-refusal-ne0}
 
 pub returns-then-refusal-ne0 : goal.returns-then-refusal-ne0
-returns-then-refusal-ne0 c = let t = (goal.at.returns-then-refusal-ne0 c).Then-refusal-ne0 in turned_away _ _ _ _ t.inspect_unwalked-refusal.ensures _ (λ n. undo-barred _ n) (c.refuse.ensures _ _) (λ z. omega (arith, t.if-refusal-ne0.true))
+returns-then-refusal-ne0 c = turned_away _ _ _ _ c.inspect_unwalked-refusal.ensures _ (λ n. undo-barred _ n) (c.refuse.ensures _ _) (λ z. omega (arith, c.if-refusal-ne0.true))
 
 pub undo-requires : goal.undo-requires
 undo-requires c = search (rules, sound-unwalked)

@@ -11,31 +11,20 @@ use Rattle.charge.specs.Sums.{Table}
 use Rattle.charge.proofs.Totals.{Left, begins, ends, goes_on, stays_below}
 use borrow.Author.Rules.{rules}
 use Rattle.charge.proofs.blocks_sum.Goals as goal
-use Rattle.charge.proofs.blocks_sum.Tie as tie
-use Rattle.charge.proofs.blocks_sum.Goals.{After-struct_known-1, In-loop-blocks}
 
 pub loop-blocks-init : goal.loop-blocks-init
 loop-blocks-init c = λ rates t bs n e. begins bs e refl
 
-abbrev passing : After-struct_known-1 → tie.After-block_sum-b
-passing c = c.before.before
-
-abbrev turn : After-struct_known-1 → tie.At-loop-blocks
-turn c = (goal.at.After-struct_known-1 c).In-loop-blocks
-
 -- with one block more the sum is no more than the whole, which fits
 pub overflow_add-sum : goal.overflow_add-sum
 overflow_add-sum c =
-    let b = passing c in
-    let l = turn b in
-    let w = l.requires in
-    let below = stays_below _ _ (l.loop-blocks.invariant w.rates w.table _ _ w.reads) (omega (arith, b.loop-blocks-test.taken)) (b.block_sum-b.ensures w.rates w.table) in
+    let w = c.requires in
+    let below = stays_below _ _ (c.loop-blocks.invariant w.rates w.table _ _ w.reads) (omega (arith, c.loop-blocks-test.taken)) (c.block_sum-b.ensures w.rates w.table) in
     record { fits = omega (arith, below, w.fits) }
 
 pub loop-blocks-preserved : goal.loop-blocks-preserved
 loop-blocks-preserved c =
-    let b = passing c in
-    λ rates t bs n e. goes_on _ _ (b.loop-blocks.invariant rates t bs n e) (omega (arith, b.loop-blocks-test.taken)) (b.block_sum-b.ensures rates t)
+    λ rates t bs n e. goes_on _ _ (c.loop-blocks.invariant rates t bs n e) (omega (arith, c.loop-blocks-test.taken)) (c.block_sum-b.ensures rates t)
 
 pub returns : goal.returns
 returns c = λ rates t bs n e. ends _ (c.loop-blocks.invariant rates t bs n e) (omega (arith, c.loop-blocks-test.false))

@@ -16,16 +16,12 @@ use Rattle.charge.proofs.Tables.{in_table_is}
 use Rattle.charge.proofs.Totals.{Left, begins, ends, goes_on}
 use borrow.Author.Rules.{rules}
 use Rattle.charge.proofs.instructions_sum.Goals as goal
-use Rattle.charge.proofs.instructions_sum.Tie as tie
-use Rattle.charge.proofs.instructions_sum.Goals.{After-rate_at}
+use Rattle.charge.proofs.instructions_sum.Goals.{After-rate_at, At-loop-left}
 
 pub loop-left-init : goal.loop-left-init
 loop-left-init c = (omega arith, λ rates t xs n e. begins xs e refl)
 
-abbrev turn : After-rate_at → tie.At-loop-left
-turn c = c.before.before.before
-
-bytes : (c : tie.At-loop-left) → Bytes c.args.s.now
+bytes : (c : At-loop-left) → Bytes c.args.s.now
 bytes c = c.type_inv.s
 
 -- one more rate
@@ -37,12 +33,12 @@ overflow_add-sum c = record { fits = omega (arith, small c, c.loop-left.invarian
 
 pub loop-left-preserved : goal.loop-left-preserved
 loop-left-preserved c =
-    let r = (goal.at.loop-left-preserved c).After-rate_at in
-    let l = turn r in (
-      omega (arith, small r, l.loop-left.invariant.0, r.loop-left-test.true),
+    let here = goal.at.loop-left-preserved c in
+    (
+      omega (arith, small here.After-rate_at, c.loop-left.invariant.0, c.loop-left-test.true),
       λ rates t xs n e.
-          goes_on _ _ (l.loop-left.invariant.1 rates t xs n e) (omega (arith, r.loop-left-test.true))
-          (λ i k q. (r.rate_at.ensures i k q ∙ in_table_is t i (op-listed _ _ q (bytes l)), c.instruction_end-o.ensures ∙ instruction_ends _ _ q)),
+          goes_on _ _ (c.loop-left.invariant.1 rates t xs n e) (omega (arith, c.loop-left-test.true))
+          (λ i k q. (c.rate_at.ensures i k q ∙ in_table_is t i (op-listed _ _ q (bytes here.At-loop-left)), c.instruction_end-o.ensures ∙ instruction_ends _ _ q)),
     )
 
 pub returns : goal.returns

@@ -7,18 +7,14 @@ use Rattle.machine.specs.Charge.{group}
 use Rattle.charge.proofs.Groups.{group-small}
 use borrow.Author.Rules.{rules}
 use Rattle.charge.proofs.sum_of_instruction.Goals as goal
-use Rattle.charge.proofs.sum_of_instruction.Goals.{After-group_of, After-op_of-op}
-
-abbrev naming : After-group_of → After-op_of-op
-naming c = (goal.at.After-group_of c).After-op_of-op
+use Rattle.charge.proofs.sum_of_instruction.Goals.{After-group_of}
 
 grouped : (c : After-group_of) → c.Group-of.result < 6
 grouped c = rw c.Group-of.ensures (group-small _)
 
 pub returns : goal.returns
 returns c =
-    let d = naming c in
-    λ i n e. ap (λ k. get_or d.args.rates.rate-1 k 0) (c.Group-of.ensures ∙ ap group (d.op_of-op.ensures i n e))
+    λ i n e. ap (λ k. get_or c.args.rates.rate-1 k 0) (c.Group-of.ensures ∙ ap group (c.op_of-op.ensures i n e))
 
 pub offset_bounds-rate-group_of : goal.offset_bounds-rate-group_of
 offset_bounds-rate-group_of c = record { fits = omega (arith, grouped c) }

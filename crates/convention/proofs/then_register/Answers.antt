@@ -11,38 +11,26 @@ use Rattle.convention.proofs.Skip.{told-past, told-refused}
 use Rattle.fields.proofs.Steps.{handed}
 use borrow.Author.Rules.{rules}
 use Rattle.convention.proofs.then_register.Goals as goal
-use Rattle.convention.proofs.then_register.Tie as tie
-use Rattle.convention.proofs.then_register.Goals.{In-Past, In_default-register, Start}
-
--- The way through the code, each place from the next.
-abbrev passed : tie.After-register_at-register → tie.In-Past-2
-passed c = c.before.before
-
-abbrev start : In-Past → Start
-start c = c.before.before.before.before
+use Rattle.convention.proofs.then_register.Goals.{After-register_at-register}
 
 -- what was passed over so far has an end, and the register at it decides the answer
-past : (c : tie.After-register_at-register) {x : Res Bool} → (let f = passed c in let s = start f in
-    x ≡ bind (judged register is_sound s.args.s.now f.in-Past.at) (λ u m. ok (f.in-Past.sound && u) m)
-    → x ≡ judged_both (of_passed s.args.far-1) (judged register is_sound s.args.s.now))
+past : (c : After-register_at-register) {x : Res Bool} → ( 
+    x ≡ bind (judged register is_sound c.args.s.now c.in-Past.at) (λ u m. ok (c.in-Past.sound && u) m)
+    → x ≡ judged_both (of_passed c.args.far) (judged register is_sound c.args.s.now))
 unfolding judged_both
 past c = told-past _ c.in-Past.is
 
 pub returns-in-Value : goal.returns-in-Value
 unfolding judged bind
 returns-in-Value c =
-    let told = c.before.before in
-    let r = told.before.before in
-    let given = told.in-Value.is in
-    let n = told.in-Value.n in
-    past r (rw (sym r.register_at-register.ensures.0 ∙ ap of_register given) (ap (λ x. ok (r.in-Past.sound && x) n) (register-told given r.register_at-register.ensures.1)))
+    let given = c.in-Value.is in
+    let n = c.in-Value.n in
+    past (goal.at.returns-in-Value c).After-register_at-register (rw (sym c.register_at-register.ensures.0 ∙ ap of_register given) (ap (λ x. ok (c.in-Past.sound && x) n) (register-told given c.register_at-register.ensures.1)))
 
 pub returns-in_default-register : goal.returns-in_default-register
 unfolding judged bind
 returns-in_default-register c =
-    let told = (goal.at.returns-in_default-register c).In_default-register in
-    let r = told.before.before.before in
-    past r (rw (← handed (ap of_register told.in_default-register.is) r.register_at-register.ensures.0 c.register_refusal.ensures))
+    past (goal.at.returns-in_default-register c).After-register_at-register (rw (← handed (ap of_register c.in_default-register.is) c.register_at-register.ensures.0 c.register_refusal.ensures))
 
 pub returns-in_default : goal.returns-in_default
 unfolding judged_both

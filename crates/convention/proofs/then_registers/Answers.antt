@@ -3,13 +3,11 @@ use Rattle.pod.specs.Told.{judged_both}
 use Rattle.convention.proofs.Skip.{told-past, told-refused}
 use borrow.Author.Rules.{rules}
 use Rattle.convention.proofs.then_registers.Goals as goal
-use Rattle.convention.proofs.then_registers.Goals.{After-registers_skip}
 
 pub returns-in-Past : goal.returns-in-Past
 unfolding judged_both
 returns-in-Past c =
-    let list = (goal.at.returns-in-Past c).After-registers_skip in
-    told-past _ list.in-Past.is (rw (c.told_both.ensures, list.registers_skip.ensures))
+    told-past _ c.in-Past.is (rw (c.told_both.ensures, c.registers_skip.ensures))
 
 pub returns-in_default : goal.returns-in_default
 unfolding judged_both

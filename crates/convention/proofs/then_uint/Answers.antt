@@ -9,19 +9,14 @@ use Rattle.pod.specs.Written.{passing}
 use Rattle.convention.proofs.Skip.{told-past, told-refused}
 use borrow.Author.Rules.{rules}
 use Rattle.convention.proofs.then_uint.Goals as goal
-use Rattle.convention.proofs.then_uint.Tie as tie
 use Rattle.convention.proofs.then_uint.Goals.{Else-within, Then-within}
-
--- what was passed over so far, from the test on, and the entry
-abbrev passed : tie.After-within → tie.In-Past-2
-passed c = c.before.before
 
 -- the test says that the field stands within
 within : (c : Then-within) → c.in-Past.at + c.args.k ≤ length c.args.s.now
 within c = leb-true _ _ (cc)
 
 -- or that it does not
-beyond : (c : Else-within) → let f = passed c.before.before in length f.args.s.now < f.in-Past.at + f.args.k
+beyond : (c : Else-within) → length c.args.s.now < c.in-Past.at + c.args.k
 beyond c = leb-false _ _ (cc)
 
 pub returns-then-within : goal.returns-then-within

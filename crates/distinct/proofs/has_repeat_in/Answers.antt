@@ -8,24 +8,13 @@ use mathlib.Core.Bool.{false}
 use Rattle.distinct.proofs.Rounds.{few, not-twice}
 use borrow.Author.Rules.{rules}
 use Rattle.distinct.proofs.has_repeat_in.Goals as goal
-use Rattle.distinct.proofs.has_repeat_in.Tie as tie
-use Rattle.distinct.proofs.has_repeat_in.Goals.{After-passes-arg-1, Start}
-
--- The way through the code, each place from the next.
-abbrev start : tie.After-top_twice → Start
-start c = c.before.before.before.before
-
-abbrev searched : tie.Else-top_twice → tie.After-top_twice
-searched c = c.before
-
-abbrev part : After-passes-arg-1 → tie.Else-top_twice
-part c = c.before.before.before
+use Rattle.distinct.proofs.has_repeat_in.Goals.{After-passes-arg-1, Else-top_twice}
 
 -- the highest number is not there twice, and a part of the buffer is as long as there are blocks
-apart : (c : tie.Else-top_twice) → let a = c.args in TopTwice (vipsFrom a.s.now a.start a.count) false
+apart : (c : Else-top_twice) → let a = c.args in TopTwice (vipsFrom a.s.now a.start a.count) false
 apart c = not-twice c.top_twice.ensures c.if-top_twice.false
 
-fits : (c : After-passes-arg-1) → let a = (start (searched (part c))).args in length (take a.count a.b-1.now) ≡ a.count
+fits : (c : After-passes-arg-1) → let a = c.args in length (take a.count a.b-1.now) ≡ a.count
 fits c = length-take-le _ _ (omega arith)
 
 pub returns-then-count-lt2 : goal.returns-then-count-lt2
@@ -38,7 +27,7 @@ pub slice_bounds-passes-end-then-count-b : goal.slice_bounds-passes-end-then-cou
 slice_bounds-passes-end-then-count-b c = sym (fits c)
 
 pub passes-requires : goal.passes-requires
-passes-requires c = (omega (arith, fits c), apart (part c))
+passes-requires c = (omega (arith, fits c), apart (goal.at.passes-requires c).Else-top_twice)
 
 pub passes-requires-else-count-b : goal.passes-requires-else-count-b
-passes-requires-else-count-b c = (omega arith, apart c.before.before.before)
+passes-requires-else-count-b c = (omega arith, apart (goal.at.passes-requires-else-count-b c).Else-top_twice)

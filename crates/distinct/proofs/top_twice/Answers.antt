@@ -4,24 +4,20 @@ use Rattle.distinct.specs.Walked.{vipsFrom}
 use Rattle.distinct.proofs.Walks.{Tops, BlockRead, tops_other, tops_first, tops_twice, tops_end}
 use borrow.Author.Rules.{rules}
 use Rattle.distinct.proofs.top_twice.Goals as goal
-use Rattle.distinct.proofs.top_twice.Tie as tie
 use Rattle.distinct.proofs.top_twice.Goals.{After-block_at-b}
-
-abbrev reading : tie.Then-b → After-block_at-b
-reading c = c.before.before
 
 block : (c : After-block_at-b)
     → let b = c.block_at-b.result in let l = c.loop-left in BlockRead c.args.s.now l.left l.at b.vip.0 b.next
 block c = record { vip = c.block_at-b.ensures.0; end = c.block_at-b.ensures.1; some = omega arith }
 
 pub returns-then-seen-gt0 : goal.returns-then-seen-gt0
-returns-then-seen-gt0 c = let b = reading c.before.before in tops_twice (block b) b.loop-left.invariant (omega arith) (omega arith)
+returns-then-seen-gt0 c = tops_twice (block (goal.at.returns-then-seen-gt0 c).After-block_at-b) c.loop-left.invariant (omega arith) (omega arith)
 
 pub loop-left-preserved-then-b : goal.loop-left-preserved-then-b
-loop-left-preserved-then-b c = let b = reading c.before.before in tops_first (block b) b.loop-left.invariant (omega arith) (omega arith)
+loop-left-preserved-then-b c = tops_first (block (goal.at.loop-left-preserved-then-b c).After-block_at-b) c.loop-left.invariant (omega arith) (omega arith)
 
 pub loop-left-preserved : goal.loop-left-preserved
-loop-left-preserved c = let b = (goal.at.loop-left-preserved c).After-block_at-b in tops_other (block b) b.loop-left.invariant (λ e. omega arith)
+loop-left-preserved c = tops_other (block (goal.at.loop-left-preserved c).After-block_at-b) c.loop-left.invariant (λ e. omega arith)
 
 pub loop-left-init : goal.loop-left-init
 loop-left-init c = record { few = omega arith; is = omega arith }

@@ -22,10 +22,7 @@ returns-then-four-ne0-3 c = λ h. absurd (omega arith)
 
 pub returns : goal.returns
 returns c =
-    let vips₂ = c.before.before in
-    let vips₁ = vips₂.before.before in
-    let count = vips₁.before.before in
     λ _. empty_block _ _ (omega arith)
-    (sym count.four.ensures ∙ vips₁.if-four-ne0.false)
-    (sym vips₁.four-2.ensures ∙ vips₂.if-four-ne0-2.false)
-    (sym vips₂.four-3.ensures ∙ c.if-four-ne0-3.false)
+    (sym c.four.ensures ∙ c.if-four-ne0.false)
+    (sym c.four-2.ensures ∙ c.if-four-ne0-2.false)
+    (sym c.four-3.ensures ∙ c.if-four-ne0-3.false)

@@ -34,8 +34,5 @@ loop-left-preserved c =
 
 pub returns : goal.returns
 returns c =
-    let l = c.before.before in
-    let i = l.loop-left.invariant in
-    let count = l.before.before in
-    let name = count.before.before in
-    λ _. instruction-within _ _ name.four-size.ensures refl count.four-count.ensures (omega arith) (times-end _ _ _ i.1 c.loop-left-test.false) (omega (arith, i.0))
+    let i = c.loop-left.invariant in
+    λ _. instruction-within _ _ c.four-size.ensures refl c.four-count.ensures (omega arith) (times-end _ _ _ i.1 c.loop-left-test.false) (omega (arith, i.0))

@@ -7,10 +7,8 @@ use Rattle.ends.proofs.fast_operand_end.Goals as goal
 
 pub returns-then-four-eq0 : goal.returns-then-four-eq0
 returns-then-four-eq0 c =
-    let f = c.before.before in
-    (imm-within _ _ f.requires (sym f.four.ensures ∙ c.if-four-eq0.true), omega arith)
+    (imm-within _ _ c.requires (sym c.four.ensures ∙ c.if-four-eq0.true), omega arith)
 
 pub returns-else-four-eq0 : goal.returns-else-four-eq0
 returns-else-four-eq0 c =
-    let f = c.before.before in
-    (reg_within _ _ f.requires (λ e. c.if-four-eq0.false (f.four.ensures ∙ e)), omega arith)
+    (reg_within _ _ c.requires (λ e. c.if-four-eq0.false (c.four.ensures ∙ e)), omega arith)

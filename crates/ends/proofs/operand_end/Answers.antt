@@ -5,10 +5,8 @@ use Rattle.ends.proofs.operand_end.Goals as goal
 
 pub returns-then-word32-eq0 : goal.returns-then-word32-eq0
 returns-then-word32-eq0 c =
-    let w = c.before.before.before in
-    imm-made _ _ w.jump-a.ensures w.word32.ensures c.if-word32-eq0.true c.jump.ensures
+    imm-made _ _ c.jump-a.ensures c.word32.ensures c.if-word32-eq0.true c.jump.ensures
 
 pub returns-else-word32-eq0 : goal.returns-else-word32-eq0
 returns-else-word32-eq0 c =
-    let w = c.before.before.before in
-    reg_made _ _ w.jump-a.ensures w.word32.ensures c.if-word32-eq0.false c.jump-else-word32-eq0.ensures
+    reg_made _ _ c.jump-a.ensures c.word32.ensures c.if-word32-eq0.false c.jump-else-word32-eq0.ensures

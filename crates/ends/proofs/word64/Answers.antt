@@ -10,8 +10,7 @@ enum_told-1 c = search rules
 
 pub returns-in-Value : goal.returns-in-Value
 returns-in-Value c =
-    let k = c.before.before.before.before in
-    sym (ap value (ap of_u64 c.in-Value.is)) ∙ ap value k.u64_at.ensures ∙ word-is 8 _ _
+    sym (ap value (ap of_u64 c.in-Value.is)) ∙ ap value c.u64_at.ensures ∙ word-is 8 _ _
 
 pub returns-in_default : goal.returns-in_default
 returns-in_default c = sym (ap value (ap of_u64 c.in_default.is)) ∙ ap value c.u64_at.ensures ∙ word-is 8 _ _

@@ -7,5 +7,5 @@ use Rattle.exchange.proofs.copy_out.Goals.{Start}
 
 pub returns : goal.returns
 returns c =
-    let s : Start = (goal.at.returns c).Start in
-    whole s.args.a.now s.args.x-1.now _ s.args.from (cc) (omega arith)
+    let s : Start = c.before.before.before.before.before.before.before in
+    whole s.args.a.now s.args.x.now _ s.args.from (cc) (omega arith)

@@ -13,9 +13,8 @@ eight-requires c = leb-true _ _ (sym c.within.ensures ∙ c.if-within.true)
 
 pub overflow_add-result : goal.overflow_add-result
 overflow_add-result c =
-    let b = c.before.before.before in
-    let a = b.args in
-    let h : a.at + 8 ≤ length a.s.now = leb-true _ _ (sym b.within.ensures ∙ c.if-within.true) in
+    let a = c.args in
+    let h : a.at + 8 ≤ length a.s.now = leb-true _ _ (sym c.within.ensures ∙ c.if-within.true) in
     omega arith
 
 pub returns-then-within : goal.returns-then-within

@@ -2,7 +2,6 @@
 use Rattle.image.proofs.Stands.{blocks-found}
 use borrow.Author.Rules.{rules}
 use Rattle.image.proofs.blocks_of.Goals as goal
-use Rattle.image.proofs.blocks_of.Goals.{After-convention_end-b, After-conventions_end-d, After-jump-c, After-word32-count, After-word32-special}
 
 pub convention_end-a-requires : goal.convention_end-a-requires
 convention_end-a-requires c = search rules
@@ -30,11 +29,6 @@ jump-start-requires c = search rules
 
 pub returns : goal.returns
 returns c =
-    let k = (goal.at.returns c).After-word32-count in
-    let d = (goal.at.After-word32-count k).After-conventions_end-d in
-    let j = (goal.at.After-conventions_end-d d).After-jump-c in
-    let n = (goal.at.After-jump-c j).After-word32-special in
-    let b = (goal.at.After-word32-special n).After-convention_end-b in
     λ x h.
-    blocks-found h b.convention_end-a.ensures b.convention_end-b.ensures n.word32-special.ensures j.jump-c.ensures d.conventions_end-d.ensures
-    k.word32-count.ensures c.jump-start.ensures
+    blocks-found h c.convention_end-a.ensures c.convention_end-b.ensures c.word32-special.ensures c.jump-c.ensures c.conventions_end-d.ensures
+    c.word32-count.ensures c.jump-start.ensures

@@ -2,7 +2,6 @@
 use Rattle.image.proofs.Stands.{convention-zero, convention-one, convention-more}
 use borrow.Author.Rules.{rules}
 use Rattle.image.proofs.convention_offset.Goals as goal
-use Rattle.image.proofs.convention_offset.Goals.{After-convention_end-b, After-jump-c, Else-place-eq1}
 
 pub returns-then-place-eq0 : goal.returns-then-place-eq0
 returns-then-place-eq0 c = λ x h l. convention-zero h c.if-place-eq0.true
@@ -27,8 +26,5 @@ conventions_end-requires c = search rules
 
 pub returns : goal.returns
 returns c =
-    let j = (goal.at.returns c).After-jump-c in
-    let b = (goal.at.After-jump-c j).After-convention_end-b in
-    let e = (goal.at.After-convention_end-b b).Else-place-eq1 in
     λ x h l.
-    convention-more h _ e.if-place-eq0.false e.if-place-eq1.false l e.convention_end-a.ensures b.convention_end-b.ensures j.jump-c.ensures c.conventions_end.ensures
+    convention-more h _ c.if-place-eq0.false c.if-place-eq1.false l c.convention_end-a.ensures c.convention_end-b.ensures c.jump-c.ensures c.conventions_end.ensures

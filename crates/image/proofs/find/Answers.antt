@@ -29,10 +29,8 @@ word64-requires c = search rules
 
 pub returns-then-word64-v : goal.returns-then-word64-v
 returns-then-word64-v c =
-    let k = c.before.before in
-    let l = k.before.before in
     λ x h.
-    walk-hit x _ h (l.loop-i.invariant.1 x h) (within k.before x h) _ k.word64.ensures c.if-word64-v.true refl refl (l.blocks_of-blocks.ensures x h).1
+    walk-hit x _ h (c.loop-i.invariant.1 x h) (within (goal.at.returns-then-word64-v c).In-loop-i x h) _ c.word64.ensures c.if-word64-v.true refl refl (c.blocks_of-blocks.ensures x h).1
 
 pub block_end-at-requires : goal.block_end-at-requires
 block_end-at-requires c = search rules
@@ -45,13 +43,10 @@ loop-i-smaller c = search rules
 
 pub loop-i-preserved : goal.loop-i-preserved
 loop-i-preserved c =
-    let k = c.before.before.before in
-    let l = k.before.before in
-    (omega arith, λ x h. walk_next x _ h (l.loop-i.invariant.1 x h) (within k.before x h) k.word64.ensures c.block_end-at.ensures c.if-word64-v.false)
+    (omega arith, λ x h. walk_next x _ h (c.loop-i.invariant.1 x h) (within (goal.at.loop-i-preserved c).In-loop-i x h) c.word64.ensures c.block_end-at.ensures c.if-word64-v.false)
 
 pub returns : goal.returns
 returns c =
-    let l = c.before.before in
     λ x h.
-    let n = (l.blocks_of-blocks.ensures x h).1 in
-    walk_end x _ h (l.loop-i.invariant.1 x h) _ (omega (arith, l.loop-i.invariant.0, c.loop-i-test.false, n)) (omega (arith, l.loop-i.invariant.0, c.loop-i-test.false)) refl n
+    let n = (c.blocks_of-blocks.ensures x h).1 in
+    walk_end x _ h (c.loop-i.invariant.1 x h) _ (omega (arith, c.loop-i.invariant.0, c.loop-i-test.false, n)) (omega (arith, c.loop-i.invariant.0, c.loop-i-test.false)) refl n

@@ -8,7 +8,7 @@ pub returns-then-refusal-ne0 : goal.returns-then-refusal-ne0
 returns-then-refusal-ne0 c = unwalked-refused _ c.inspect-refusal.ensures (λ z. omega (arith, c.if-refusal-ne0.true))
 
 pub returns-then-book-ne0 : goal.returns-then-book-ne0
-returns-then-book-ne0 c = let e = c.before.before.before in unwalked_open _ e.inspect-refusal.ensures (omega (arith, e.if-refusal-ne0.false)) (λ z. omega (arith, c.if-book-ne0.true))
+returns-then-book-ne0 c = unwalked_open _ c.inspect-refusal.ensures (omega (arith, c.if-refusal-ne0.false)) (λ z. omega (arith, c.if-book-ne0.true))
 
 pub returns : goal.returns
-returns c = let e = c.before.before.before in unwalked-held _ e.inspect-refusal.ensures (omega (arith, e.if-refusal-ne0.false)) (omega (arith, c.if-book-ne0.false))
+returns c = unwalked-held _ c.inspect-refusal.ensures (omega (arith, c.if-refusal-ne0.false)) (omega (arith, c.if-book-ne0.false))

@@ -11,39 +11,36 @@ use Rattle.image.specs.Places.{instruction_start}
 use Rattle.image.proofs.Parts.{count-found, instruction-next}
 use borrow.Author.Rules.{rules}
 use Rattle.image.proofs.last_instruction.Goals as goal
-use Rattle.image.proofs.last_instruction.Tie as tie
-use Rattle.image.proofs.last_instruction.Goals.{After-instruction_offset-from}
+use Rattle.image.proofs.last_instruction.Goals.{After-word32-count, Start}
 
-abbrev counting : After-instruction_offset-from → tie.After-word32-count
-counting c = c.before.before.before
+-- The way through the code, each place from the next.
+abbrev start : After-word32-count → Start
+start c = (goal.at.After-word32-count c).Start
 
 -- What is known at them, of the block of any routine that stands there: how many instructions it has, and, where there are some, where the last begins.
 module _ (x : Routine) (i : ℕ) where
   abbrev N : ℕ
   N = length (block_at i x.explored_blocks).instructions
 
-  module _ (c : tie.After-word32-count) (h : Holding c.args.image.now x) (l : i < length x.explored_blocks) (e : c.args.at ≡ block_start x i) where
+  module _ (c : After-word32-count) (h : Holding (start c).args.image.now x) (l : i < length x.explored_blocks) (e : (start c).args.at ≡ block_start x i) where
     counted : c.word32-count.result ≡ N
     counted = count-found x i h l e c.jump-head.ensures c.word32-count.ensures
 
 pub returns-then-count-eq0 : goal.returns-then-count-eq0
 returns-then-count-eq0 c x i h l e =
-    let w = c.before.before.before in
-    let n : N x i ≡ 0 = sym (counted x i w h l e) ∙ c.if-count-eq0.true in
+    let n : N x i ≡ 0 = sym (counted x i c h l e) ∙ c.if-count-eq0.true in
     let first = c.instruction_offset-first.ensures x i h l e (omega arith) in
     record { from = first ∙ ap (λ k. instruction_start x i (k - 1)) (sym n); end = first ∙ ap (instruction_start x i) (sym n) }
 
 pub returns : goal.returns
 returns c x i h l e =
-    let f = (goal.at.returns c).After-instruction_offset-from in
-    let w = counting f in
-    let n = counted x i w h l e in
-    let some : 0 < N x i = omega (arith, n, f.if-count-eq0.false) in
-    let from : f.instruction_offset-from.result ≡ instruction_start x i (N x i - 1)
-    = f.instruction_offset-from.ensures x i h l e (omega (arith, n)) ∙ ap (λ k. instruction_start x i (k - 1)) n in
+    let n = counted x i c h l e in
+    let some : 0 < N x i = omega (arith, n, c.if-count-eq0.false) in
+    let from : c.instruction_offset-from.result ≡ instruction_start x i (N x i - 1)
+    = c.instruction_offset-from.ensures x i h l e (omega (arith, n)) ∙ ap (λ k. instruction_start x i (k - 1)) n in
     let last : suc (N x i - 1) ≡ N x i = omega arith in
     record {
       from = from;
-      end = c.instruction_end-end.ensures ∙ ap (instructionEnd w.args.image.now) from ∙ instruction-next x i h l e (N x i - 1) (omega arith)
+      end = c.instruction_end-end.ensures ∙ ap (instructionEnd c.args.image.now) from ∙ instruction-next x i h l e (N x i - 1) (omega arith)
           ∙ ap (instruction_start x i) last;
     }

@@ -18,20 +18,17 @@ use Rattle.image.proofs.pass_image.Goals as goal
 pub returns-in-Past : goal.returns-in-Past
 unfolding is_routine
 returns-in-Past c =
-    let end = c.before.before in
-    let call = end.before.before in
-    let s = call.args.s.now in
-    let is = end.in-Past.is in (
-      ap (ends_at (length s)) (sym (ap of_noted is) ∙ call.routine_noting.ensures.0),
-      λ x n q. rw (zero-add (length (routine_head_bytes x))) at ((rw is at call.routine_noting.ensures.1) x n q),
+    let s = c.args.s.now in
+    let is = c.in-Past.is in (
+      ap (ends_at (length s)) (sym (ap of_noted is) ∙ c.routine_noting.ensures.0),
+      λ x n q. rw (zero-add (length (routine_head_bytes x))) at ((rw is at c.routine_noting.ensures.1) x n q),
     )
 
 pub returns-in_default : goal.returns-in_default
 unfolding is_routine
 returns-in_default c =
-    let call = c.before.before.before in
-    let s = call.args.s.now in
-    let refused = sym (ap of_noted c.in_default.is) ∙ call.routine_noting.ensures.0 in (
+    let s = c.args.s.now in
+    let refused = sym (ap of_noted c.in_default.is) ∙ c.routine_noting.ensures.0 in (
       ap (ends_at (length s)) refused,
       λ x n q. let r = inv_span_no (routine s 0) (walked-refused routine routine_bytes routine_sound s 0 (sym refused)) in let z : ◌≡◌ {A = ℕ} 0 1 = cc in absurd (omega arith),
     )

@@ -3,7 +3,6 @@ use mathlib.Core.Path.{◌∙◌}
 use Rattle.image.proofs.Stands.{past-special-count}
 use borrow.Author.Rules.{rules}
 use Rattle.image.proofs.special_count.Goals as goal
-use Rattle.image.proofs.special_count.Goals.{After-convention_end-b}
 
 pub convention_end-a-requires : goal.convention_end-a-requires
 convention_end-a-requires c = search rules
@@ -16,6 +15,5 @@ word32-requires c = search rules
 
 pub returns : goal.returns
 returns c =
-    let b = (goal.at.returns c).After-convention_end-b in
     λ x h.
-    c.word32.ensures ∙ (past-special-count h b.convention_end-a.ensures b.convention_end-b.ensures).0
+    c.word32.ensures ∙ (past-special-count h c.convention_end-a.ensures c.convention_end-b.ensures).0

@@ -15,8 +15,7 @@ known c = c.fast_lookup-code.ensures (omega (arith, c.if-code-gt255.false)) _ _ 
 
 pub returns : goal.returns
 returns c h =
-    let l = (goal.at.returns c).Else-code-gt255 in
-    found _ _ _ _ (omega arith) l.four-n.ensures (known l) (sym c.four.ensures ∙ c.if-four-code.false)
+    found _ _ _ _ (omega arith) c.four-n.ensures (known (goal.at.returns c).Else-code-gt255) (sym c.four.ensures ∙ c.if-four-code.false)
 
 pub returns-then-s-at : goal.returns-then-s-at
 returns-then-s-at c h = absurd (omega arith)

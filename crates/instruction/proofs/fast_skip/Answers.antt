@@ -17,70 +17,53 @@ use Rattle.instruction.specs.Answers.{Found}
 use Rattle.instruction.proofs.Pass.{found, fast_ok, fast_sound}
 use borrow.Author.Rules.{rules}
 use Rattle.instruction.proofs.fast_skip.Goals as goal
-use Rattle.instruction.proofs.fast_skip.Tie as tie
-use Rattle.instruction.proofs.fast_skip.Goals.{After-four-n, After-loop-left, Else-code-gt255, Else-count-code, Start}
+use Rattle.instruction.proofs.fast_skip.Goals.{After-four-n, After-loop-left, After-shared_slice_known-1, Else-code-gt255, Else-count-code}
 
--- The way through the code, each place from the next.
-abbrev sized : Else-code-gt255 → After-four-n
-sized c = (goal.at.Else-code-gt255 c).After-four-n
-
-abbrev lent : After-four-n → tie.After-shared_slice_known-1
-lent c = c.before.before.before.before
-
-abbrev start : Else-code-gt255 → Start
-start c = (lent (sized c)).before
-
-abbrev counted : Else-count-code → Else-code-gt255
-counted c = (goal.at.Else-count-code c).Else-code-gt255
+abbrev lent : After-four-n → After-shared_slice_known-1
+lent c = (goal.at.After-four-n c).After-shared_slice_known-1
 
 -- the table knows the name, and so what stands at the instruction's start is found
 known : (c : Else-code-gt255)
     → Known (take c.four-n.result (drop (c.args.at + 4) c.args.s.now)) c.four-n.result c.fast_lookup-code.result
 known c = c.fast_lookup-code.ensures (omega (arith, c.if-code-gt255.false)) _ _ c.type_inv.s (omega arith) c.eight.ensures
 
-here : (c : Else-count-code) → let l = counted c in Found l.args.s.now l.args.at l.fast_lookup-code.result
-here c = let l = counted c in found _ _ _ _ (omega arith) l.four-n.ensures (known l) (sym c.four-count.ensures ∙ c.if-count-code.false)
+here : (c : Else-count-code) → Found c.args.s.now c.args.at c.fast_lookup-code.result
+here c = found _ _ _ _ (omega arith) c.four-n.ensures (known (goal.at.Else-count-code c).Else-code-gt255) (sym c.four-count.ensures ∙ c.if-count-code.false)
 
 pub loop-left-init : goal.loop-left-init
 loop-left-init c = (omega (arith, (known (goal.at.loop-left-init c).Else-code-gt255).short, c.if-count-code.false), judge_start operand operand_sound _ _ _)
 
 pub loop-left-preserved : goal.loop-left-preserved
 loop-left-preserved c =
-    let q = c.before.before.before in
-    let l = q.loop-left in
-    let e = q.fast_operand-operand.ensures (omega (arith, c.if-o-eq0.false)) in
-    (omega (arith, e.1), judge_skip operand operand_sound _ _ _ _ l.invariant.1 q.loop-left-test.true e.0)
-
--- Behind the loop: the operation was found, and its operands are passed over.
-abbrev begun : After-loop-left → Else-count-code
-begun c = (goal.at.After-loop-left c).Else-count-code
+    let l = c.loop-left in
+    let e = c.fast_operand-operand.ensures (omega (arith, c.if-o-eq0.false)) in
+    (omega (arith, e.1), judge_skip operand operand_sound _ _ _ _ l.invariant.1 c.loop-left-test.true e.0)
 
 abbrev is_op : (c : After-loop-left) → ℕ
 is_op c = c.fast_lookup-code.result / 4
 
 abbrev operands_at : (c : After-loop-left) → ℕ
-operands_at c = let q = counted (begun c) in q.args.at + 4 + q.four-n.result + 4
+operands_at c = c.args.at + 4 + c.four-n.result + 4
 
-opcode-read : (c : After-loop-left) → let a = (start (counted (begun c))).args in opcode a.s.now a.at ≡ ok (is_op c) (operands_at c)
+opcode-read : (c : After-loop-left) → let a = c.args in opcode a.s.now a.at ≡ ok (is_op c) (operands_at c)
 opcode-read c =
-    let q = counted (begun c) in
-    (here (goal.at.After-loop-left c).Else-count-code).is ∙ ap (λ n. ok (is_op c) (q.args.at + 4 + n + 4)) (sym q.four-n.ensures)
+    (here (goal.at.After-loop-left c).Else-count-code).is ∙ ap (λ n. ok (is_op c) (c.args.at + 4 + n + 4)) (sym c.four-n.ensures)
 
 operands_read : (c : After-loop-left)
-    → judged (many operand (get_or counts (is_op c) 0)) (every operand_sound) (start (counted (begun c))).args.s.now (operands_at c) ≡ ok c.loop-left.sound c.loop-left.o
+    → judged (many operand (get_or counts (is_op c) 0)) (every operand_sound) c.args.s.now (operands_at c) ≡ ok c.loop-left.sound c.loop-left.o
 operands_read c =
     let l = c.loop-left in
     rw ((here (goal.at.After-loop-left c).Else-count-code).takes, ← c.if-count-code.false) (sym (judge_end operand operand_sound _ _ _ _ l.invariant.1 c.loop-left-test.false))
 
 pub returns : goal.returns
 returns c h =
-    let d = (goal.at.returns c).After-loop-left in
-    let s = (start (counted (begun d))).args.s.now in
-    let o = d.loop-left.o in
-    let room : o + 21 ≤ length s = omega (arith, d.loop-left.invariant.0) in
+    let here = goal.at.returns c in
+    let s = c.args.s.now in
+    let o = c.loop-left.o in
+    let room : o + 21 ≤ length s = omega (arith, c.loop-left.invariant.0) in
     let last : o + 21 - 1 ≡ o + 20 = omega arith in
-    let past = fast_ok s _ _ o _ _ room (opcode-read d) (operands_read d) in
-    let seen = instruction-walked s (lent (sized (counted (begun d)))).type_inv.s _ past (fast_sound s _ _ o _ _ room (opcode-read d) (operands_read d)) in
+    let past = fast_ok s _ _ o _ _ room (opcode-read here.After-loop-left) (operands_read here.After-loop-left) in
+    let seen = instruction-walked s (lent here.After-four-n).type_inv.s _ past (fast_sound s _ _ o _ _ room (opcode-read here.After-loop-left) (operands_read here.After-loop-left)) in
     sym (rw last at seen)
 
 pub returns-then-s-at : goal.returns-then-s-at

@@ -21,20 +21,18 @@ loop-left-init c = (refl, asked-sound _ refl)
 
 pub returns-in_default : goal.returns-in_default
 returns-in_default c =
-    let d = c.before.before.before.before in
-    let l = d.loop-left.invariant in
-    let h = d.loop-left-test.true in
-    let e = sym (handed (ap of_operand c.in_default.is) d.Operand-at.ensures.0 c.operand_refusal.ensures) in
+    let l = c.loop-left.invariant in
+    let h = c.loop-left-test.true in
+    let e = sym (handed (ap of_operand c.in_default.is) c.Operand-at.ensures.0 c.operand_refusal.ensures) in
     (run-stop operand _ _ _ l.0 h e, ask_stop _ _ _ _ l.1 h e)
 
 pub loop-left-preserved : goal.loop-left-preserved
 loop-left-preserved c =
-    let d = c.before.before.before.before in
-    let l = d.loop-left.invariant in
-    let h = d.loop-left-test.true in
+    let l = c.loop-left.invariant in
+    let h = c.loop-left-test.true in
     let told = c.in-Value.is in
-    let e = sym d.Operand-at.ensures.0 ∙ ap of_operand told in
-    (run_next operand _ _ _ l.0 h e, ask_next _ _ _ _ l.1 h e (operand-told told d.Operand-at.ensures.1))
+    let e = sym c.Operand-at.ensures.0 ∙ ap of_operand told in
+    (run_next operand _ _ _ l.0 h e, ask_next _ _ _ _ l.1 h e (operand-told told c.Operand-at.ensures.1))
 
 pub returns : goal.returns
 returns c =

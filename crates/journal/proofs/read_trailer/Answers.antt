@@ -4,20 +4,7 @@ use Rattle.fields.proofs.Le.{le_lt}
 use Rattle.journal.proofs.Trailers.{trailer-at}
 use borrow.Author.Rules.{rules}
 use Rattle.journal.proofs.read_trailer.Goals as goal
-use Rattle.journal.proofs.read_trailer.Goals.{After-eight, After-four-kind, After-four-len, After-four-place, Start}
-
--- The way through the code, each field from the next.
-abbrev start : After-eight → Start
-start c = (goal.at.After-eight c).Start
-
-abbrev vip : After-four-place → After-eight
-vip c = (goal.at.After-four-place c).After-eight
-
-abbrev place : After-four-len → After-four-place
-place c = (goal.at.After-four-len c).After-four-place
-
-abbrev len : After-four-kind → After-four-len
-len c = (goal.at.After-four-kind c).After-four-len
+use Rattle.journal.proofs.read_trailer.Goals.{After-eight}
 
 octets : (c : After-eight) → Bytes c.args.journal.now
 octets c = c.type_inv.journal
@@ -29,7 +16,7 @@ pub overflow_cast-len : goal.overflow_cast-len
 overflow_cast-len c = record { fits = rw c.four-len.ensures (le_lt 4 _ _ (octets (goal.at.overflow_cast-len c).After-eight)) }
 
 pub overflow_cast-kind : goal.overflow_cast-kind
-overflow_cast-kind c = record { fits = rw c.four-kind.ensures (le_lt 4 _ _ (octets (vip (place (len c))))) }
+overflow_cast-kind c = record { fits = rw c.four-kind.ensures (le_lt 4 _ _ (octets (goal.at.overflow_cast-kind c).After-eight)) }
 
 pub returns : goal.returns
-returns c = let s = start (vip (place (len c))) in cc (trailer-at s.args.journal.now s.args.at s.requires)
+returns c = cc (trailer-at c.args.journal.now c.args.at c.requires)

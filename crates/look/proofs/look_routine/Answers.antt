@@ -15,8 +15,7 @@ use Rattle.image.proofs.Stands.{word_at, machine-at, entry_at}
 use Rattle.look.specs.Answers.{routine_look}
 use borrow.Author.Rules.{rules}
 use Rattle.look.proofs.look_routine.Goals as goal
-use Rattle.look.proofs.look_routine.Tie as tie
-use Rattle.look.proofs.look_routine.Goals.{After-blocks_of-blocks, After-special_count-spec_conventions, After-word64}
+use Rattle.look.proofs.look_routine.Goals.{Else-refusal-ne0}
 
 -- the machine's byte
 module _ {s : State} (r : Ready s) where
@@ -35,16 +34,7 @@ module _ {s : State} (r : Ready s) where
   unfolding routine_look
   routine-is e f g = rw (e ∙ word_at 8 _ _ r.holding.holds.entry (entry_at r.holding), f, g, machine-is, r.is)
 
-abbrev inspecting : After-word64 → tie.Else-refusal-ne0
-inspecting c = c.before.before.before
-
-abbrev reading : After-special_count-spec_conventions → After-word64
-reading c = (goal.at.After-special_count-spec_conventions c).After-word64
-
-abbrev counting : After-blocks_of-blocks → After-special_count-spec_conventions
-counting c = (goal.at.After-blocks_of-blocks c).After-special_count-spec_conventions
-
-inspected : (c : tie.Else-refusal-ne0) → let a = c.args in Ready (state a.image.now a.journal.now a.book)
+inspected : (c : Else-refusal-ne0) → let a = c.args in Ready (state a.image.now a.journal.now a.book)
 inspected c = ready _ c.type_inv.image c.inspect-refusal.ensures (omega (arith, c.if-refusal-ne0.false))
 
 pub returns-then-refusal-ne0 : goal.returns-then-refusal-ne0
@@ -53,13 +43,11 @@ returns-then-refusal-ne0 c = ap routine_look (sym (refused-by _ c.inspect-refusa
 
 pub returns : goal.returns
 returns c =
-    let b = (goal.at.returns c).After-blocks_of-blocks in
-    let n = counting b in
-    let r = inspected (inspecting (reading n)) in
-    routine-is r n.word64.ensures (n.special_count-spec_conventions.ensures _ r.holding) (b.blocks_of-blocks.ensures _ r.holding).1
+    let r = inspected (goal.at.returns c).Else-refusal-ne0 in
+    routine-is r c.word64.ensures (c.special_count-spec_conventions.ensures _ r.holding) (c.blocks_of-blocks.ensures _ r.holding).1
 
 pub bounds-image-4 : goal.bounds-image-4
-bounds-image-4 c = machine-room (inspected c.before.before)
+bounds-image-4 c = machine-room (inspected (goal.at.bounds-image-4 c).Else-refusal-ne0)
 
 pub overflow_cast-arch_id : goal.overflow_cast-arch_id
 overflow_cast-arch_id c = omega (arith, c.type_inv.image 4)

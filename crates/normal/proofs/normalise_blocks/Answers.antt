@@ -14,35 +14,22 @@ use Rattle.laws.proofs.Local.{local-block}
 use Rattle.normal.proofs.Runs.{Run, run-start, run_next, run_below, run_end, run_sum}
 use borrow.Author.Rules.{rules}
 use Rattle.normal.proofs.normalise_blocks.Goals as goal
-use Rattle.normal.proofs.normalise_blocks.Tie as tie
-use Rattle.normal.proofs.normalise_blocks.Goals.{After-jump-o, After-shared_slice_known-1, After-struct_known-1, After-word32-left}
-
-abbrev counting : After-jump-o → After-word32-left
-counting c = (goal.at.After-jump-o c).After-shared_slice_known-1
-
-abbrev turn : After-struct_known-1 → tie.In-loop-left
-turn c = c.before.before.before
 
 pub loop-left-init : goal.loop-left-init
 loop-left-init c =
-    let w = counting c in
-    (refl, λ xs n e. run-start w.type_inv.a e w.word32-left.ensures c.jump-o.ensures)
+    (refl, λ xs n e. run-start c.type_inv.a e c.word32-left.ensures c.jump-o.ensures)
 
 -- with one block more the sum is no more than the whole, which fits
 pub overflow_add-sum : goal.overflow_add-sum
 overflow_add-sum c =
-    let call = c.before.before.before.before in
-    let l = turn call in
-    let w = l.requires in
-    let below = run_below (l.loop-left.invariant.1 w.x w.end w.reads) local-block l.loop-left-test.taken call.normalise_block-passed.ensures in
+    let w = c.requires in
+    let below = run_below (c.loop-left.invariant.1 w.x w.end w.reads) local-block c.loop-left-test.taken c.normalise_block-passed.ensures in
     omega (arith, below, w.fits)
 
 pub loop-left-preserved : goal.loop-left-preserved
 loop-left-preserved c =
-    let call = c.before.before.before.before in
-    let l = turn call in
-    let inv = l.loop-left.invariant in
-    (call.normalise_block-passed.auto.0 ∙ inv.0, λ xs n e. run_next (inv.1 xs n e) local-block l.loop-left-test.taken call.normalise_block-passed.ensures)
+    let inv = c.loop-left.invariant in
+    (c.normalise_block-passed.auto.0 ∙ inv.0, λ xs n e. run_next (inv.1 xs n e) local-block c.loop-left-test.taken c.normalise_block-passed.ensures)
 
 pub returns : goal.returns
 returns c =

@@ -5,6 +5,4 @@ use Rattle.normal.proofs.normalise_convention.Goals as goal
 
 pub returns : goal.returns
 returns c =
-    let flag = c.before.before.before in
-    let end = flag.before.before in
-    convention-normal end.slice_known-1.given _ end.convention_end-end.ensures flag.normalise_flag.ensures
+    convention-normal c.slice_known-1.given _ c.convention_end-end.ensures c.normalise_flag.ensures

@@ -18,10 +18,8 @@ loop-left-init c = (refl, λ xs n e. run-start c.slice_known-1.given e c.word32-
 
 pub loop-left-preserved : goal.loop-left-preserved
 loop-left-preserved c =
-    let call = c.before.before.before in
-    let turn = call.before.before in
-    let inv = turn.loop-left.invariant in
-    (call.normalise_convention-o.auto.0 ∙ inv.0, λ xs n e. run_next (inv.1 xs n e) local-convention turn.loop-left-test.true call.normalise_convention-o.ensures)
+    let inv = c.loop-left.invariant in
+    (c.normalise_convention-o.auto.0 ∙ inv.0, λ xs n e. run_next (inv.1 xs n e) local-convention c.loop-left-test.true c.normalise_convention-o.ensures)
 
 pub returns : goal.returns
 returns c = record { when = λ xs n e. run_end (c.loop-left.invariant.1 xs n e) c.loop-left-test.false; sums = λ xs n e. refl }

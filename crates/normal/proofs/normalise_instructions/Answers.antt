@@ -15,33 +15,20 @@ use Rattle.laws.proofs.Local.{local-instruction}
 use Rattle.normal.proofs.Runs.{Run, run-start, run_next, run_end, run_sum}
 use borrow.Author.Rules.{rules}
 use Rattle.normal.proofs.normalise_instructions.Goals as goal
-use Rattle.normal.proofs.normalise_instructions.Tie as tie
-use Rattle.normal.proofs.normalise_instructions.Goals.{After-jump-o, After-shared_slice_known-1, After-struct_known-1, After-word32-left}
-
-abbrev counting : After-jump-o → After-word32-left
-counting c = (goal.at.After-jump-o c).After-shared_slice_known-1
-
-abbrev turn : After-struct_known-1 → tie.In-loop-left
-turn c = c.before.before.before
 
 pub loop-left-init : goal.loop-left-init
 loop-left-init c =
-    let w = counting c in
-    (refl, omega arith, λ xs n e. run-start w.type_inv.a e w.word32-left.ensures c.jump-o.ensures)
+    (refl, omega arith, λ xs n e. run-start c.type_inv.a e c.word32-left.ensures c.jump-o.ensures)
 
 -- a rate has 32 bits, and so has the count
 pub overflow_add-sum : goal.overflow_add-sum
 overflow_add-sum c =
-    let call = c.before.before.before.before in
-    let l = turn call in
-    omega (arith, call.normalise_instruction-passed.ensures.1, l.loop-left.invariant.1, l.loop-left-test.taken)
+    omega (arith, c.normalise_instruction-passed.ensures.1, c.loop-left.invariant.1, c.loop-left-test.taken)
 
 pub loop-left-preserved : goal.loop-left-preserved
 loop-left-preserved c =
-    let call = c.before.before.before.before in
-    let l = turn call in
-    let inv = l.loop-left.invariant in
-    (call.normalise_instruction-passed.auto.0 ∙ inv.0, omega (arith, call.normalise_instruction-passed.ensures.1, inv.1, l.loop-left-test.taken), λ xs n e. run_next (inv.2 xs n e) local-instruction l.loop-left-test.taken call.normalise_instruction-passed.ensures.0)
+    let inv = c.loop-left.invariant in
+    (c.normalise_instruction-passed.auto.0 ∙ inv.0, omega (arith, c.normalise_instruction-passed.ensures.1, inv.1, c.loop-left-test.taken), λ xs n e. run_next (inv.2 xs n e) local-instruction c.loop-left-test.taken c.normalise_instruction-passed.ensures.0)
 
 pub returns : goal.returns
 returns c =

@@ -8,10 +8,7 @@ use Rattle.op.specs.declared.Slot.{Slot}
 use Rattle.op.proofs.Packed.{low_below, known, bits-long}
 use borrow.Author.Rules.{rules}
 use Rattle.op.proofs.fast_lookup.Goals as goal
-use Rattle.op.proofs.fast_lookup.Goals.{After-low-v, After-slot_of}
-
-abbrev asked : After-slot_of → After-low-v
-asked c = (goal.at.After-slot_of c).After-low-v
+use Rattle.op.proofs.fast_lookup.Goals.{After-low-v}
 
 -- What is known there: n is at most 6, so the lowest n bytes are less than 2^48.
 short : (c : After-low-v) → c.args.n ≤ 6
@@ -29,12 +26,10 @@ code_of-requires c = at_bits _ _ _ _ c.bits_of.ensures c.slot_of.ensures
 
 pub returns : goal.returns
 returns c h s o b l e =
-    let f = (goal.at.returns c).After-slot_of in
-    let g = asked f in
-    let n = g.args.n in
+    let n = c.args.n in
     let q = c.code_of.ensures h in
-    let cut : g.low-v.result ≡ le 8 s o % 2 ^ (8 * n) = g.low-v.ensures ∙ ap (λ v. v % 2 ^ (8 * n)) e in
-    rw (sym q.1) (known s o n (bits n g.low-v.result) f.slot_of.result b l (short g) (q.0 ∙ cut) (code_of-requires f f.slot_of.lifetimes))
+    let cut : c.low-v.result ≡ le 8 s o % 2 ^ (8 * n) = c.low-v.ensures ∙ ap (λ v. v % 2 ^ (8 * n)) e in
+    rw (sym q.1) (known s o n (bits n c.low-v.result) c.slot_of.result b l (short (goal.at.returns c).After-low-v) (q.0 ∙ cut) (code_of-requires c c.slot_of.lifetimes))
 
 pub returns-then-n-lt2 : goal.returns-then-n-lt2
 returns-then-n-lt2 c h = absurd (omega arith)

@@ -8,29 +8,21 @@ use Rattle.op.specs.Text.{text, is_text}
 use Rattle.op.proofs.Text.{text-end, text_bad, text-next}
 use borrow.Author.Rules.{rules}
 use Rattle.op.proofs.is_text.Goals as goal
-use Rattle.op.proofs.is_text.Tie as tie
+use Rattle.op.proofs.is_text.Goals.{At-loop-i}
 
--- the turn at a byte, the bytes, and what is kept of them
-abbrev turn : tie.After-next_state-d → tie.At-loop-i
-turn c = c.before.before.before
-
-abbrev bytes : tie.At-loop-i → List ℕ
+abbrev bytes : At-loop-i → List ℕ
 bytes c = c.args.s.now
 
 pub returns-then-d-gt3 : goal.returns-then-d-gt3
 returns-then-d-gt3 c =
-    let n = c.before.before.before in
-    let t = turn n in
-    text_bad (bytes t) t.loop-i.d t.loop-i.i t.loop-i.invariant (omega arith) n.next_state-d.ensures (omega arith)
+    text_bad (bytes (goal.at.returns-then-d-gt3 c).At-loop-i) c.loop-i.d c.loop-i.i c.loop-i.invariant (omega arith) c.next_state-d.ensures (omega arith)
 
 pub loop-i-preserved : goal.loop-i-preserved
 loop-i-preserved c =
-    let n = c.before.before.before in
-    let t = turn n in
-    text-next (bytes t) t.loop-i.d t.loop-i.i t.loop-i.invariant (omega arith) n.next_state-d.ensures (omega arith)
+    text-next (bytes (goal.at.loop-i-preserved c).At-loop-i) c.loop-i.d c.loop-i.i c.loop-i.invariant (omega arith) c.next_state-d.ensures (omega arith)
 
 pub returns : goal.returns
-returns c = let t = c.before.before.before in text-end (bytes t) t.loop-i.d t.loop-i.i t.loop-i.invariant (omega arith)
+returns c = text-end (bytes (goal.at.returns c).At-loop-i) c.loop-i.d c.loop-i.i c.loop-i.invariant (omega arith)
 
 pub loop-i-init : goal.loop-i-init
 loop-i-init c = refl

@@ -13,28 +13,19 @@ use Rattle.outside.specs.Masks.{SoMany}
 use Rattle.outside.proofs.Runs.{Run, run-start, run_stands, run_next, run_end}
 use borrow.Author.Rules.{rules}
 use Rattle.outside.proofs.mask_blocks.Goals as goal
-use Rattle.outside.proofs.mask_blocks.Tie as tie
-use Rattle.outside.proofs.mask_blocks.Goals.{After-mask_block-arg-1}
 
 pub loop-blocks-init : goal.loop-blocks-init
 loop-blocks-init c = (refl, λ xs m h. run-start m h)
 
--- The way through the code, each place from the next.
-abbrev turn : After-mask_block-arg-1 → tie.In-loop-blocks
-turn c = c.before.before
-
 pub mask_block-o-requires : goal.mask_block-o-requires
 mask_block-o-requires c =
-    let l = turn c in
-    let w = l.requires in
-    run_stands (l.loop-blocks.invariant.1 w.x w.holds w.at) (omega (arith, l.loop-blocks-test.taken))
+    let w = c.requires in
+    run_stands (c.loop-blocks.invariant.1 w.x w.holds w.at) (omega (arith, c.loop-blocks-test.taken))
 
 pub loop-blocks-preserved : goal.loop-blocks-preserved
 loop-blocks-preserved c =
-    let call = c.before.before.before in
-    let l = turn call.before in
-    let inv = l.loop-blocks.invariant in
-    (call.mask_block-o.auto.0 ∙ inv.0, λ xs m h. run_next (inv.1 xs m h) block-kept (omega (arith, l.loop-blocks-test.taken)) call.mask_block-o.ensures)
+    let inv = c.loop-blocks.invariant in
+    (c.mask_block-o.auto.0 ∙ inv.0, λ xs m h. run_next (inv.1 xs m h) block-kept (omega (arith, c.loop-blocks-test.taken)) c.mask_block-o.ensures)
 
 pub returns : goal.returns
 returns c = λ xs m h. run_end (c.loop-blocks.invariant.1 xs m h) c.loop-blocks-test.false

@@ -6,20 +6,10 @@ use lib.ListN.{length}
 use Rattle.outside.proofs.Parts.{count-within, operands_stand, tail_within, instruction-masked}
 use borrow.Author.Rules.{rules}
 use Rattle.outside.proofs.mask_instruction.Goals as goal
-use Rattle.outside.proofs.mask_instruction.Goals.{After-four, After-four-count, After-slice_known-1, After-slice_known-2-1, Start}
-
--- The way through the code, each place from the next.
-abbrev start : After-four → Start
-start c = c.before.before.before
-
-abbrev sizing : After-four-count → After-four
-sizing c = (goal.at.After-four-count c).After-slice_known-1
-
-abbrev counting : After-slice_known-2-1 → After-four-count
-counting c = c.before.before.before
+use Rattle.outside.proofs.mask_instruction.Goals.{After-four}
 
 -- the count is within, which the name's size says
-within : (c : After-four) → let s = start c in s.args.at + 4 + c.four.result + 4 ≤ length s.args.a-1.now
+within : (c : After-four) → c.args.at + 4 + c.four.result + 4 ≤ length c.args.a.now
 within c = let w = c.requires in count-within w.x w.holds w.at c.four.ensures
 
 pub four-requires : goal.four-requires
@@ -29,28 +19,21 @@ pub overflow_add-counted : goal.overflow_add-counted
 overflow_add-counted c = record { fits = omega (arith, within c) }
 
 pub four-count-requires : goal.four-count-requires
-four-count-requires c = within (goal.at.four-count-requires c).After-slice_known-1
+four-count-requires c = within c
 
 pub overflow_add-operands : goal.overflow_add-operands
 overflow_add-operands c = record { fits = omega (arith, within (goal.at.overflow_add-operands c).After-four) }
 
 pub mask_operands-tail-requires : goal.mask_operands-tail-requires
 mask_operands-tail-requires c =
-    let count = (goal.at.mask_operands-tail-requires c).After-four-count in
-    let size = sizing count in
-    let w = size.requires in
-    operands_stand w.x w.holds w.at size.four.ensures count.four-count.ensures
+    let w = c.requires in
+    operands_stand w.x w.holds w.at c.four.ensures c.four-count.ensures
 
 pub overflow_add-result : goal.overflow_add-result
 overflow_add-result c =
-    let call = c.before.before.before in
-    let count = counting call in
-    let size = sizing count in
-    let w = size.requires in
-    record { fits = omega (arith, tail_within w.x w.holds w.at size.four.ensures count.four-count.ensures call.mask_operands-tail.ensures) }
+    let w = c.requires in
+    record { fits = omega (arith, tail_within w.x w.holds w.at c.four.ensures c.four-count.ensures c.mask_operands-tail.ensures) }
 
 pub returns : goal.returns
 returns c =
-    let call = c.before.before.before in
-    let count = counting call in
-    λ i h a. instruction-masked i h a count.four.ensures count.four-count.ensures call.mask_operands-tail.ensures
+    λ i h a. instruction-masked i h a c.four.ensures c.four-count.ensures c.mask_operands-tail.ensures

@@ -4,17 +4,7 @@ use Prim.Native.Nat.{◌≤◌}
 use Rattle.outside.proofs.Parts.{operand-within, kind-small, times-kind, operand_masked}
 use borrow.Author.Rules.{rules}
 use Rattle.outside.proofs.mask_operand.Goals as goal
-use Rattle.outside.proofs.mask_operand.Goals.{After-eight, After-four-kind, After-slice_known-1, After-slice_known-2-1, Start}
-
--- The way through the code, each place from the next.
-abbrev start : After-four-kind → Start
-start c = c.before.before.before
-
-abbrev reading : After-eight → After-four-kind
-reading c = (goal.at.After-eight c).After-slice_known-1
-
-abbrev storing : After-slice_known-2-1 → After-eight
-storing c = c.before.before.before
+use Rattle.outside.proofs.mask_operand.Goals.{After-four-kind}
 
 -- What is known at them.
 small : (c : After-four-kind) → c.four-kind.result ≤ 1
@@ -36,10 +26,8 @@ pub overflow_mul-more : goal.overflow_mul-more
 overflow_mul-more c = record { fits = omega (arith, small (goal.at.overflow_mul-more c).After-four-kind) }
 
 pub overflow_add-result-2 : goal.overflow_add-result-2
-overflow_add-result-2 c = record { fits = omega (arith, small (goal.at.overflow_add-result-2 c).After-four-kind, operand-within (start (reading (storing c.before.before.before))).requires) }
+overflow_add-result-2 c = record { fits = omega (arith, small (goal.at.overflow_add-result-2 c).After-four-kind, operand-within c.requires) }
 
 pub returns : goal.returns
 returns c =
-    let put = c.before.before.before in
-    let value = storing put in
-    operand_masked value.four-kind.ensures value.eight.ensures put.put_u64.ensures
+    operand_masked c.four-kind.ensures c.eight.ensures c.put_u64.ensures

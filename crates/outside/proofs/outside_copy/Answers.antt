@@ -17,32 +17,28 @@ use Rattle.image.proofs.Fills.{sound-filled}
 use Rattle.outside.proofs.Copies.{too_large, not-held, no_room, copied}
 use borrow.Author.Rules.{rules}
 use Rattle.outside.proofs.outside_copy.Goals as goal
-use Rattle.outside.proofs.outside_copy.Tie as tie
-use Rattle.outside.proofs.outside_copy.Goals.{Else-not-is_lent, Start}
+use Rattle.outside.proofs.outside_copy.Goals.{After-inspect-refusal, After-is_lent, After-shared_slice_known-1, Else-copy-written, Else-not-is_lent, Else-refusal-ne0, Start}
 
 -- The way through the code, each place from the next.
-abbrev known : tie.After-is_lent → tie.After-shared_slice_known-1
-known c = c.before.before.before
+abbrev known : After-is_lent → After-shared_slice_known-1
+known c = (goal.at.After-is_lent c).After-shared_slice_known-1
 
-abbrev start : tie.After-is_lent → Start
-start c = (known c).before
-
-abbrev asking : tie.After-inspect-refusal → Else-not-is_lent
-asking c = c.before
+abbrev asking : After-inspect-refusal → Else-not-is_lent
+asking c = (goal.at.After-inspect-refusal c).Else-not-is_lent
 
 abbrev begin : Else-not-is_lent → Start
-begin c = start c.before.before
+begin c = (goal.at.Else-not-is_lent c).Start
 
 -- here the book is not spoiled,
 abbrev Held : Type 0
-Held = tie.Else-refusal-ne0
+Held = Else-refusal-ne0
 
 abbrev at_start : Held → Start
 at_start c = begin (asking c.before)
 
 -- and here there is room
 abbrev Roomy : Type 0
-Roomy = tie.Else-copy-written
+Roomy = Else-copy-written
 
 abbrev testing : Roomy → Held
 testing c = c.before
@@ -51,16 +47,16 @@ abbrev S : Start → State
 S s = state s.args.image.now s.args.journal.now s.args.book
 
 abbrev C : Start → List ℕ
-C s = s.args.copy-1.now
+C s = s.args.copy.now
 
 -- What is known at them.
-lent : (c : Else-not-is_lent) → length (C (begin c)) ≤ most_lent
+lent : (c : Else-not-is_lent) → length (C (goal.at.Else-not-is_lent c).Start) ≤ most_lent
 lent c = leb-true _ _ (sym c.is_lent.ensures ∙ not-false _ c.if-not-is_lent.false)
 
 inspected : (c : Held) → Ready (S (at_start c))
 inspected c =
     let i = c.before in
-    ready _ i.type_inv.image i.inspect-refusal.ensures (omega (arith, c.if-refusal-ne0.false))
+    ready _ (known (asking i).before).type_inv.image i.inspect-refusal.ensures (omega (arith, c.if-refusal-ne0.false))
 
 -- the answer and the second image of the call, where both are known
 both : (s : Start) {r : Written} {left : List ℕ} {x : Outcome ℕ × List ℕ} → outside_copy (S s) (C s) ≡ x → r ≡ write_answer x.0 → left ≡ x.1
@@ -73,35 +69,29 @@ written-size e = rw e
 
 pub returns-then-not-is_lent : goal.returns-then-not-is_lent
 returns-then-not-is_lent c =
-    let test = c.before.before.before in
-    let s = start test in
-    both s (too_large (S s) (C s) (leb-false _ _ (sym test.is_lent.ensures ∙ not-true _ c.if-not-is_lent.true))) c.refuse.ensures refl
+    let here = goal.at.returns-then-not-is_lent c in
+    both here.Start (too_large (S here.Start) (C here.Start) (leb-false _ _ (sym c.is_lent.ensures ∙ c.if-not-is_lent.true))) c.refuse.ensures refl
 
 pub returns-then-refusal-ne0 : goal.returns-then-refusal-ne0
 returns-then-refusal-ne0 c =
-    let i = c.before.before.before in
-    let s = begin (asking i) in
-    both s (not-held (S s) (C s) (lent (asking i)) (refused-by _ i.inspect-refusal.ensures (λ z. omega (arith, c.if-refusal-ne0.true)))) c.refuse-then-refusal-ne0.ensures refl
+    let here = goal.at.returns-then-refusal-ne0 c in
+    both here.Start (not-held (S here.Start) (C here.Start) (lent here.Else-not-is_lent) (refused-by _ c.inspect-refusal.ensures (λ z. omega (arith, c.if-refusal-ne0.true)))) c.refuse-then-refusal-ne0.ensures refl
 
 pub returns-then-copy-written : goal.returns-then-copy-written
 returns-then-copy-written c =
-    let h = c.before.before.before in
-    let s = at_start h in
-    let r = inspected h in
-    both s (no_room (S s) (C s) (lent (asking h.before)) r.is (omega (arith, c.if-copy-written.true, r.sound.written))) c.refuse-then-copy-written.ensures refl
+    let s = at_start c in
+    let r = inspected c in
+    both s (no_room (S s) (C s) (lent (goal.at.returns-then-copy-written c).Else-not-is_lent) r.is (omega (arith, c.if-copy-written.true, r.sound.written))) c.refuse-then-copy-written.ensures refl
 
 pub put_masked-requires : goal.put_masked-requires
 put_masked-requires c =
-    let room = c.before.before in
-    let r = inspected (testing room) in
-    (record { x = r.routine; filled = sound-filled r.sound }, omega (arith, room.if-copy-written.false))
+    let r = inspected (testing c) in
+    (record { x = r.routine; filled = sound-filled r.sound }, omega (arith, c.if-copy-written.false))
 
 pub returns : goal.returns
 returns c =
-    let call = c.before.before.before in
-    let room = call.before.before in
-    let h = testing room in
+    let h = testing c in
     let s = at_start h in
     let r = inspected h in
-    both s (copied (S s) (C s) (lent (asking h.before)) r.is (omega (arith, room.if-copy-written.false, r.sound.written)))
-    (written-size r.sound.written) (call.put_masked.ensures r.routine (sound-filled r.sound))
+    both s (copied (S s) (C s) (lent (asking h.before)) r.is (omega (arith, c.if-copy-written.false, r.sound.written)))
+    (written-size r.sound.written) (c.put_masked.ensures r.routine (sound-filled r.sound))

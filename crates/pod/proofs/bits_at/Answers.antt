@@ -3,14 +3,11 @@ use Rattle.pod.proofs.Signed.{stands}
 use Rattle.fields.proofs.Steps.{steps}
 use borrow.Author.Rules.{rules}
 use Rattle.pod.proofs.bits_at.Goals as goal
-use Rattle.pod.proofs.bits_at.Goals.{In-Value-offset}
 
 pub returns-in-Value-offset : goal.returns-in-Value-offset
 returns-in-Value-offset c =
-    let offset = (goal.at.returns-in-Value-offset c).In-Value-offset in
-    let width = offset.before.before.before.before.before.before in
-    let w = width.in-Value.w in
-    let o = offset.in-Value-offset.o in
+    let w = c.in-Value.w in
+    let o = c.in-Value-offset.o in
     (stands _ _ w o (search rules) (search rules) (search (rules, steps)), c.is_slice.ensures)
 
 pub returns-in_default-offset : goal.returns-in_default-offset

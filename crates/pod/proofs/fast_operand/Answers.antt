@@ -5,24 +5,14 @@ use Rattle.fields.proofs.Le.{le_lt}
 use Rattle.pod.proofs.Fast.{fast, small, small_reach}
 use borrow.Author.Rules.{rules}
 use Rattle.pod.proofs.fast_operand.Goals as goal
-use Rattle.pod.proofs.fast_operand.Goals.{After-four-kind, After-four-offset, After-shared_slice_known-1, Else-kind-top-gt2}
-
--- The way through the code, each place from the next.
-abbrev kind_read : Else-kind-top-gt2 → After-four-kind
-kind_read c = (goal.at.Else-kind-top-gt2 c).After-four-kind
-
-abbrev passed : After-four-offset → Else-kind-top-gt2
-passed c = (goal.at.After-four-offset c).Else-kind-top-gt2
-
-abbrev lent : After-four-kind → After-shared_slice_known-1
-lent c = (goal.at.After-four-kind c).After-shared_slice_known-1
+use Rattle.pod.proofs.fast_operand.Goals.{After-four-offset}
 
 -- the width and the offset are numbers of 32 bits
 width_fits : (c : After-four-offset) → c.four-width.result < 2 ^ 32
-width_fits c = rw c.four-width.ensures (le_lt 4 _ _ (lent (kind_read (passed c))).type_inv.s)
+width_fits c = rw c.four-width.ensures (le_lt 4 _ _ c.type_inv.s)
 
 offset-fits : (c : After-four-offset) → c.four-offset.result < 2 ^ 32
-offset-fits c = rw c.four-offset.ensures (le_lt 4 _ _ (lent (kind_read (passed c))).type_inv.s)
+offset-fits c = rw c.four-offset.ensures (le_lt 4 _ _ c.type_inv.s)
 
 pub returns-then-kind-gt1 : goal.returns-then-kind-gt1
 returns-then-kind-gt1 c = λ h. absurd (omega arith)
@@ -35,12 +25,10 @@ returns-then-kind-top-gt2 c = λ h. absurd (omega arith)
 
 pub returns : goal.returns
 returns c = λ h.
-    let p = passed c in
-    let k = kind_read p in
-    let w = p.before.before.before in (
-      fast _ _ k.type_inv.s k.requires _ _ _ _ k.four-kind.ensures w.wide-top.ensures c.four-width.ensures c.four-offset.ensures
-          p.if-kind-gt1.left p.if-kind-top-gt2.left,
-      omega (arith, p.if-kind-gt1.left),
+    (
+      fast _ _ c.type_inv.s c.requires _ _ _ _ c.four-kind.ensures c.wide-top.ensures c.four-width.ensures c.four-offset.ensures
+          c.if-kind-gt1.false c.if-kind-top-gt2.false,
+      omega (arith, c.if-kind-gt1.false),
     )
 
 pub overflow_add-reach : goal.overflow_add-reach

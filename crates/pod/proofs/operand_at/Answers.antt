@@ -14,7 +14,7 @@ returns-in_default-immediate c = search (rules, steps)
 
 pub returns-in-Value-register : goal.returns-in-Value-register
 unfolding operand
-returns-in-Value-register c = let told = c.before.before in (search (rules, steps), register-told told.in-Value-register.is told.register_at-register.ensures.1)
+returns-in-Value-register c = (search (rules, steps), register-told c.in-Value-register.is c.register_at-register.ensures.1)
 
 pub returns-in_default-register : goal.returns-in_default-register
 unfolding operand

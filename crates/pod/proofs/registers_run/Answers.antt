@@ -17,16 +17,14 @@ enum_told-1 c = search rules
 
 pub returns-in_default : goal.returns-in_default
 returns-in_default c =
-    let d = c.before.before.before.before in
-    judge_stop register is_sound _ _ _ _ d.loop-left.invariant d.loop-left-test.true
-    (sym (handed (ap of_register c.in_default.is) d.register_at-register.ensures.0 c.register_refusal.ensures))
+    judge_stop register is_sound _ _ _ _ c.loop-left.invariant c.loop-left-test.true
+    (sym (handed (ap of_register c.in_default.is) c.register_at-register.ensures.0 c.register_refusal.ensures))
 
 pub loop-left-preserved : goal.loop-left-preserved
 loop-left-preserved c =
-    let d = c.before.before.before.before in
     let told = c.in-Value.is in
-    judge_next register is_sound _ _ _ _ d.loop-left.invariant d.loop-left-test.true (sym d.register_at-register.ensures.0 ∙ ap of_register told)
-    (register-told told d.register_at-register.ensures.1)
+    judge_next register is_sound _ _ _ _ c.loop-left.invariant c.loop-left-test.true (sym c.register_at-register.ensures.0 ∙ ap of_register told)
+    (register-told told c.register_at-register.ensures.1)
 
 pub returns : goal.returns
 returns c = judge_end register is_sound _ _ _ _ c.loop-left.invariant c.loop-left-test.false

@@ -11,31 +11,24 @@ use Rattle.pread.specs.Answers.{convention_read}
 use Rattle.pread.proofs.Found.{accepts, refuses}
 use borrow.Author.Rules.{rules}
 use Rattle.pread.proofs.convention_at.Goals as goal
-use Rattle.pread.proofs.convention_at.Tie as tie
-use Rattle.pread.proofs.convention_at.Goals.{In-Past, In-Past-1, In_default}
-
-abbrev walking : In-Past → tie.After-convention_skip-far
-walking c = (goal.at.In-Past c).In-Past-1
+use Rattle.pread.proofs.convention_at.Goals.{In-Past-2}
 
 -- the convention that was walked over
-there : (c : In-Past) → let a = c.args in (k : RoutineConvention) × (convention a.s.now a.at ≡ ok k c.in-Past.end)
+there : (c : In-Past-2) → let a = c.args in (k : RoutineConvention) × (convention a.s.now a.at ≡ ok k c.in-Past.end)
 there c = accepts convention convention_bytes convention_sound _ _ (ap of_walked c.in-Past.is) c.convention_skip-far.ensures
 
 pub convention_there-requires : goal.convention_there-requires
 convention_there-requires c =
-    let far = c.before.before in
-    let w = walking far in
-    convention-within _ w.type_inv.s _ (walked-past convention convention_bytes convention_sound _ _ (sym w.convention_skip-far.ensures ∙ ap of_walked far.in-Past.is))
+    convention-within _ c.type_inv.s _ (walked-past convention convention_bytes convention_sound _ _ (sym c.convention_skip-far.ensures ∙ ap of_walked c.in-Past.is))
 
 pub returns-in-Past : goal.returns-in-Past
 returns-in-Past c =
-    let k = there (goal.at.returns-in-Past c).In-Past in
+    let k = there (goal.at.returns-in-Past c).In-Past-2 in
     c.convention_there.ensures k.0 k.1 ∙ ap (convention_read _) (sym k.1)
 
 pub returns-in_default : goal.returns-in_default
 unfolding convention_read
 returns-in_default c =
-    let told = (goal.at.returns-in_default c).In_default in
-    let walk = told.convention_skip-far in
+    let walk = c.convention_skip-far in
     c.no_convention.ensures
-    ∙ ap (convention_read _) (sym (refuses convention convention_bytes convention_sound _ _ (ap of_walked told.in_default.is) walk.ensures c.walked_refusal.ensures))
+    ∙ ap (convention_read _) (sym (refuses convention convention_bytes convention_sound _ _ (ap of_walked c.in_default.is) walk.ensures c.walked_refusal.ensures))

@@ -21,12 +21,11 @@ use Rattle.image.proofs.Here as B
 use Rattle.remove.proofs.Steps as K
 use borrow.Author.Rules.{rules}
 use Rattle.remove.proofs.remove_block.Goals as goal
-use Rattle.remove.proofs.remove_block.Tie as tie
-use Rattle.remove.proofs.remove_block.Goals.{After-accept, After-accept-arg-1, After-block_end-end, After-put_entry-arg-2-1, After-struct_known-1, After-swap_remove-arg-1, Else-found-place, Start}
+use Rattle.remove.proofs.remove_block.Goals.{After-admit-refusal, After-block_end-end, After-find-found, After-put_entry, After-sum_of_block-less, Else-found-place, Else-refusal-ne0, Else-sum-less, Start}
 
 -- the state at entry, the routine that it holds, the place of the vip, and the block there
 abbrev S : Start → State
-S s = state s.args.image-1.now s.args.journal-1.now s.args.book
+S s = state s.args.image.now s.args.journal.now s.args.book
 
 abbrev R : Start → Routine
 R s = s.requires.r
@@ -37,76 +36,67 @@ P s = place s.args.vip.0 (R s).explored_blocks
 abbrev W : Start → ℕ
 W s = weight (block_at (P s) (R s).explored_blocks)
 
-holding : (s : Start) → Holding s.args.image-1.now (R s)
+holding : (s : Start) → Holding s.args.image.now (R s)
 holding s = sound-holding s.requires.sound
 
 lent : (s : Start) → (size (R s) ≤ 16777216) × (s.args.book.used ≤ 16777216)
 lent s = let g = s.requires.sound in (omega (arith, g.room, g.image_lent), omega (arith, g.used, g.journal_lent))
 
 -- The way through the code, each place from the next: every distance is counted here.
-abbrev start : After-struct_known-1 → Start
-start c = (goal.at.After-struct_known-1 c).Start
-
-abbrev finding : Else-found-place → tie.After-find-found
-finding c = c.before.before.before
+abbrev start : After-find-found → Start
+start c = (goal.at.After-find-found c).Start
 
 abbrev being_there : After-block_end-end → Else-found-place
-being_there c = (goal.at.After-block_end-end c).After-struct_known-1
+being_there c = (goal.at.After-block_end-end c).Else-found-place
 
-abbrev ending : tie.After-admit-refusal → After-block_end-end
-ending c = c.before
+abbrev ending : After-admit-refusal → After-block_end-end
+ending c = (goal.at.After-admit-refusal c).After-block_end-end
 
 -- here there is room,
 abbrev Roomy : Type 0
-Roomy = tie.Else-refusal-ne0
+Roomy = Else-refusal-ne0
 
-abbrev testing : Roomy → tie.After-admit-refusal
+abbrev testing : Roomy → After-admit-refusal
 testing c = c.before
 
-abbrev summing : tie.After-sum_of_block-less → Roomy
+abbrev summing : After-sum_of_block-less → Roomy
 summing c = c.before.before
 
 -- and here every test is passed
 abbrev Passed : Type 0
-Passed = tie.Else-sum-less
+Passed = Else-sum-less
 
-abbrev comparing : Passed → tie.After-sum_of_block-less
+abbrev comparing : Passed → After-sum_of_block-less
 comparing c = c.before
 
 abbrev at_end : Passed → After-block_end-end
 at_end c = ending (testing (summing (comparing c)))
 
-abbrev passing : After-swap_remove-arg-1 → Passed
-passing c = (goal.at.After-swap_remove-arg-1 c).After-put_entry-arg-2-1
-
-abbrev entering : After-accept-arg-1 → tie.After-put_entry
-entering c = (goal.at.After-accept-arg-1 c).After-swap_remove-arg-1
-
-abbrev removing : After-accept → tie.After-swap_remove
-removing c = c.before.before.before.before
+abbrev passing : After-put_entry → Passed
+passing c = c.before.before.before.before
 
 -- What is known at them.
-finds : (c : After-struct_known-1) → Finds (R (start c)) c.args.vip.0 c.find-found.result
-finds c = c.find-found.ensures (R (start c)) (holding (start c))
+finds : (c : After-find-found) → Finds (R (goal.at.After-find-found c).Start) c.args.vip.0 c.find-found.result
+finds c = let here = goal.at.After-find-found c in c.find-found.ensures (R here.Start) (holding here.Start)
 
-there : (c : Else-found-place) → (let s = start (finding c) in P s < length (R s).explored_blocks)
-there c = let f = finding c in omega (arith, c.if-found-place.false, (finds f).place, (finds f).count)
+there : (c : Else-found-place) → ( P (goal.at.Else-found-place c).Start < length (R (goal.at.Else-found-place c).Start).explored_blocks)
+there c = let here = goal.at.Else-found-place c in omega (arith, c.if-found-place.false, (finds here.After-find-found).place, (finds here.After-find-found).count)
 
 -- at the end of the block, which stands in the routine
 module _ (c : After-block_end-end) where
-  abbrev f : tie.After-find-found
-  f = finding (being_there c)
+  abbrev f : After-find-found
+  f = (goal.at.After-block_end-end c).After-find-found
 
   abbrev s : Start
-  s = start f
+  s = (goal.at.After-block_end-end c).Start
 
   ends : c.block_end-end.result ≡ f.find-found.result.at + W s
-  ends = c.block_end-end.ensures ∙ B.end-here (R s) (P s) (there (goal.at.After-block_end-end c).Else-found-place) s.args.image-1.now (holding s) _ (finds f).at
+  ends = c.block_end-end.ensures ∙ B.end-here (R s) (P s) (there (goal.at.After-block_end-end c).Else-found-place) s.args.image.now (holding s) _ (finds f).at
 
   whole : c.block_end-end.result ≤ size (R s)
   whole = omega (arith, ends, (finds f).at, B.tail-size (R s) (P s) (there (goal.at.After-block_end-end c).Else-found-place))
 
-  removable : Removable (R s) (P s) s.args.image-1.now f.find-found.result.at c.block_end-end.result s.args.book.written
+  removable : Removable (R s) (P s) s.args.image.now f.find-found.result.at c.block_end-end.result s.args.book.written
   removable =
       let g = s.requires.sound in
       record {
@@ -133,48 +123,46 @@ module _ (c : After-block_end-end) where
 no-refusal : (c : Roomy) → (testing c).admit-refusal.result ≡ 0
 no-refusal c = omega (arith, c.if-refusal-ne0.false)
 
-room : (c : Roomy) → (let e = ending (testing c) in (s e).args.book.used + size_of e + 20 ≤ length (s e).args.journal-1.now)
+room : (c : Roomy) → (let e = ending (testing c) in (s e).args.book.used + size_of e + 20 ≤ length (s e).args.journal.now)
 room c =
     let e = ending (testing c) in
     (K.room (S (s e)) (R (s e)) (s e).requires.sound (s e).requires.none_open _ (there (being_there e)) _ _ (is_left e) (is_spent e) (testing c).admit-refusal.ensures (no-refusal c)).1
 
 -- what the block comes to
-comes_to : (c : tie.After-sum_of_block-less) → let s = s (ending (testing (summing c))) in
+comes_to : (c : After-sum_of_block-less) → let s = s (ending (testing (summing c))) in
     c.sum_of_block-less.result ≡ block_sum s.args.book.rates.rate (block_at (P s) (R s).explored_blocks)
 comes_to c =
     let e = ending (testing (summing c)) in
     let s = s e in
-    c.sum_of_block-less.ensures _ _ (B.read_here (R s) (P s) (there (being_there e)) s.args.image-1.now (holding s) _ (finds (f e)).at)
+    c.sum_of_block-less.ensures _ _ (B.read_here (R s) (P s) (there (being_there e)) s.args.image.now (holding s) _ (finds (f e)).at)
 
 pub returns-then-found-place : goal.returns-then-found-place
 returns-then-found-place c =
-    let f = c.before.before.before.before in
-    let s = start f in
+    let here = goal.at.returns-then-found-place c in
     c.refuse.ensures _ _ (omega arith)
-    ∙ sym (K.no_block (S s) (R s) s.requires.sound s.requires.none_open _ (omega (arith, c.if-found-place.true, (finds f).place, (finds f).count)))
+    ∙ sym (K.no_block (S here.Start) (R here.Start) c.requires.sound c.requires.none_open _ (omega (arith, c.if-found-place.true, (finds here.After-find-found).place, (finds here.After-find-found).count)))
 
 pub returns-then-refusal-ne0 : goal.returns-then-refusal-ne0
 returns-then-refusal-ne0 c =
-    let t = c.before.before.before in
-    let e = ending t in
+    let here = goal.at.returns-then-refusal-ne0 c in
     c.refuse-then-refusal-ne0.ensures _ _ (omega (arith, c.if-refusal-ne0.true))
-    ∙ sym (K.not_admitted (S (s e)) (R (s e)) (s e).requires.sound (s e).requires.none_open _ (there (goal.at.After-block_end-end e).Else-found-place) _ _ (is_left e) (is_spent e) t.admit-refusal.ensures (λ z. omega (arith, z, c.if-refusal-ne0.true)))
+    ∙ sym (K.not_admitted (S here.Start) (R here.Start) c.requires.sound c.requires.none_open _ (there here.Else-found-place) _ _ (is_left here.After-block_end-end) (is_spent here.After-block_end-end) c.admit-refusal.ensures (λ z. omega (arith, z, c.if-refusal-ne0.true)))
 
 pub returns-then-sum-less : goal.returns-then-sum-less
 returns-then-sum-less c =
-    let k = c.before.before.before in
-    let a = summing k in
+    let here = goal.at.returns-then-sum-less c in
+    let a = summing here.After-sum_of_block-less in
     let t = testing a in
     let e = ending t in
     c.refuse-then-sum-less.ensures _ _ (omega arith)
-    ∙ sym (K.sum-short (S (s e)) (R (s e)) (s e).requires.sound (s e).requires.none_open _ (there (goal.at.After-block_end-end e).Else-found-place) _ _ (is_left e) (is_spent e) t.admit-refusal.ensures (no-refusal a) (comes_to k) (omega (arith, c.if-sum-less.true)))
+    ∙ sym (K.sum-short (S (s e)) (R (s e)) (s e).requires.sound (s e).requires.none_open _ (there (being_there e)) _ _ (is_left e) (is_spent e) t.admit-refusal.ensures (no-refusal a) (comes_to here.After-sum_of_block-less) (omega (arith, c.if-sum-less.true)))
 
 pub put_entry-requires : goal.put_entry-requires
-put_entry-requires c = let a = summing (comparing c.before.before.before.before) in (omega (arith, room a), omega (arith, (s (ending (testing a))).requires.sound.journal_lent))
+put_entry-requires c = let a = summing (comparing c.before.before.before) in (omega (arith, room a), omega (arith, (s (ending (testing a))).requires.sound.journal_lent))
 
 pub swap_remove-requires : goal.swap_remove-requires
 swap_remove-requires c =
-    let e = at_end (passing c.before.before.before.before) in
+    let e = at_end (passing (goal.at.swap_remove-requires c).After-put_entry) in
     record { r = R (s e); i = P (s e); removable = removable e }
 
 -- a sum has 64 bits
@@ -183,37 +171,35 @@ sum_fits s = omega arith
 
 pub returns : goal.returns
 returns c =
-    let w = removing c in
-    let n = entering w in
-    let l = passing n in
+    let l = passing (goal.at.returns c).After-put_entry in
     let k = comparing l in
     let a = summing k in
     let e = ending (testing a) in
     let s = s e in
-    let x = B.part-here (R s) (P s) (there (being_there e)) s.args.image-1.now (holding s) _ _ (finds (f e)).at (ends e) in
+    let x = B.part-here (R s) (P s) (there (being_there e)) s.args.image.now (holding s) _ _ (finds (f e)).at (ends e) in
     c.accept.ensures _ _
     ∙ K.removed (S s) (R s) s.requires.sound s.requires.none_open _ (there (being_there e)) _ _ (is_left e) (is_spent e) (testing a).admit-refusal.ensures (no-refusal a) (comes_to k)
-    (omega (arith, l.if-sum-less.left)) (sum_fits s) _ _
-    (w.swap_remove.ensures (R s) (P s) (removable e))
-    (n.put_entry.ensures ∙ ap₂ (λ i x. put s.args.book.used (x ++ trailer_bytes (trailer_with s.args.vip.0 i (length x) 2)) s.args.journal-1.now) (finds (f e)).place x)
+    (omega (arith, l.if-sum-less.false)) (sum_fits s) _ _
+    (c.swap_remove.ensures (R s) (P s) (removable e))
+    (c.put_entry.ensures ∙ ap₂ (λ i x. put s.args.book.used (x ++ trailer_bytes (trailer_with s.args.vip.0 i (length x) 2)) s.args.journal.now) (finds (f e)).place x)
 
 pub overflow_sub-size : goal.overflow_sub-size
 overflow_sub-size c = omega (arith, ends c)
 
 pub overflow_sub-left : goal.overflow_sub-left
-overflow_sub-left c = omega (arith, ends c, whole c, (s c).requires.sound.written)
+overflow_sub-left c = omega (arith, ends c, whole c, c.requires.sound.written)
 
 pub overflow_add-spent : goal.overflow_add-spent
-overflow_add-spent c = omega (arith, ends c, whole c, lent (s c))
+overflow_add-spent c = omega (arith, ends c, whole c, lent (goal.at.overflow_add-spent c).Start)
 
 pub overflow_add-spent-2 : goal.overflow_add-spent-2
-overflow_add-spent-2 c = omega (arith, ends c, whole c, lent (s c))
+overflow_add-spent-2 c = omega (arith, ends c, whole c, lent (goal.at.overflow_add-spent-2 c).Start)
 
 pub slice_bounds-put_entry-count : goal.slice_bounds-put_entry-count
-slice_bounds-put_entry-count c = omega (arith, ends (at_end c.before.before))
+slice_bounds-put_entry-count c = omega (arith, ends (at_end c.before))
 
 pub slice_bounds-put_entry-start : goal.slice_bounds-put_entry-start
-slice_bounds-put_entry-start c = let e = at_end c.before.before.before in omega (arith, ends e, whole e, (s e).requires.sound.room)
+slice_bounds-put_entry-start c = let e = at_end c.before.before in omega (arith, ends e, whole e, (s e).requires.sound.room)
 
 pub slice_bounds-put_entry-end : goal.slice_bounds-put_entry-end
-slice_bounds-put_entry-end c = let e = at_end c.before.before.before in omega (arith, ends e, whole e, (s e).requires.sound.room)
+slice_bounds-put_entry-end c = let e = at_end c.before.before in omega (arith, ends e, whole e, (s e).requires.sound.room)

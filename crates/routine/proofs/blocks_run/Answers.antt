@@ -20,14 +20,7 @@ use Rattle.routine.proofs.Notes.{Noting, noting_start, noting_more, noting_end}
 use Rattle.routine.proofs.Rising.{RisesFrom, rises-more, rises-end, all_different}
 use borrow.Author.Rules.{rules}
 use Rattle.routine.proofs.blocks_run.Goals as goal
-use Rattle.routine.proofs.blocks_run.Tie as tie
-use Rattle.routine.proofs.blocks_run.Goals.{After-either-from, After-floor_after-floor, After-shared_slice_known-1, After-word64, In-loop-left, In_default}
-
-abbrev start : tie.At-loop-left → After-shared_slice_known-1
-start c = c.before.before
-
-abbrev test : tie.After-block_skip-far → In-loop-left
-test c = c.before
+use Rattle.routine.proofs.blocks_run.Goals.{After-shared_slice_known-1}
 
 all : (c : After-shared_slice_known-1) → Fills block block_bytes c.args.s.now
 all c = fills block_layout c.type_inv.s
@@ -37,30 +30,22 @@ loop-left-init c = (walk_start block block_bytes (all (goal.at.loop-left-init c)
 
 pub returns-in_default : goal.returns-in_default
 returns-in_default c =
-    let told = (goal.at.returns-in_default c).In_default in
-    let call = told.before.before.before in
-    let loop = (test call).before.before in (
-      walk_stop block block_bytes (all (start loop)) block_sound _ _ _ loop.loop-left.invariant.0 call.loop-left-test.true
-          (sym (handed (ap of_walked told.in_default.is) call.block_skip-far.ensures c.walked_refusal.ensures)),
+    (
+      walk_stop block block_bytes (all (goal.at.returns-in_default c).After-shared_slice_known-1) block_sound _ _ _ c.loop-left.invariant.0 c.loop-left-test.true
+          (sym (handed (ap of_walked c.in_default.is) c.block_skip-far.ensures c.walked_refusal.ensures)),
       λ w. false-true w,
       tt,
     )
 
 pub loop-left-preserved : goal.loop-left-preserved
 loop-left-preserved c =
-    let noted = (goal.at.loop-left-preserved c).After-either-from in
-    let floor = (goal.at.After-either-from noted).After-floor_after-floor in
-    let vip = (goal.at.After-floor_after-floor floor).After-word64 in
-    let far = vip.before.before.before in
-    let call = far.before.before in
-    let loop = (test call).before.before in
-    let i = loop.loop-left.invariant in
-    let h = call.loop-left-test.true in
-    let past = sym call.block_skip-far.ensures ∙ ap of_walked far.in-Past.is in
+    let i = c.loop-left.invariant in
+    let h = c.loop-left-test.true in
+    let past = sym c.block_skip-far.ensures ∙ ap of_walked c.in-Past.is in
     let passed = walked-past block block_bytes block_sound _ _ past in (
-      walk_next block block_bytes (all (start loop)) block_sound _ _ _ i.0 h past,
-      λ l r. let f = floor.floor_after-floor.ensures l in i.1 (omega (arith, f.0, f.1)) (rises-more _ _ _ _ _ _ h passed vip.word64.ensures f.0 (rw f.1 at r)),
-      noting_more _ _ _ _ i.2 h passed noted.either-from.ensures c.either-to.ensures,
+      walk_next block block_bytes (all (goal.at.loop-left-preserved c).After-shared_slice_known-1) block_sound _ _ _ i.0 h past,
+      λ l r. let f = c.floor_after-floor.ensures l in i.1 (omega (arith, f.0, f.1)) (rises-more _ _ _ _ _ _ h passed c.word64.ensures f.0 (rw f.1 at r)),
+      noting_more _ _ _ _ i.2 h passed c.either-from.ensures c.either-to.ensures,
     )
 
 pub returns : goal.returns

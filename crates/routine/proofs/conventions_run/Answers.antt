@@ -11,14 +11,7 @@ use Rattle.laws.proofs.Layouts.{convention_layout}
 use Rattle.laws.proofs.Walks.{Fills, fills, walk_start, walk_end, walk_next, walk_stop}
 use borrow.Author.Rules.{rules}
 use Rattle.routine.proofs.conventions_run.Goals as goal
-use Rattle.routine.proofs.conventions_run.Tie as tie
-use Rattle.routine.proofs.conventions_run.Goals.{After-shared_slice_known-1, In-loop-left}
-
-abbrev start : tie.At-loop-left → After-shared_slice_known-1
-start c = c.before
-
-abbrev test : tie.After-convention_skip-far → In-loop-left
-test c = c.before
+use Rattle.routine.proofs.conventions_run.Goals.{After-shared_slice_known-1}
 
 all : (c : After-shared_slice_known-1) → Fills convention convention_bytes c.args.s.now
 all c = fills convention_layout c.type_inv.s
@@ -29,18 +22,13 @@ loop-left-init c = walk_start convention convention_bytes (all c) convention_sou
 pub returns-in_default : goal.returns-in_default
 returns-in_default c =
     let far = c.in_default.is in
-    let call = c.before.before.before in
-    let loop = (test call).before.before in
     ap of_walked far
-    ∙ walk_stop convention convention_bytes (all (start loop)) convention_sound _ _ _ loop.loop-left.invariant call.loop-left-test.true (sym call.convention_skip-far.ensures ∙ ap of_walked far)
+    ∙ walk_stop convention convention_bytes (all (goal.at.returns-in_default c).After-shared_slice_known-1) convention_sound _ _ _ c.loop-left.invariant c.loop-left-test.true (sym c.convention_skip-far.ensures ∙ ap of_walked far)
 
 pub loop-left-preserved : goal.loop-left-preserved
 loop-left-preserved c =
-    let far = c.before.before in
-    let call = far.before.before in
-    let loop = (test call).before.before in
-    walk_next convention convention_bytes (all (start loop)) convention_sound _ _ _ loop.loop-left.invariant call.loop-left-test.true
-    (sym call.convention_skip-far.ensures ∙ ap of_walked far.in-Past.is)
+    walk_next convention convention_bytes (all (goal.at.loop-left-preserved c).After-shared_slice_known-1) convention_sound _ _ _ c.loop-left.invariant c.loop-left-test.true
+    (sym c.convention_skip-far.ensures ∙ ap of_walked c.in-Past.is)
 
 pub returns : goal.returns
 returns c = walk_end convention convention_bytes (all (goal.at.returns c).After-shared_slice_known-1) convention_sound _ _ _ c.loop-left.invariant c.loop-left-test.false

@@ -7,18 +7,13 @@ use Rattle.laws.proofs.Layouts.{convention_layout}
 use Rattle.laws.proofs.Walks.{fills, walked_counted}
 use borrow.Author.Rules.{rules}
 use Rattle.routine.proofs.conventions_skip.Goals as goal
-use Rattle.routine.proofs.conventions_skip.Goals.{In_default}
 
 pub returns-in-Value : goal.returns-in-Value
 returns-in-Value c =
-    let count = c.before.before.before in
-    let call = count.before.before in
-    let b = call.type_inv.s in
-    rw (walked_counted convention convention_bytes (fills convention_layout b) convention_sound b) (on-u32 _ count.in-Value.is call.u32_at-count.ensures c.conventions_run.ensures)
+    let b = c.type_inv.s in
+    rw (walked_counted convention convention_bytes (fills convention_layout b) convention_sound b) (on-u32 _ c.in-Value.is c.u32_at-count.ensures c.conventions_run.ensures)
 
 pub returns-in_default : goal.returns-in_default
 returns-in_default c =
-    let told = (goal.at.returns-in_default c).In_default in
-    let call = told.before.before.before in
-    let b = call.type_inv.s in
-    rw (walked_counted convention convention_bytes (fills convention_layout b) convention_sound b) (off_u32 _ told.in_default.is call.u32_at-count.ensures c.u32_refusal.ensures)
+    let b = c.type_inv.s in
+    rw (walked_counted convention convention_bytes (fills convention_layout b) convention_sound b) (off_u32 _ c.in_default.is c.u32_at-count.ensures c.u32_refusal.ensures)

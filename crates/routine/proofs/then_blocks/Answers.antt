@@ -3,11 +3,10 @@ use Rattle.fields.proofs.Chain.{seen-past, seen-refused}
 use Rattle.pod.specs.Written.{both}
 use borrow.Author.Rules.{rules}
 use Rattle.routine.proofs.then_blocks.Goals as goal
-use Rattle.routine.proofs.then_blocks.Goals.{After-blocks_skip}
 
 pub returns-in-Past : goal.returns-in-Past
 unfolding both
-returns-in-Past c = let call = (goal.at.returns-in-Past c).After-blocks_skip in seen-past _ call.in-Past.is (rw (← call.blocks_skip.ensures) c.seen_both.ensures)
+returns-in-Past c = seen-past _ c.in-Past.is (rw (← c.blocks_skip.ensures) c.seen_both.ensures)
 
 pub returns-in_default : goal.returns-in_default
 unfolding both

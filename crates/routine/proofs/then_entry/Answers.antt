@@ -7,21 +7,16 @@ use Rattle.fields.proofs.Steps.{handed}
 use Rattle.pod.specs.Written.{passing}
 use borrow.Author.Rules.{rules}
 use Rattle.routine.proofs.then_entry.Goals as goal
-use Rattle.routine.proofs.then_entry.Goals.{In_default-entry}
 
 pub returns-in-Value : goal.returns-in-Value
 unfolding passing span bind
 returns-in-Value c =
-    let entry = c.before.before in
-    let call = entry.before.before in
-    seen-past _ call.in-Past.is (rw (sym call.u64_at-entry.ensures ∙ ap of_u64 entry.in-Value.is))
+    seen-past _ c.in-Past.is (rw (sym c.u64_at-entry.ensures ∙ ap of_u64 c.in-Value.is))
 
 pub returns-in_default-entry : goal.returns-in_default-entry
 unfolding passing span bind
 returns-in_default-entry c =
-    let told = (goal.at.returns-in_default-entry c).In_default-entry in
-    let call = told.before.before.before in
-    seen-past _ call.in-Past.is (rw (← handed (ap of_u64 told.in_default-entry.is) call.u64_at-entry.ensures c.u64_refusal.ensures))
+    seen-past _ c.in-Past.is (rw (← handed (ap of_u64 c.in_default-entry.is) c.u64_at-entry.ensures c.u64_refusal.ensures))
 
 pub returns-in_default : goal.returns-in_default
 unfolding passing

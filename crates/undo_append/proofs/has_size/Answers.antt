@@ -18,8 +18,7 @@ returns-then-last c r i z = sym (last-is-none _ _ (none r i z c.if-last.true))
 
 pub returns : goal.returns
 returns c r i z =
-    let e = c.before.before in
-    let a = e.args in
-    let there = some r i z e.if-last.false in
+    let a = c.args in
+    let there = some r i z c.if-last.false in
     let n : a.last.end - a.last.from ≡ length (instruction_bytes (final (the_block r i))) = omega (arith, final-size r i z there) in
     ap (λ k. eqb k a.size) n ∙ sym (last-is-at _ any_instruction _ there)

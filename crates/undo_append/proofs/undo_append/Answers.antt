@@ -28,13 +28,12 @@ use Rattle.undo_append.proofs.Unappends.{some, inside, longer, shortened-size}
 use Rattle.undo_append.proofs.Unappends as U
 use borrow.Author.Rules.{rules}
 use Rattle.undo_append.proofs.undo_append.Goals as goal
-use Rattle.undo_append.proofs.undo_append.Tie as tie
-use Rattle.undo_append.proofs.undo_append.Goals.{After-accept-arg-1, After-block_offset-at, After-clear_trailer-arg-1, After-struct_known-3-1, After-sum_of_instruction-arg-1, Else-blocks-place, Else-sum-less, Else-word64-last, Start, Then-blocks-place, Then-not-has_size, Then-word64-last}
+use Rattle.undo_append.proofs.undo_append.Goals.{After-block_offset-at, After-blocks_of-blocks, After-has_size, After-last_instruction-instruction, After-sum_of_instruction-less, After-word64, Else-blocks-place, Else-not-has_size, Else-word64-last, Start}
 
 -- the state at entry, the routine that it holds, the trailer and the block at its place
 module _ (s : Start) where
   abbrev S : State
-  S = state s.args.image-1.now s.args.journal-1.now s.args.book
+  S = state s.args.image.now s.args.journal.now s.args.book
 
   abbrev R : Routine
   R = s.requires.0.r
@@ -48,7 +47,7 @@ module _ (s : Start) where
   sound : Sound S R
   sound = s.requires.0.sound
 
-  holding : Holding s.args.image-1.now R
+  holding : Holding s.args.image.now R
   holding = sound-holding sound
 
   -- an answer that is right of that routine is right of every routine that is held
@@ -62,132 +61,75 @@ module _ (s : Start) where
   sum_fits : s.args.book.sum < 2 ^ 64
   sum_fits = omega arith
 
--- The way through the code, each place from the next.
-abbrev start : tie.After-blocks_of-blocks → Start
-start c = c.before.before.before.before
-
-abbrev counting : Else-blocks-place → tie.After-blocks_of-blocks
-counting c = c.before.before.before
-
-abbrev placing : After-block_offset-at → Else-blocks-place
-placing c = c.before.before.before
-
-abbrev at_vip : tie.After-word64 → After-block_offset-at
-at_vip c = c.before.before
-
-abbrev comparing : Else-word64-last → tie.After-word64
-comparing c = c.before.before.before
-
-abbrev at_last : After-struct_known-3-1 → Else-word64-last
-at_last c = (goal.at.After-struct_known-3-1 c).Else-word64-last
-
-abbrev sizing : tie.After-has_size → tie.After-last_instruction-instruction
-sizing c = c.before.before
-
-abbrev looking : After-sum_of_instruction-arg-1 → tie.After-has_size
-looking c = c.before.before
-
-abbrev summing : tie.After-sum_of_instruction-less → tie.Else-not-has_size
-summing c = c.before.before
-
-abbrev taking : Else-sum-less → tie.After-sum_of_instruction-less
-taking c = c.before.before
-
-abbrev dropping : After-clear_trailer-arg-1 → Else-sum-less
-dropping c = c.before.before.before
-
-abbrev clearing : After-accept-arg-1 → tie.After-drop_instruction
-clearing c = (goal.at.After-accept-arg-1 c).After-clear_trailer-arg-1
-
 -- What is known at them.
-counted : (c : tie.After-blocks_of-blocks) → c.blocks_of-blocks.result.count ≡ length (R (start c)).explored_blocks
-counted c = let s = start c in (c.blocks_of-blocks.ensures (R s) (holding s)).1
+counted : (c : After-blocks_of-blocks) → c.blocks_of-blocks.result.count ≡ length (R (goal.at.After-blocks_of-blocks c).Start).explored_blocks
+counted c = let here = goal.at.After-blocks_of-blocks c in (c.blocks_of-blocks.ensures (R here.Start) (holding here.Start)).1
 
--- the place is that of a block
-abbrev start₂ : Else-blocks-place → Start
-start₂ c = start (counting c)
+within : (c : Else-blocks-place) → (T (goal.at.Else-blocks-place c).Start).place < length (R (goal.at.Else-blocks-place c).Start).explored_blocks
+within c = omega (arith, c.if-blocks-place.false, counted (goal.at.Else-blocks-place c).After-blocks_of-blocks)
 
-within : (c : Else-blocks-place) → (T (start₂ c)).place < length (R (start₂ c)).explored_blocks
-within c = omega (arith, c.if-blocks-place.false, counted (counting c))
-
-placed : (c : Else-blocks-place) → let s = start₂ c in undo_append (R s) (T s) ≡ U.if_there (R s) (T s)
+placed : (c : Else-blocks-place) → undo_append (R (goal.at.Else-blocks-place c).Start) (T (goal.at.Else-blocks-place c).Start) ≡ U.if_there (R (goal.at.Else-blocks-place c).Start) (T (goal.at.Else-blocks-place c).Start)
 placed c = U.tests _ _ ∙ unless_on 13 _ (lt-ltb _ _ (within c))
 
-abbrev start₃ : After-block_offset-at → Start
-start₃ c = start₂ (placing c)
-
-here : (c : After-block_offset-at) → let s = start₃ c in BlockIn s.args.image-1.now (R s) (T s).place c.block_offset-at.result
+here : (c : After-block_offset-at) → BlockIn c.args.image.now (R (goal.at.After-block_offset-at c).Start) (T (goal.at.After-block_offset-at c).Start).place c.block_offset-at.result
 here c =
-    let s = start₃ c in
+    let here = goal.at.After-block_offset-at c in
     record {
-      holding = holding s;
-      within = within (goal.at.After-block_offset-at c).Else-blocks-place;
-      at_is = c.block_offset-at.ensures (R s) (holding s) (omega (arith, within (goal.at.After-block_offset-at c).Else-blocks-place));
+      holding = holding here.Start;
+      within = within here.Else-blocks-place;
+      at_is = c.block_offset-at.ensures (R here.Start) (holding here.Start) (omega (arith, within here.Else-blocks-place));
     }
 
 -- its vip is that of the entry
-vip_read : (c : tie.After-word64) → c.word64.result ≡ (B (start₃ (at_vip c))).vip
+vip_read : (c : After-word64) → c.word64.result ≡ (B (goal.at.After-word64 c).Start).vip
 vip_read c =
-    let s = start₃ (at_vip c) in
-    let o = here (at_vip c) in
-    c.word64.ensures ∙ block-word _ (B s) (block-holds (holding s) (T s).place o.within) (stands_here (R s) (T s).place (holding s) o.within o.at_is)
+    let here = goal.at.After-word64 c in
+    let o = here here.After-block_offset-at in
+    c.word64.ensures ∙ block-word _ (B here.Start) (block-holds (holding here.Start) (T here.Start).place o.within) (stands_here (R here.Start) (T here.Start).place (holding here.Start) o.within o.at_is)
 
-abbrev offset : Else-word64-last → After-block_offset-at
-offset c = at_vip (comparing c)
-
-abbrev start₄ : Else-word64-last → Start
-start₄ c = start₃ (offset c)
-
-same-vip : (c : Else-word64-last) → let s = start₄ c in undo_append (R s) (T s) ≡ U.if_last (R s) (T s)
+same-vip : (c : Else-word64-last) → undo_append (R (goal.at.Else-word64-last c).Start) (T (goal.at.Else-word64-last c).Start) ≡ U.if_last (R (goal.at.Else-word64-last c).Start) (T (goal.at.Else-word64-last c).Start)
 same-vip c =
-    let s = start₄ c in
-    placed (goal.at.Else-word64-last c).Else-blocks-place ∙ unless_on 13 _ (eq-eqb (B s).vip (T s).vip (omega (arith, c.if-word64-last.false, vip_read (comparing c))))
+    let here = goal.at.Else-word64-last c in
+    placed here.Else-blocks-place ∙ unless_on 13 _ (eq-eqb (B here.Start).vip (T here.Start).vip (omega (arith, c.if-word64-last.false, vip_read here.After-word64)))
 
--- its last instruction was reached
-abbrev start₅ : After-struct_known-3-1 → Start
-start₅ c = start₄ (at_last c)
-
-found : (c : After-struct_known-3-1) → let s = start₅ c in FindsLast (R s) (T s).place c.last_instruction-instruction.result
+found : (c : After-last_instruction-instruction) → FindsLast (R (goal.at.After-last_instruction-instruction c).Start) (T (goal.at.After-last_instruction-instruction c).Start).place c.last_instruction-instruction.result
 found c =
-    let s = start₅ c in
-    let o = here (goal.at.After-struct_known-3-1 c).After-block_offset-at in
-    c.last_instruction-instruction.ensures (R s) (T s).place o.holding o.within o.at_is
+    let here = goal.at.After-last_instruction-instruction c in
+    let o = here here.After-block_offset-at in
+    c.last_instruction-instruction.ensures (R here.Start) (T here.Start).place o.holding o.within o.at_is
 
 -- and has the entry's size
-last-read : (c : tie.After-has_size) → let s = start₅ (sizing c) in c.has_size.result ≡ last_size_is (T s).len (B s).instructions
-last-read c = let s = start₅ (sizing c) in c.has_size.ensures (R s) (T s).place (found (sizing c))
+last-read : (c : After-has_size) → c.has_size.result ≡ last_size_is (T (goal.at.After-has_size c).Start).len (B (goal.at.After-has_size c).Start).instructions
+last-read c = let here = goal.at.After-has_size c in c.has_size.ensures (R here.Start) (T here.Start).place (found here.After-last_instruction-instruction)
 
-abbrev last : After-sum_of_instruction-arg-1 → tie.After-last_instruction-instruction
-last c = sizing (looking c)
+abbrev last : Else-not-has_size → After-last_instruction-instruction
+last c = (goal.at.Else-not-has_size c).After-last_instruction-instruction
 
-abbrev start₆ : After-sum_of_instruction-arg-1 → Start
-start₆ c = start₅ (last c)
+abbrev block : Else-not-has_size → After-block_offset-at
+block c = (goal.at.Else-not-has_size c).After-block_offset-at
 
-abbrev block : After-sum_of_instruction-arg-1 → After-block_offset-at
-block c = offset (at_last (last c))
-
-last_in : (c : After-sum_of_instruction-arg-1) → let s = start₆ c in
-    LastIn s.args.image-1.now (R s) (T s).place c.block_offset-at.result c.last_instruction-instruction.result.end (T s).len s.args.book.written
+last_in : (c : Else-not-has_size) → 
+    LastIn c.args.image.now (R (goal.at.Else-not-has_size c).Start) (T (goal.at.Else-not-has_size c).Start).place c.block_offset-at.result c.last_instruction-instruction.result.end (T (goal.at.Else-not-has_size c).Start).len c.args.book.written
 last_in c =
-    let s = start₆ c in
+    let here = goal.at.Else-not-has_size c in
     record {
-      block = here (goal.at.After-sum_of_instruction-arg-1 c).After-block_offset-at;
-      is = (sound s).image-1;
-      written_is = (sound s).written;
-      ends = (found (goal.at.After-sum_of_instruction-arg-1 c).After-struct_known-3-1).end;
-      last = sym (last-read (looking c)) ∙ not-false _ c.if-not-has_size.false;
+      block = here here.After-block_offset-at;
+      is = (sound here.Start).image-1;
+      written_is = (sound here.Start).written;
+      ends = (found here.After-last_instruction-instruction).end;
+      last = sym (last-read here.After-has_size) ∙ not-false _ c.if-not-has_size.false;
     }
 
-passed : (c : After-sum_of_instruction-arg-1) → let s = start₆ c in undo_append (R s) (T s) ≡ U.done (R s) (T s)
-passed c = same-vip (goal.at.After-sum_of_instruction-arg-1 c).Else-word64-last ∙ unless_on 13 _ (last_in c).last
+passed : (c : Else-not-has_size) → undo_append (R (goal.at.Else-not-has_size c).Start) (T (goal.at.Else-not-has_size c).Start) ≡ U.done (R (goal.at.Else-not-has_size c).Start) (T (goal.at.Else-not-has_size c).Start)
+passed c = same-vip (goal.at.Else-not-has_size c).Else-word64-last ∙ unless_on 13 _ (last_in c).last
 
 -- what the sum becomes without what that instruction comes to
-module _ (c : tie.After-sum_of_instruction-less) where
-  abbrev e : tie.Else-not-has_size
-  e = summing c
+module _ (c : After-sum_of_instruction-less) where
+  abbrev e : Else-not-has_size
+  e = (goal.at.After-sum_of_instruction-less c).Else-not-has_size
 
   abbrev s : Start
-  s = start₆ e
+  s = (goal.at.After-sum_of_instruction-less c).Start
 
   abbrev rates : Rates
   rates = s.args.book.rates.rate
@@ -214,54 +156,43 @@ module _ (c : tie.After-sum_of_instruction-less) where
 
 pub returns-then-blocks-place : goal.returns-then-blocks-place
 returns-then-blocks-place c =
-    let t = (goal.at.returns-then-blocks-place c).Then-blocks-place in
-    let b = t.before.before.before in
-    let s = start b in
-    refuses s (c.refuse.ensures _ _ (omega arith))
-    (U.tests _ _ ∙ unless_off 13 _ (le-ltb (T s).place (length (R s).explored_blocks) (omega (arith, t.if-blocks-place.true, counted b))))
+    let here = goal.at.returns-then-blocks-place c in
+    refuses here.Start (c.refuse.ensures _ _ (omega arith))
+    (U.tests _ _ ∙ unless_off 13 _ (le-ltb (T here.Start).place (length (R here.Start).explored_blocks) (omega (arith, c.if-blocks-place.true, counted here.After-blocks_of-blocks))))
 
 pub returns-then-word64-last : goal.returns-then-word64-last
 returns-then-word64-last c =
-    let t = (goal.at.returns-then-word64-last c).Then-word64-last in
-    let w = t.before.before.before in
-    let s = start₃ (at_vip w) in
-    refuses s (c.refuse-then-word64-last.ensures _ _ (omega arith))
-    (placed (placing (at_vip w)) ∙ unless_off 13 _ (ne_eqb (B s).vip (T s).vip (λ e. omega (arith, t.if-word64-last.true, vip_read w))))
+    let here = goal.at.returns-then-word64-last c in
+    refuses here.Start (c.refuse-then-word64-last.ensures _ _ (omega arith))
+    (placed here.Else-blocks-place ∙ unless_off 13 _ (ne_eqb (B here.Start).vip (T here.Start).vip (λ e. omega (arith, c.if-word64-last.true, vip_read here.After-word64))))
 
 pub has_size-requires : goal.has_size-requires
-has_size-requires c = let l = c.before.before in let s = start₅ l in ordered (R s) (T s).place (found l)
+has_size-requires c = let here = goal.at.has_size-requires c in ordered (R here.Start) (T here.Start).place (found here.After-last_instruction-instruction)
 
 pub returns-then-not-has_size : goal.returns-then-not-has_size
 returns-then-not-has_size c =
-    let t = (goal.at.returns-then-not-has_size c).Then-not-has_size in
-    let l = t.before.before in
-    refuses (start₅ (sizing l)) (c.refuse-then-not-has_size.ensures _ _ (omega arith)) (same-vip (at_last (sizing l)) ∙ unless_off 13 _ (sym (last-read l) ∙ not-true _ t.if-not-has_size.true))
+    let here = goal.at.returns-then-not-has_size c in
+    refuses here.Start (c.refuse-then-not-has_size.ensures _ _ (omega arith)) (same-vip here.Else-word64-last ∙ unless_off 13 _ (sym (last-read here.After-has_size) ∙ c.if-not-has_size.true))
 
 pub returns-then-sum-less : goal.returns-then-sum-less
 returns-then-sum-less c =
-    let k = c.before.before.before in
-    let s = s k in
-    over s _ (c.refuse-then-sum-less.ensures _ _ (omega arith) ∙ sum_spoiled (S s) (R s) (R' k) (passed (summing k)) (sum-short k (omega (arith, c.if-sum-less.true))))
+    let here = goal.at.returns-then-sum-less c in
+    over here.Start _ (c.refuse-then-sum-less.ensures _ _ (omega arith) ∙ sum_spoiled (S here.Start) (R here.Start) (R' here.After-sum_of_instruction-less) (passed here.Else-not-has_size) (sum-short here.After-sum_of_instruction-less (omega (arith, c.if-sum-less.true))))
 
 pub overflow_sub-left : goal.overflow_sub-left
-overflow_sub-left c = let e = summing (taking c) in omega (arith, inside (last_in e), longer (last_in e))
+overflow_sub-left c = let here = goal.at.overflow_sub-left c in omega (arith, inside (last_in here.Else-not-has_size), longer (last_in here.Else-not-has_size))
 
 pub drop_instruction-requires : goal.drop_instruction-requires
-drop_instruction-requires c = let e = summing (taking (goal.at.drop_instruction-requires c).Else-sum-less) in let s = start₆ e in record { r = R s; i = (T s).place; last_in = last_in e }
+drop_instruction-requires c = let here = goal.at.drop_instruction-requires c in record { r = R here.Start; i = (T here.Start).place; last_in = last_in here.Else-not-has_size }
 
 -- an entry is used, and all that is used is in the journal
 pub clear_trailer-before-requires : goal.clear_trailer-before-requires
-clear_trailer-before-requires c = let s = s (taking (dropping c.before.before.before.before)) in (s.requires.1, (sound s).used)
+clear_trailer-before-requires c = (c.requires.1, (sound (goal.at.clear_trailer-before-requires c).Start).used)
 
 pub returns : goal.returns
 returns c =
-    let t = c.before.before.before.before in
-    let d = clearing t in
-    let l = dropping d in
-    let k = taking l in
-    let e = summing k in
-    let s = s k in
-    over s _
+    let here = goal.at.returns c in
+    over here.Start _
     (c.accept.ensures _ _
-    ∙ restored-to (S s) (R s) (R' k) (passed e) (sum_left k (omega (arith, l.if-sum-less.left))) _ _ _ _ (sym (shortened-size (last_in e)))
-    t.clear_trailer-before.ensures.0 (d.drop_instruction.ensures (R s) (T s).place (last_in e)) t.clear_trailer-before.ensures.1)
+    ∙ restored-to (S here.Start) (R here.Start) (R' here.After-sum_of_instruction-less) (passed here.Else-not-has_size) (sum_left here.After-sum_of_instruction-less (omega (arith, c.if-sum-less.false))) _ _ _ _ (sym (shortened-size (last_in here.Else-not-has_size)))
+    c.clear_trailer-before.ensures.0 (c.drop_instruction.ensures (R here.Start) (T here.Start).place (last_in here.Else-not-has_size)) c.clear_trailer-before.ensures.1)

@@ -11,27 +11,24 @@ use Rattle.pod.specs.Written.{block_bytes, walked}
 use Rattle.undo_remove.proofs.Whole as W
 use borrow.Author.Rules.{rules}
 use Rattle.undo_remove.proofs.is_block.Goals as goal
-use Rattle.undo_remove.proofs.is_block.Tie as tie
-
-abbrev walking : tie.In-Past → tie.After-block_skip
-walking c = c.before.before.before
+use Rattle.undo_remove.proofs.is_block.Goals.{After-block_skip, In-Past}
 
 -- What is known at them.
-octets : (c : tie.After-block_skip) → Bytes c.args.s.now
+octets : (c : After-block_skip) → Bytes c.args.s.now
 octets c = c.type_inv.s
 
-ends : (c : tie.In-Past) → let g = c.end-1.given.0 in
+ends : (c : In-Past) → let g = c.end-1.given.0 in
     walked block block_bytes block_sound c.args.s.now 0 ≡ ok (sight g.1.0 g.1.1.0) g.0
 ends c = sym c.block_skip.ensures ∙ ap of_walked c.in-Past.is
 
 pub eight-requires : goal.eight-requires
-eight-requires c = let k = c.before.before in omega (arith, W.long-enough 0 _ (octets (walking k)) (ends k) c.if-end-s.true)
+eight-requires c = let here = goal.at.eight-requires c in omega (arith, W.long-enough 0 _ (octets here.After-block_skip) (ends here.In-Past) c.if-end-s.true)
 
 pub returns-then-end-s : goal.returns-then-end-s
-returns-then-end-s c = let e = c.before.before in let k = e.before.before in W.by-vip _ _ (octets (walking k)) (ends k) e.if-end-s.true _ e.eight.ensures
+returns-then-end-s c = let here = goal.at.returns-then-end-s c in W.by-vip _ _ (octets here.After-block_skip) (ends here.In-Past) c.if-end-s.true _ c.eight.ensures
 
 pub returns-else-end-s : goal.returns-else-end-s
-returns-else-end-s c = let k = c.before.before in W.not-all _ _ (octets (walking k)) (ends k) c.if-end-s.false
+returns-else-end-s c = let here = goal.at.returns-else-end-s c in W.not-all _ _ (octets here.After-block_skip) (ends here.In-Past) c.if-end-s.false
 
 pub returns-in_default : goal.returns-in_default
-returns-in_default c = let w = c.before.before.before in W.not-read _ _ (octets w) (sym w.block_skip.ensures ∙ ap of_walked c.in_default.is)
+returns-in_default c = W.not-read _ _ (octets (goal.at.returns-in_default c).After-block_skip) (sym c.block_skip.ensures ∙ ap of_walked c.in_default.is)

@@ -24,12 +24,11 @@ use Rattle.undo_remove.specs.Insertable.{Insertable}
 use Rattle.undo_remove.proofs.Entries as K
 use borrow.Author.Rules.{rules}
 use Rattle.undo_remove.proofs.undo_remove.Goals as goal
-use Rattle.undo_remove.proofs.undo_remove.Tie as tie
-use Rattle.undo_remove.proofs.undo_remove.Goals.{After-accept, After-slice_known-4-1, After-struct_known-1, After-sum_of_block-more, After-swap_insert-arg-2-1, Start}
+use Rattle.undo_remove.proofs.undo_remove.Goals.{After-can_add, After-entry_refusal-refusal, Else-refusal-ne0, Start}
 
 -- the state at entry, the routine that it holds, the trailer, and the journal's used part before it
 abbrev S : Start → State
-S s = state s.args.image-1.now s.args.journal-1.now s.args.book
+S s = state s.args.image.now s.args.journal.now s.args.book
 
 abbrev R : Start → Routine
 R s = s.requires.0.r
@@ -41,10 +40,10 @@ abbrev T : Start → Trailer
 T s = trailer_of s.args.last
 
 abbrev before : Start → List ℕ
-before s = take (s.args.book.used - 20) s.args.journal-1.now
+before s = take (s.args.book.used - 20) s.args.journal.now
 
 abbrev back : Start → Routine → Outcome (Routine × ℕ)
-back s r = journal.undo_remove (length s.args.image-1.now) r (before s) (T s)
+back s r = journal.undo_remove (length s.args.image.now) r (before s) (T s)
 
 over : (s : Start) (x : Answer × State) → x ≡ taking_back (S s) (R s) (back s (R s)) → (r : Routine) → held (S s) ≡ accepted r → x ≡ taking_back (S s) r (back s r)
 over s x = of_held (λ r. taking_back (S s) r (back s r)) (sound s)
@@ -53,38 +52,16 @@ over s x = of_held (λ r. taking_back (S s) r (back s r)) (sound s)
 sum_fits : (s : Start) → s.args.book.sum < 2 ^ 64
 sum_fits s = omega arith
 
--- The way through the code, each place from the next.
-abbrev start : tie.After-entry_refusal-refusal → Start
-start c = c.before.before.before.before.before
-
-abbrev testing : After-struct_known-1 → tie.After-entry_refusal-refusal
-testing c = c.before.before
-
-abbrev summing : After-sum_of_block-more → tie.Else-refusal-ne0
-summing c = c.before.before.before.before.before
-
-abbrev adding : tie.After-can_add → After-sum_of_block-more
-adding c = c.before
-
-abbrev passing : After-swap_insert-arg-2-1 → tie.Else-not-can_add
-passing c = c.before.before.before.before.before
-
-abbrev inserting : After-slice_known-4-1 → tie.After-swap_insert
-inserting c = c.before.before.before.before.before
-
-abbrev clearing : After-accept → tie.After-clear
-clearing c = c.before.before.before.before
-
 -- What is known at them.
-tested : (c : tie.After-entry_refusal-refusal) → c.entry_refusal-refusal.result ≡ refusal_of (back (start c) (R (start c)))
-tested c = let s = start c in c.entry_refusal-refusal.ensures (R s) (sound-holding (sound s)) (sound s).written
+tested : (c : After-entry_refusal-refusal) → c.entry_refusal-refusal.result ≡ refusal_of (back (goal.at.After-entry_refusal-refusal c).Start (R (goal.at.After-entry_refusal-refusal c).Start))
+tested c = let here = goal.at.After-entry_refusal-refusal c in c.entry_refusal-refusal.ensures (R here.Start) (sound-holding (sound here.Start)) (sound here.Start).written
 
-module _ (c : After-struct_known-1) where
+module _ (c : Else-refusal-ne0) where
   abbrev s : Start
-  s = start (testing c)
+  s = (goal.at.Else-refusal-ne0 c).Start
 
-  fitting : K.Fitting (length s.args.image-1.now) (R s) (before s) (T s)
-  fitting = K.fitting _ (R s) (before s) (T s) (tested (testing c)) (omega (arith, c.if-refusal-ne0.false))
+  fitting : K.Fitting (length s.args.image.now) (R s) (before s) (T s)
+  fitting = K.fitting _ (R s) (before s) (T s) (tested (goal.at.Else-refusal-ne0 c).After-entry_refusal-refusal) (omega (arith, c.if-refusal-ne0.false))
 
   enough : (T s).len ≤ s.args.book.used - 20
   enough = K.enough (S s) (R s) (sound s) (T s) s.requires.1 fitting
@@ -92,7 +69,7 @@ module _ (c : After-struct_known-1) where
   abbrev entry : List ℕ
   entry = K.entry (S s) (R s) (sound s) (T s) s.requires.1 fitting
 
-  insertable : Insertable (R s) s.args.image-1.now (T s).place s.args.book.written entry
+  insertable : Insertable (R s) s.args.image.now (T s).place s.args.book.written entry
   insertable =
       let g = sound s in
       record {
@@ -105,9 +82,9 @@ module _ (c : After-struct_known-1) where
       }
 
 -- what the block comes to is added where it can be
-module _ (c : tie.After-can_add) where
-  abbrev p : tie.Else-refusal-ne0
-  p = summing (adding c)
+module _ (c : After-can_add) where
+  abbrev p : Else-refusal-ne0
+  p = (goal.at.After-can_add c).Else-refusal-ne0
 
   abbrev more : ℕ
   more = c.sum_of_block-more.result
@@ -122,42 +99,35 @@ module _ (c : tie.After-can_add) where
   within_64 h = ltb-true ((s p).args.book.sum + more) (2 ^ 64) (sym c.can_add.ensures ∙ h)
 
 pub slice_bounds-entry_refusal-end-2 : goal.slice_bounds-entry_refusal-end-2
-slice_bounds-entry_refusal-end-2 c = let s = c.before.before.before.before in omega (arith, K.used-size (S s) (R s) (sound s) (T s) s.requires.1)
+slice_bounds-entry_refusal-end-2 c = let here = goal.at.slice_bounds-entry_refusal-end-2 c in omega (arith, K.used-size (S here.Start) (R here.Start) (sound here.Start) (T here.Start) c.requires.1)
 
 pub returns-then-refusal-ne0 : goal.returns-then-refusal-ne0
 returns-then-refusal-ne0 c =
-    let t = c.before.before.before in
-    let s = start t in
-    over s _ (c.refuse.ensures _ _ (omega (arith, c.if-refusal-ne0.true)) ∙ spoiled (S s) (R s) (refused-by (back s (R s)) (tested t) (λ z. omega (arith, z, c.if-refusal-ne0.true))))
+    let here = goal.at.returns-then-refusal-ne0 c in
+    over here.Start _ (c.refuse.ensures _ _ (omega (arith, c.if-refusal-ne0.true)) ∙ spoiled (S here.Start) (R here.Start) (refused-by (back here.Start (R here.Start)) (tested here.After-entry_refusal-refusal) (λ z. omega (arith, z, c.if-refusal-ne0.true))))
 
 pub returns-then-not-can_add : goal.returns-then-not-can_add
 returns-then-not-can_add c =
-    let k = c.before.before.before in
-    let p = p k in
-    let s = s p in
-    over s _
+    let here = goal.at.returns-then-not-can_add c in
+    over here.Start _
     (c.refuse-then-not-can_add.ensures _ _ (omega arith)
-    ∙ K.sum_over (S s) (R s) (sound s) (T s) s.requires.1 (fitting p) (comes_to k) (sum_fits s) (over_64 k (not-true _ c.if-not-can_add.true)))
+    ∙ K.sum_over (S here.Start) (R here.Start) (sound here.Start) (T here.Start) c.requires.1 (fitting here.Else-refusal-ne0) (comes_to here.After-can_add) (sum_fits here.Start) (over_64 here.After-can_add (c.if-not-can_add.true)))
 
 pub swap_insert-requires : goal.swap_insert-requires
-swap_insert-requires c = let p = p (passing c).before in record { r = R (s p); insertable = insertable p }
+swap_insert-requires c = let here = goal.at.swap_insert-requires c in record { r = R here.Start; insertable = insertable here.Else-refusal-ne0 }
 
 pub overflow_add-sum : goal.overflow_add-sum
-overflow_add-sum c = let l = passing (inserting c.before.before.before).before in record { fits = within_64 l.before (not-false _ l.if-not-can_add.left) }
+overflow_add-sum c = record { fits = within_64 (goal.at.overflow_add-sum c).After-can_add (c.if-not-can_add.false) }
 
 pub returns : goal.returns
 returns c =
-    let k = clearing c in
-    let w = inserting k in
-    let l = passing w.before in
-    let p = p l.before in
-    let s = s p in
-    let f = fitting p in
-    over s _
+    let here = goal.at.returns c in
+    let f = fitting here.Else-refusal-ne0 in
+    over here.Start _
     (c.accept.ensures _ _
-    ∙ K.restores (S s) (R s) (sound s) (T s) s.requires.1 f (comes_to l.before) (within_64 l.before (not-false _ l.if-not-can_add.left)) _ _
-    (w.swap_insert.ensures (R s) f.b (insertable p) (K.is-block-form (S s) (R s) (sound s) (T s) s.requires.1 f))
-    k.clear.ensures)
+    ∙ K.restores (S here.Start) (R here.Start) (sound here.Start) (T here.Start) c.requires.1 f (comes_to here.After-can_add) (within_64 here.After-can_add (c.if-not-can_add.false)) _ _
+    (c.swap_insert.ensures (R here.Start) f.b (insertable here.Else-refusal-ne0) (K.is-block-form (S here.Start) (R here.Start) (sound here.Start) (T here.Start) c.requires.1 f))
+    c.clear.ensures)
 
 pub overflow_sub-from : goal.overflow_sub-from
-overflow_sub-from c = omega (arith, enough c.before.before)
+overflow_sub-from c = omega (arith, enough (goal.at.overflow_sub-from c).Else-refusal-ne0)

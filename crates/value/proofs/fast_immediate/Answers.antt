@@ -7,11 +7,7 @@ use Rattle.fields.specs.Parse.{le}
 use Rattle.value.proofs.Fast.{kept-fits, immediate-kept}
 use borrow.Author.Rules.{rules}
 use Rattle.value.proofs.fast_immediate.Goals as goal
-use Rattle.value.proofs.fast_immediate.Goals.{After-kept-value, After-kept-width}
-
--- The way through the code, each place from the next.
-abbrev valued : After-kept-width → After-kept-value
-valued c = (goal.at.After-kept-width c).After-kept-value
+use Rattle.value.proofs.fast_immediate.Goals.{After-kept-width}
 
 width : (c : After-kept-width) → let a = c.args in c.kept-width.result ≡ choose a.there (le 4 a.s.now (a.at + 8)) 0
 width c = c.kept-width.ensures ∙ ap (λ v. choose c.args.there v 0) c.four.ensures
@@ -21,6 +17,5 @@ overflow_cast-result c = let a = c.args in omega (arith, width c, kept-fits a.th
 
 pub returns : goal.returns
 returns c =
-    let k = valued c in
     let a = c.args in
-    immediate-kept a.s.now a.at a.there (k.kept-value.ensures ∙ ap (λ v. choose a.there v 0) k.eight.ensures) (width c)
+    immediate-kept a.s.now a.at a.there (c.kept-value.ensures ∙ ap (λ v. choose a.there v 0) c.eight.ensures) (width c)

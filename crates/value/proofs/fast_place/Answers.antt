@@ -9,26 +9,14 @@ use Rattle.fields.proofs.Le.{le_lt}
 use Rattle.value.proofs.Fast.{fills}
 use borrow.Author.Rules.{rules}
 use Rattle.value.proofs.fast_place.Goals as goal
-use Rattle.value.proofs.fast_place.Tie as tie
-use Rattle.value.proofs.fast_place.Goals.{After-kept-kind, After-shared_slice_known-1, Else-mark-gt2, Else-register-gt2}
-
--- The way through the code, each place from the next.
-abbrev marked : Else-mark-gt2 → tie.After-kept-mark
-marked c = c.before.before
-
-abbrev holding : Else-register-gt2 → tie.After-fast_register-register
-holding c = c.before.before.before
-
-abbrev sized : After-kept-kind → Else-register-gt2
-sized c = (goal.at.After-kept-kind c).Else-register-gt2
+use Rattle.value.proofs.fast_place.Goals.{After-kept-mark}
 
 pub overflow_add-four : goal.overflow_add-four
 overflow_add-four c =
-    let k = (goal.at.overflow_add-four c).After-shared_slice_known-1 in
-    let a = k.args in
-    omega (arith, c.four.ensures, le_lt 4 a.s.now a.at k.type_inv.s)
+    let a = c.args in
+    omega (arith, c.four.ensures, le_lt 4 a.s.now a.at c.type_inv.s)
 
-mark : (c : tie.After-kept-mark) → let a = c.args in c.kept-mark.result ≡ choose a.used (le 4 a.s.now a.at + 1) 0
+mark : (c : After-kept-mark) → let a = c.args in c.kept-mark.result ≡ choose a.used (le 4 a.s.now a.at + 1) 0
 mark c = c.kept-mark.ensures ∙ ap (λ v. choose c.args.used (v + 1) 0) c.four.ensures
 
 -- what is kept of a number is at most that
@@ -39,11 +27,8 @@ most false v e = omega arith
 
 pub returns : goal.returns
 returns c h =
-    let e = sized c in
-    let r = holding e in
-    let m = marked r.before in
-    let a = m.args in
-    fills a.s.now a.at m.requires a.used m.kept-mark.result (mark m) (omega (arith, r.if-mark-gt2.left)) r.fast_register-register.ensures (omega (arith, e.if-register-gt2.left))
+    let a = c.args in
+    fills a.s.now a.at c.requires a.used c.kept-mark.result (mark (goal.at.returns c).After-kept-mark) (omega (arith, c.if-mark-gt2.false)) c.fast_register-register.ensures (omega (arith, c.if-register-gt2.false))
     c.fast_immediate-immediate.ensures c.kept.ensures c.kept-2.ensures c.kept-kind.ensures
 
 pub returns-then-mark-gt2 : goal.returns-then-mark-gt2

@@ -15,29 +15,7 @@ use Rattle.value.proofs.Parts.{all-on}
 use Rattle.value.proofs.Fast.{filled}
 use borrow.Author.Rules.{rules}
 use Rattle.value.proofs.instruction_at.Goals as goal
-use Rattle.value.proofs.instruction_at.Tie as tie
-use Rattle.value.proofs.instruction_at.Goals.{After-four, After-struct_known-4-1, Else-code-gt255, Else-x-eq0, Else-y-eq0, Else-z-eq0}
-
-abbrev coded : After-four → Else-code-gt255
-coded c = (goal.at.After-four c).Else-code-gt255
-
-abbrev first : Else-x-eq0 → tie.After-fast_place-x
-first c = c.before.before.before
-
-abbrev second : Else-y-eq0 → tie.After-fast_place-y
-second c = c.before.before.before
-
-abbrev third : Else-z-eq0 → tie.After-fast_place-z
-third c = c.before.before.before
-
-abbrev ended : After-struct_known-4-1 → Else-z-eq0
-ended c = c.before.before
-
-abbrev taken : After-struct_known-4-1 → tie.After-fast_tail-rest
-taken c = c.before.before.before.before.before.before
-
-abbrev named : Else-y-eq0 → After-four
-named c = (first (second c).before).before
+use Rattle.value.proofs.instruction_at.Goals.{After-fast_tail-rest, After-four, Else-code-gt255, Else-x-eq0, Else-y-eq0, Else-z-eq0}
 
 -- What is known at them: the operation, and that each place is filled.
 found : (c : Else-code-gt255) → Found c.args.s.now c.args.at c.fast_code-code.result
@@ -53,25 +31,25 @@ abbrev file : After-four → List ℕ
 file c = c.args.s.now
 
 first-filled : (c : Else-x-eq0)
-    → let f = (first c).before in Fills (file f) (f.args.at + 4 + f.four.result + 4) (ltb 0 (code f % 4)) c.fast_place-x.result
+    → Fills (file (goal.at.Else-x-eq0 c).After-four) (c.args.at + 4 + c.four.result + 4) (ltb 0 (code (goal.at.Else-x-eq0 c).After-four % 4)) c.fast_place-x.result
 first-filled c = c.fast_place-x.ensures (omega (arith, c.if-x-eq0.false))
 
 second-filled : (c : Else-y-eq0)
-    → Fills (file (named c)) c.fast_place-x.result.next (ltb 1 (code (named c) % 4)) c.fast_place-y.result
+    → Fills (file (goal.at.Else-y-eq0 c).After-four) c.fast_place-x.result.next (ltb 1 (code (goal.at.Else-y-eq0 c).After-four % 4)) c.fast_place-y.result
 second-filled c = c.fast_place-y.ensures (omega (arith, c.if-y-eq0.false))
 
 third-filled : (c : Else-z-eq0)
-    → let y = (third c).before in Fills (file (named y)) y.fast_place-y.result.next (ltb 2 (code (named y) % 4)) c.fast_place-z.result
+    → Fills (file (goal.at.Else-z-eq0 c).After-four) c.fast_place-y.result.next (ltb 2 (code (goal.at.Else-z-eq0 c).After-four % 4)) c.fast_place-z.result
 third-filled c = c.fast_place-z.ensures (omega (arith, c.if-z-eq0.false))
 
 -- there is room for what follows each
-after_first : (c : Else-x-eq0) → c.fast_place-x.result.next + 77 ≤ length (file (first c).before)
-after_first c = let f = (first c).before in omega (arith, (first-filled c).near, (found (goal.at.After-four f).Else-code-gt255).room, short f)
+after_first : (c : Else-x-eq0) → c.fast_place-x.result.next + 77 ≤ length (file (goal.at.Else-x-eq0 c).After-four)
+after_first c = let here = goal.at.Else-x-eq0 c in omega (arith, (first-filled c).near, (found here.Else-code-gt255).room, short here.After-four)
 
-after-second : (c : Else-y-eq0) → c.fast_place-y.result.next + 49 ≤ length (file (named c))
+after-second : (c : Else-y-eq0) → c.fast_place-y.result.next + 49 ≤ length (file (goal.at.Else-y-eq0 c).After-four)
 after-second c = omega (arith, (second-filled c).near, after_first (goal.at.Else-y-eq0 c).Else-x-eq0)
 
-after-third : (c : Else-z-eq0) → c.fast_place-z.result.next + 21 ≤ length (file (named (third c).before))
+after-third : (c : Else-z-eq0) → c.fast_place-z.result.next + 21 ≤ length (file (goal.at.Else-z-eq0 c).After-four)
 after-third c = omega (arith, (third-filled c).near, after-second (goal.at.Else-z-eq0 c).Else-y-eq0)
 
 -- and no number of the answer wraps
@@ -81,29 +59,24 @@ lent c = omega arith
 end_fits : (c : Else-z-eq0) → c.fast_place-z.result.next + 21 < 2 ^ 64
 end_fits c = omega (arith, after-third c, lent (goal.at.Else-z-eq0 c).After-four)
 
-op_fits : (c : Else-z-eq0) → code (named (third c).before) / 4 < 2 ^ 32
-op_fits c = omega (arith, (found (coded (named (third c).before))).listed)
+op_fits : (c : Else-z-eq0) → code (goal.at.Else-z-eq0 c).After-four / 4 < 2 ^ 32
+op_fits c = omega (arith, (found (goal.at.Else-z-eq0 c).Else-code-gt255).listed)
 
-count_fits : (c : Else-z-eq0) → code (named (third c).before) % 4 < 2 ^ 32
+count_fits : (c : Else-z-eq0) → code (goal.at.Else-z-eq0 c).After-four % 4 < 2 ^ 32
 count_fits c = omega arith
 
-offset-fits : (c : After-struct_known-4-1) → SFits w64 c.fast_tail-rest.result.sp_offset
+offset-fits : (c : After-fast_tail-rest) → SFits w64 c.fast_tail-rest.result.sp_offset
 offset-fits c = let g = c.fast_tail-rest.type_inv in search rules
 
 pub returns : goal.returns
 returns c =
-    let t = taken (goal.at.returns c).After-struct_known-4-1 in
-    let e = ended t in
-    let z = third e in
-    let y = second z.before in
-    let x = first y.before in
-    let f = x.before in
-    let a = f.args in
-    let w = found (goal.at.After-four f).Else-code-gt255 in
-    all-on a.s.now a.at (w.is ∙ ap (λ n. ok (code f / 4) (a.at + 4 + n + 4)) (sym f.four.ensures))
-    (record { refusal = 0; next = z.fast_place-z.result.next; places = x.fast_place-x.result.place ∷ y.fast_place-y.result.place ∷ z.fast_place-z.result.place ∷ [] })
-    (code f % 4) (sym w.takes) (filled (code f % 4) _ _ _ _ _ (omega arith) (first-filled y.before) (second-filled z.before) (third-filled e))
-    _ (offset-fits t) refl (sym t.fast_tail-rest.ensures) c.flag_bit.ensures
+    let here = goal.at.returns c in
+    let a = c.args in
+    let w = found here.Else-code-gt255 in
+    all-on a.s.now a.at (w.is ∙ ap (λ n. ok (code here.After-four / 4) (a.at + 4 + n + 4)) (sym c.four.ensures))
+    (record { refusal = 0; next = c.fast_place-z.result.next; places = c.fast_place-x.result.place ∷ c.fast_place-y.result.place ∷ c.fast_place-z.result.place ∷ [] })
+    (code here.After-four % 4) (sym w.takes) (filled (code here.After-four % 4) _ _ _ _ _ (omega arith) (first-filled here.Else-x-eq0) (second-filled here.Else-y-eq0) (third-filled here.Else-z-eq0))
+    _ (offset-fits here.After-fast_tail-rest) refl (sym c.fast_tail-rest.ensures) c.flag_bit.ensures
 
 pub returns-then-code-gt255 : goal.returns-then-code-gt255
 returns-then-code-gt255 c = c.instruction_by_fields.ensures

@@ -15,30 +15,30 @@ use Rattle.value.proofs.Gather.{Got, got_none, got_more, got_stop, got_all}
 use Rattle.fields.proofs.Steps.{handed}
 use borrow.Author.Rules.{rules}
 use Rattle.value.proofs.operands_at.Goals as goal
-use Rattle.value.proofs.operands_at.Tie as tie
+use Rattle.value.proofs.operands_at.Goals.{After-operand_at-operand, At-loop-i, In-Value-2}
 
 pub loop-i-init : goal.loop-i-init
 loop-i-init c = ([], refl, omega arith, places-none _ c.unused_place-none.ensures, got_none operand _ _ _)
 
-abbrev turn : tie.After-operand_at-operand → tie.At-loop-i
-turn c = c.before.before
+abbrev turn : After-operand_at-operand → At-loop-i
+turn c = (goal.at.After-operand_at-operand c).At-loop-i
 
-abbrev N : tie.At-loop-i → ℕ
+abbrev N : At-loop-i → ℕ
 N c = c.args.count
 
 pub returns-in_default : goal.returns-in_default
 unfolding operands_read
 returns-in_default c =
-    let d : tie.After-operand_at-operand = c.before.before.before.before in
-    let l = d.loop-i in
+    let d : After-operand_at-operand = c.before.before.before in
+    let l = (turn d).loop-i in
     let q = handed (ap of_operand c.in_default.is) d.Operand-at.ensures.0 c.operand_refusal.ensures in
     let e = got_stop operand (N (turn d)) _ _ l.invariant.0 l.i _ l.invariant.4 (omega arith) (sym q) in
-    rw (e, places-none _ d.unused_place-none.ensures)
+    rw (e, places-none _ (turn d).unused_place-none.ensures)
 
 pub loop-i-preserved : goal.loop-i-preserved
 loop-i-preserved c =
-    let v : tie.In-Value-2 = c.before.before.before in
-    let d : tie.After-operand_at-operand = v.before.before in
+    let v : In-Value-2 = c.before.before in
+    let d : After-operand_at-operand = v.before.before in
     let l = d.loop-i in
     let x = v.in-Value.x in
     let h : length l.invariant.0 ≡ l.i = l.invariant.1 in (
@@ -53,5 +53,5 @@ pub returns : goal.returns
 unfolding operands_read
 returns c =
     let l = c.loop-i in
-    let e = got_all operand (N c.before.before) _ _ l.invariant.0 l.i _ l.invariant.4 (omega arith) in
+    let e = got_all operand (N (goal.at.returns c).At-loop-i) _ _ l.invariant.0 l.i _ l.invariant.4 (omega arith) in
     rw (e, l.invariant.3)

@@ -7,7 +7,7 @@ use Rattle.value.proofs.sp_at.Goals.{In-Value, Start}
 
 pub returns-in-Value-sp_reset : goal.returns-in-Value-sp_reset
 returns-in-Value-sp_reset c =
-    let index : In-Value = (goal.at.returns-in-Value-sp_reset c).In-Value in
+    let index : In-Value = c.before.before.before.before in
     let s : Start = index.before.before.before.before.before in
     tail-stands _ _ _ s.args.offset (search rules) (search (rules, steps))
 

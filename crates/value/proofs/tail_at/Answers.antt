@@ -6,14 +6,14 @@ use mir.Val.{SFits}
 use mir.ValLaws.{to_z-of_z}
 use borrow.Author.Rules.{rules}
 use Rattle.value.proofs.tail_at.Goals as goal
-use Rattle.value.proofs.tail_at.Tie as tie
+use Rattle.value.proofs.tail_at.Goals.{After-i64_at-sp_offset, In-Value-2, In-Value-sp_offset-2}
 
 pub returns-in-Value-sp_offset : goal.returns-in-Value-sp_offset
 unfolding tail
 returns-in-Value-sp_offset c =
-    let offset : tie.In-Value-sp_offset-2 = c.before.before.before in
-    let asked : tie.After-i64_at-sp_offset = offset.before.before in
-    let vip : tie.In-Value-2 = asked.before.before in
+    let offset : In-Value-sp_offset-2 = c.before.before in
+    let asked : After-i64_at-sp_offset = offset.before.before in
+    let vip : In-Value-2 = asked.before.before in
     let z = offset.in-Value-sp_offset.z in
     let f : SFits w64 z = search rules in
     let e = c.sp_at.ensures in

@@ -8,26 +8,21 @@ use Rattle.writer.specs.Forms.{faulty}
 use Rattle.writer.proofs.Used.{any-hit, any_miss, any_none}
 use borrow.Author.Rules.{rules}
 use Rattle.writer.proofs.any_faulty.Goals as goal
-use Rattle.writer.proofs.any_faulty.Tie as tie
+use Rattle.writer.proofs.any_faulty.Goals.{At-loop-i}
 
 pub loop-i-init : goal.loop-i-init
 loop-i-init c = (omega arith, refl)
 
-abbrev turn : tie.After-is_faulty → tie.At-loop-i
-turn c = c.before.before.before
-
-three : (c : tie.At-loop-i) → length c.args.t1 ≡ 3
+three : (c : At-loop-i) → length c.args.t1 ≡ 3
 three c = c.before.well_formed.0.1.0.1
 
 pub returns-then-is_faulty : goal.returns-then-is_faulty
 returns-then-is_faulty c =
-    let l = turn c.before.before in
-    sym (any-hit _ _ l.loop-i.i (three l) l.requires _ l.loop-i.invariant.1 _ (omega arith) (sym c.is_faulty.ensures ∙ c.if-is_faulty.true))
+    sym (any-hit _ _ c.loop-i.i (three (goal.at.returns-then-is_faulty c).At-loop-i) c.requires _ c.loop-i.invariant.1 _ (omega arith) (sym c.is_faulty.ensures ∙ c.if-is_faulty.true))
 
 pub loop-i-preserved : goal.loop-i-preserved
 loop-i-preserved c =
-    let l = turn c.before.before in
-    (omega arith, any_miss _ _ l.loop-i.i (three l) l.requires _ l.loop-i.invariant.1 _ (omega arith) (sym c.is_faulty.ensures ∙ c.if-is_faulty.false))
+    (omega arith, any_miss _ _ c.loop-i.i (three (goal.at.loop-i-preserved c).At-loop-i) c.requires _ c.loop-i.invariant.1 _ (omega arith) (sym c.is_faulty.ensures ∙ c.if-is_faulty.false))
 
 pub returns : goal.returns
-returns c = let l = c.before.before in sym (any_none _ _ l.loop-i.i (three l) l.requires _ l.loop-i.invariant.1 (omega arith))
+returns c = sym (any_none _ _ c.loop-i.i (three (goal.at.returns c).At-loop-i) c.requires _ c.loop-i.invariant.1 (omega arith))

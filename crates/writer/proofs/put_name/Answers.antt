@@ -10,15 +10,14 @@ use Rattle.writer.proofs.Name.{byte_more, byte-none, name-put, size-name}
 use Rattle.writer.proofs.Rest.{Rest, rest_all}
 use borrow.Author.Rules.{rules}
 use Rattle.writer.proofs.put_name.Goals as goal
-use Rattle.writer.proofs.put_name.Tie as tie
-use Rattle.writer.proofs.put_name.Goals.{After-put_u32-arg-1}
+use Rattle.writer.proofs.put_name.Goals.{After-name_len-n, At-loop-j}
 
-abbrev naming : tie.At-loop-j → tie.After-name_len-n
-naming c = c.before.before.before.before.before
+abbrev naming : At-loop-j → After-name_len-n
+naming c = (goal.at.At-loop-j c).After-name_len-n
 
 -- the name's length, which is small, and fits after its size
-counted : (c : After-put_u32-arg-1) → (c.name_len-n.result ≡ length (get_or names c.args.k []))
-    × ((c.name_len-n.result ≤ 6) × (4 + c.name_len-n.result ≤ length c.args.image-1.now))
+counted : (c : After-name_len-n) → (c.name_len-n.result ≡ length (get_or names c.args.k []))
+    × ((c.name_len-n.result ≤ 6) × (4 + c.name_len-n.result ≤ length c.args.image.now))
 counted c =
     let k = c.args.k in
     let e = c.name_len-n.ensures in
@@ -29,33 +28,33 @@ loop-j-init c = (omega arith, rest_all _ _ _)
 
 pub loop-j-preserved : goal.loop-j-preserved
 loop-j-preserved c =
-    let l : tie.At-loop-j = c.before.before.before in
+    let l : At-loop-j = c.before.before in
     let n = counted (naming l) in
     (omega arith, byte_more _ _ l.loop-j.invariant.1 (omega arith) (omega arith) c.name_byte.ensures)
 
 pub returns : goal.returns
 returns c =
-    let n = counted (goal.at.returns c).After-put_u32-arg-1 in
+    let n = counted (goal.at.returns c).After-name_len-n in
     let k = c.args.k in
     (omega (arith, size-name k), name-put k _ _ _ n.0 (byte-none _ c.loop-j.j c.loop-j.invariant.1 (omega arith) ∙ cc) (omega arith))
 
 pub overflow_cast-n : goal.overflow_cast-n
-overflow_cast-n c = omega (arith, counted c)
+overflow_cast-n c = omega (arith, counted (goal.at.overflow_cast-n c).After-name_len-n)
 
 pub put_u32-requires : goal.put_u32-requires
-put_u32-requires c = omega (arith, counted c)
+put_u32-requires c = omega (arith, counted (goal.at.put_u32-requires c).After-name_len-n)
 
 pub name_byte-requires : goal.name_byte-requires
-name_byte-requires c = omega (arith, counted (goal.at.name_byte-requires c).After-put_u32-arg-1)
+name_byte-requires c = omega (arith, counted (goal.at.name_byte-requires c).After-name_len-n)
 
 pub overflow_add-image : goal.overflow_add-image
-overflow_add-image c = omega (arith, counted (goal.at.overflow_add-image c).After-put_u32-arg-1)
+overflow_add-image c = omega (arith, counted (goal.at.overflow_add-image c).After-name_len-n)
 
 pub bounds-image-j : goal.bounds-image-j
-bounds-image-j c = omega (arith, counted (goal.at.bounds-image-j c).After-put_u32-arg-1)
+bounds-image-j c = omega (arith, counted (goal.at.bounds-image-j c).After-name_len-n)
 
 pub overflow_add-result : goal.overflow_add-result
-overflow_add-result c = omega (arith, counted (goal.at.overflow_add-result c).After-put_u32-arg-1)
+overflow_add-result c = omega (arith, counted (goal.at.overflow_add-result c).After-name_len-n)
 
 pub shape_of-image : goal.shape_of-image
 shape_of-image c = omega arith

@@ -8,32 +8,30 @@ use mathlib.Core.Path.{◌≡◌}
 use lib.ListN.{length, take, drop}
 use borrow.Author.Rules.{rules}
 use Rattle.writer.proofs.put_operands.Goals as goal
-use Rattle.writer.proofs.put_operands.Tie as tie
-use Rattle.writer.proofs.put_operands.Goals.{After-put_operand-arg-in-loop-i-1, Start}
+use Rattle.writer.proofs.put_operands.Goals.{After-put_operand-arg-in-loop-i-1, After-put_operand-o, At-loop-i, Start}
 
 pub loop-i-init : goal.loop-i-init
 loop-i-init c = (omega arith, rest_all _ _ _)
 
-abbrev turn : After-put_operand-arg-in-loop-i-1 → tie.At-loop-i
-turn c = c.before.before.before.before
+abbrev turn : After-put_operand-arg-in-loop-i-1 → At-loop-i
+turn c = (goal.at.After-put_operand-arg-in-loop-i-1 c).At-loop-i
 
-abbrev start : tie.At-loop-i → Start
-start c = c.before.before
+abbrev start : At-loop-i → Start
+start c = (goal.at.At-loop-i c).Start
 
-three : (c : tie.At-loop-i) → length c.args.t1 ≡ 3
-three c = (start c).well_formed.0.1.0.1
+three : (c : At-loop-i) → length c.args.t1 ≡ 3
+three c = (goal.at.At-loop-i c).Start.well_formed.0.1.0.1
 
 pub put_operand-o-requires : goal.put_operand-o-requires
 put_operand-o-requires c =
-    let l = turn c in
-    left-room _ _ l.loop-i.i (three l) l.requires.0 l.loop-i.invariant.1 _ (omega arith) l.requires.1
+    left-room _ _ c.loop-i.i (three (goal.at.put_operand-o-requires c).At-loop-i) c.requires.0 c.loop-i.invariant.1 _ (omega arith) c.requires.1
 
 pub loop-i-preserved : goal.loop-i-preserved
 loop-i-preserved c =
-    let q : tie.After-put_operand-o = c.before.before.before in
+    let q : After-put_operand-o = c.before.before in
     let l = turn q.before in
     let e = q.put_operand-o.ensures in
-    (omega arith, left-more _ _ l.loop-i.i (three l) l.requires.0 l.loop-i.invariant.1 _ (omega arith) l.requires.1 e.0 e.1)
+    (omega arith, left-more _ _ l.loop-i.i (three l) (start l).requires.0 l.loop-i.invariant.1 _ (omega arith) (start l).requires.1 e.0 e.1)
 
 pub returns : goal.returns
-returns c = let l = c.before.before in left-none _ _ l.loop-i.i (three l) l.requires.0 l.loop-i.invariant.1 (omega arith)
+returns c = left-none _ _ c.loop-i.i (three (goal.at.returns c).At-loop-i) c.requires.0 c.loop-i.invariant.1 (omega arith)

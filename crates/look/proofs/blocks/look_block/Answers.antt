@@ -8,10 +8,6 @@ use Rattle.pread.specs.Answers.{block_read}
 use Rattle.look.specs.Answers.{block_look}
 use borrow.Author.Rules.{rules}
 use Rattle.look.proofs.blocks.look_block.Goals as goal
-use Rattle.look.proofs.blocks.look_block.Tie as tie
-
-abbrev reaching : tie.After-struct_known-1 → tie.After-reach_block-b
-reaching c = c.before
 
 pub returns-then-b-ne0 : goal.returns-then-b-ne0
 unfolding block_look
@@ -20,8 +16,6 @@ returns-then-b-ne0 c = c.no_block.ensures ∙ ap block_look (sym (c.reach_block-
 pub returns : goal.returns
 unfolding block_look block_read
 returns c =
-    let r = c.before.before.before in
-    let b = reaching r.before.before in
-    let t = b.reach_block-b.ensures.there (omega (arith, r.if-b-ne0.false)) in
-    let h = read-holds block_layout b.type_inv.image t.reads in
-    rw (r.block_at-block.ensures, t.reads, t.is, to_z-of_z w64 t.it.sp_offset h.sp_offset)
+    let t = c.reach_block-b.ensures.there (omega (arith, c.if-b-ne0.false)) in
+    let h = read-holds block_layout c.type_inv.image t.reads in
+    rw (c.block_at-block.ensures, t.reads, t.is, to_z-of_z w64 t.it.sp_offset h.sp_offset)

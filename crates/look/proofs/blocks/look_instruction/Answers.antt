@@ -14,58 +14,43 @@ use Rattle.look.proofs.Reaches.{element-no, refused_on, goes_on}
 use Rattle.look.proofs.InBlock.{instructions-listed, instruction-stands}
 use borrow.Author.Rules.{rules}
 use Rattle.look.proofs.blocks.look_instruction.Goals as goal
-use Rattle.look.proofs.blocks.look_instruction.Tie as tie
-use Rattle.look.proofs.blocks.look_instruction.Goals.{After-instruction-1, After-instructions_end-at, After-word32-count, Else-b-ne0, Start}
-
-abbrev start : tie.After-reach_block-b → Start
-start c = c.before.before.before
-
-abbrev reaching : tie.After-struct_known-1 → tie.After-reach_block-b
-reaching c = c.before
-
-abbrev counting : After-word32-count → Else-b-ne0
-counting c = (goal.at.After-word32-count c).Else-b-ne0
-
-abbrev walking : After-instruction-1 → After-instructions_end-at
-walking c = (goal.at.After-instruction-1 c).After-instructions_end-at
+use Rattle.look.proofs.blocks.look_instruction.Goals.{After-word32-count, Else-b-ne0}
 
 there : (c : Else-b-ne0)
-    → let b = reaching c.before.before in
-    let a = b.args in
-    Standing block a.image.now (look_block a.block (state a.image.now a.journal.now a.book)) b.reach_block-b.result.at
+    → 
+    let a = c.args in
+    Standing block a.image.now (look_block a.block (state a.image.now a.journal.now a.book)) c.reach_block-b.result.at
 there c = c.reach_block-b.ensures.there (omega (arith, c.if-b-ne0.false))
 
 known : (c : Else-b-ne0) → Bytes c.args.image.now
 known c = c.type_inv.image
 
-room : (c : Else-b-ne0) → let b = reaching c.before.before in b.reach_block-b.result.at + 24 + 4 ≤ length b.args.image.now
+room : (c : Else-b-ne0) → c.reach_block-b.result.at + 24 + 4 ≤ length c.args.image.now
 room c = (instructions-listed (known c) _ (there c).reads).fits
 
 counted : (c : After-word32-count) → c.word32-count.result ≡ length (there (goal.at.After-word32-count c).Else-b-ne0).it.instructions
-counted c = c.word32-count.ensures ∙ (instructions-listed (known (goal.at.After-word32-count c).Else-b-ne0) _ (there (goal.at.After-word32-count c).Else-b-ne0).reads).count
+counted c = let here = goal.at.After-word32-count c in c.word32-count.ensures ∙ (instructions-listed (known here.Else-b-ne0) _ (there here.Else-b-ne0).reads).count
 
 pub returns-then-b-ne0 : goal.returns-then-b-ne0
 unfolding instruction_look
 returns-then-b-ne0 c =
-    let b = reaching c.before.before.before in
-    c.no_instruction.ensures ∙ ap instruction_look (sym (refused_on _ _ (b.reach_block-b.ensures.refuses (omega (arith, c.if-b-ne0.true)))))
+    c.no_instruction.ensures ∙ ap instruction_look (sym (refused_on _ _ (c.reach_block-b.ensures.refuses (omega (arith, c.if-b-ne0.true)))))
 
 pub returns-then-count-place : goal.returns-then-count-place
 unfolding instruction_look
 returns-then-count-place c =
-    let n = (goal.at.returns-then-count-place c).After-word32-count in
-    let t = there (goal.at.After-word32-count n).Else-b-ne0 in
-    c.no_instruction-then-count-place.ensures ∙ ap instruction_look (sym (goes_on _ _ t.is ∙ element-no _ t.it.instructions (omega (arith, counted n, c.if-count-place.true))))
+    let here = goal.at.returns-then-count-place c in
+    let t = there here.Else-b-ne0 in
+    c.no_instruction-then-count-place.ensures ∙ ap instruction_look (sym (goes_on _ _ t.is ∙ element-no _ t.it.instructions (omega (arith, counted here.After-word32-count, c.if-count-place.true))))
 
 pub returns : goal.returns
 unfolding instruction_look instruction_read
 returns c =
-    let a = walking c in
-    let n = (goal.at.After-instructions_end-at a).After-word32-count in
-    let t = there (goal.at.After-word32-count n).Else-b-ne0 in
-    let h : (start (reaching (counting n).before.before)).args.place < length t.it.instructions = omega (arith, counted n, a.if-count-place.left) in
-    let i = instruction-stands (known (goal.at.After-word32-count n).Else-b-ne0) _ t.reads _ h in
-    rw (c.instruction_by_fields-found.ensures, a.instructions_end-at.ensures, i.reads) (ap instruction_look (sym (goes_on _ _ t.is ∙ i.is)))
+    let here = goal.at.returns c in
+    let t = there here.Else-b-ne0 in
+    let h : c.args.place < length t.it.instructions = omega (arith, counted here.After-word32-count, c.if-count-place.false) in
+    let i = instruction-stands (known here.Else-b-ne0) _ t.reads _ h in
+    rw (c.instruction_by_fields-found.ensures, c.instructions_end-at.ensures, i.reads) (ap instruction_look (sym (goes_on _ _ t.is ∙ i.is)))
 
 pub overflow_add-start : goal.overflow_add-start
 overflow_add-start c = omega (arith, room c)

@@ -15,14 +15,7 @@ use Rattle.ends.proofs.Same.{block_ends}
 use Rattle.look.proofs.Reaches.{element-no, element-read, hands_on, finds_none, comes_to}
 use borrow.Author.Rules.{rules}
 use Rattle.look.proofs.blocks.reach_block.Goals as goal
-use Rattle.look.proofs.blocks.reach_block.Tie as tie
-use Rattle.look.proofs.blocks.reach_block.Goals.{After-struct_known-1, Else-refusal-ne0}
-
-abbrev inspecting : After-struct_known-1 → Else-refusal-ne0
-inspecting c = c.before.before
-
-abbrev counting : After-struct_known-1 → tie.After-blocks_of-blocks
-counting c = c.before.before
+use Rattle.look.proofs.blocks.reach_block.Goals.{Else-refusal-ne0}
 
 inspected : (c : Else-refusal-ne0) → let a = c.args in Ready (state a.image.now a.journal.now a.book)
 inspected c = ready _ c.type_inv.image c.inspect-refusal.ensures (omega (arith, c.if-refusal-ne0.false))
@@ -32,16 +25,14 @@ returns-then-refusal-ne0 c = hands_on _ _ c.inspect-refusal.ensures (omega (arit
 
 pub returns-then-blocks-place : goal.returns-then-blocks-place
 returns-then-blocks-place c =
-    let b = counting (goal.at.returns-then-blocks-place c).After-struct_known-1 in
-    let r = inspected (inspecting b) in
-    finds_none _ _ r.is (element-no _ r.routine.explored_blocks (omega (arith, (b.blocks_of-blocks.ensures r.routine r.holding).1, c.if-blocks-place.true)))
+    let r = inspected (goal.at.returns-then-blocks-place c).Else-refusal-ne0 in
+    finds_none _ _ r.is (element-no _ r.routine.explored_blocks (omega (arith, (c.blocks_of-blocks.ensures r.routine r.holding).1, c.if-blocks-place.true)))
 
 pub returns : goal.returns
 returns c =
-    let b = counting (goal.at.returns c).After-struct_known-1 in
-    let r = inspected (inspecting b) in
-    let e = b.blocks_of-blocks.ensures r.routine r.holding in
-    let h : b.args.place < length r.routine.explored_blocks = omega (arith, e.1, c.if-blocks-place.false) in
+    let r = inspected (goal.at.returns c).Else-refusal-ne0 in
+    let e = c.blocks_of-blocks.ensures r.routine r.holding in
+    let h : c.args.place < length r.routine.explored_blocks = omega (arith, e.1, c.if-blocks-place.false) in
     let bs = r.routine.explored_blocks in
     let all = ap (many block _ _) e.0 ∙ many-reads block block_bytes block_layout.back _ bs refl r.holding.holds.blocks.listed.each _ _ (blocks_at r.holding) in
-    comes_to _ _ r.is (rw c.blocks_end-at.ensures (element-read block _ _ (λ o b n. block_ends _ o) _ _ bs all h))
+    comes_to _ _ r.is (rw c.blocks_end-at.ensures (element-read block _ _ (λ o c n. block_ends _ o) _ _ bs all h))

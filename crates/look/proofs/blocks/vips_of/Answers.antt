@@ -8,16 +8,16 @@ use Rattle.look.proofs.Listing.{list-none}
 use Rattle.look.proofs.InBlock.{prev-listed, next-listed}
 use borrow.Author.Rules.{rules}
 use Rattle.look.proofs.blocks.vips_of.Goals as goal
-use Rattle.look.proofs.blocks.vips_of.Tie as tie
+use Rattle.look.proofs.blocks.vips_of.Goals.{After-block_at-block}
 
-abbrev known : (c : tie.After-block_at-block) → Bytes c.args.image.now
+abbrev known : (c : After-block_at-block) → Bytes c.args.image.now
 known c = c.type_inv.image
 
 pub returns-then-list-eq0 : goal.returns-then-list-eq0
-returns-then-list-eq0 c = let r = c.before.before in λ b n e. prev-listed (known r) _ e r.block_at-block.ensures r.args.list (omega (arith, c.if-list-eq0.true))
+returns-then-list-eq0 c = λ b n e. prev-listed (known (goal.at.returns-then-list-eq0 c).After-block_at-block) _ e c.block_at-block.ensures c.args.list (omega (arith, c.if-list-eq0.true))
 
 pub returns-then-list-eq1 : goal.returns-then-list-eq1
-returns-then-list-eq1 c = let r = c.before.before.before in λ b n e. next-listed (known r) _ e r.block_at-block.ensures r.args.list (omega (arith, c.if-list-eq1.true))
+returns-then-list-eq1 c = λ b n e. next-listed (known (goal.at.returns-then-list-eq1 c).After-block_at-block) _ e c.block_at-block.ensures c.args.list (omega (arith, c.if-list-eq1.true))
 
 pub returns : goal.returns
 unfolding choose

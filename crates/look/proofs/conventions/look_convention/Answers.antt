@@ -13,6 +13,5 @@ returns-then-c-ne0 c = c.no_convention.ensures ∙ ap convention_look (sym (c.re
 pub returns : goal.returns
 unfolding convention_look convention_read
 returns c =
-    let r = c.before.before in
-    let t = r.reach_convention-c.ensures.there (omega (arith, r.if-c-ne0.false)) in
-    rw (r.convention_at-convention.ensures, t.reads, t.is)
+    let t = c.reach_convention-c.ensures.there (omega (arith, c.if-c-ne0.false)) in
+    rw (c.convention_at-convention.ensures, t.reads, t.is)

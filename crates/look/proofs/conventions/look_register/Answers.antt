@@ -15,58 +15,46 @@ use Rattle.look.proofs.Reaches.{refused_on, goes_on}
 use Rattle.look.proofs.Listing.{register-sized, element-past, element-there, element-room}
 use borrow.Author.Rules.{rules}
 use Rattle.look.proofs.conventions.look_register.Goals as goal
-use Rattle.look.proofs.conventions.look_register.Tie as tie
-use Rattle.look.proofs.conventions.look_register.Goals.{Else-c-ne0, Else-registers-place, Start}
+use Rattle.look.proofs.conventions.look_register.Goals.{After-registers_of-registers, Else-c-ne0, Else-registers-place}
 
-abbrev start : tie.After-reach_convention-c → Start
-start c = c.before.before.before
-
-abbrev reaching : Else-c-ne0 → tie.After-reach_convention-c
-reaching c = c.before.before.before
-
-abbrev place : tie.After-registers_of-registers → ℕ
+abbrev place : After-registers_of-registers → ℕ
 place c = c.args.place
 
-abbrev choosing : Else-registers-place → tie.After-registers_of-registers
-choosing c = c.before.before.before
-
 there : (c : Else-c-ne0)
-    → let p = reaching c in
-    let a = p.args in
-    Standing convention a.image.now (look_convention a.convention (state a.image.now a.journal.now a.book)) p.reach_convention-c.result.at
+    → 
+    let a = c.args in
+    Standing convention a.image.now (look_convention a.convention (state a.image.now a.journal.now a.book)) c.reach_convention-c.result.at
 there c = c.reach_convention-c.ensures.there (omega (arith, c.if-c-ne0.false))
 
-list : (c : tie.After-registers_of-registers) → let a = c.args in Lists register a.image.now (register_list a.list (there c.before).it) c.registers_of-registers.result
-list c = let t = there c.before in c.registers_of-registers.ensures t.it t.end t.reads
+list : (c : After-registers_of-registers) → let a = c.args in Lists register a.image.now (register_list a.list (there (goal.at.After-registers_of-registers c).Else-c-ne0).it) c.registers_of-registers.result
+list c = let t = there (goal.at.After-registers_of-registers c).Else-c-ne0 in c.registers_of-registers.ensures t.it t.end t.reads
 
-known : (c : Else-registers-place) → Bytes (start (reaching (choosing c).before)).args.image.now
+known : (c : Else-registers-place) → Bytes c.args.image.now
 known c = c.type_inv.image
 
-within : (c : Else-registers-place) → place (choosing c) < c.registers_of-registers.result.count
+within : (c : Else-registers-place) → place (goal.at.Else-registers-place c).After-registers_of-registers < c.registers_of-registers.result.count
 within c = omega (arith, c.if-registers-place.false)
 
-room : (c : Else-registers-place) → let n = choosing c in n.registers_of-registers.result.first + 24 * place n + 24 ≤ length n.args.image.now
-room c = element-room (list (choosing c)) _ 24 (register-sized _ (known c)) (within c)
+room : (c : Else-registers-place) → c.registers_of-registers.result.first + 24 * place (goal.at.Else-registers-place c).After-registers_of-registers + 24 ≤ length c.args.image.now
+room c = element-room (list (goal.at.Else-registers-place c).After-registers_of-registers) _ 24 (register-sized _ (known c)) (within c)
 
 pub returns-then-c-ne0 : goal.returns-then-c-ne0
 unfolding register_look
 returns-then-c-ne0 c =
-    let p = c.before.before.before.before in
-    c.no_register.ensures ∙ ap register_look (sym (refused_on _ _ (p.reach_convention-c.ensures.refuses (omega (arith, c.if-c-ne0.true)))))
+    c.no_register.ensures ∙ ap register_look (sym (refused_on _ _ (c.reach_convention-c.ensures.refuses (omega (arith, c.if-c-ne0.true)))))
 
 pub returns-then-registers-place : goal.returns-then-registers-place
 unfolding register_look
 returns-then-registers-place c =
-    let n = c.before.before.before.before in
-    c.no_register-then-registers-place.ensures ∙ ap register_look (sym (goes_on _ _ (there n.before).is ∙ element-past (list n) (place n) (omega (arith, c.if-registers-place.true))))
+    let here = goal.at.returns-then-registers-place c in
+    c.no_register-then-registers-place.ensures ∙ ap register_look (sym (goes_on _ _ (there here.Else-c-ne0).is ∙ element-past (list here.After-registers_of-registers) (place here.After-registers_of-registers) (omega (arith, c.if-registers-place.true))))
 
 pub returns : goal.returns
 unfolding register_look register_read
 returns c =
-    let d = (goal.at.returns c).Else-registers-place in
-    let n = choosing d in
-    let t = element-there (list n) _ 24 (register-sized _ (known d)) (within d) in
-    rw (c.register_at-found.ensures, t.reads) (ap register_look (sym (goes_on _ _ (there n.before).is ∙ t.is)))
+    let here = goal.at.returns c in
+    let t = element-there (list here.After-registers_of-registers) _ 24 (register-sized _ (known here.Else-registers-place)) (within here.Else-registers-place) in
+    rw (c.register_at-found.ensures, t.reads) (ap register_look (sym (goes_on _ _ (there here.Else-c-ne0).is ∙ t.is)))
 
 pub overflow_mul-place : goal.overflow_mul-place
 overflow_mul-place c = omega (arith, room c)

@@ -9,7 +9,7 @@ use Rattle.look.proofs.Reaches.{element-no, hands_on, finds_none, comes_to}
 use Rattle.look.proofs.InConvention.{convention-stands}
 use borrow.Author.Rules.{rules}
 use Rattle.look.proofs.conventions.reach_convention.Goals as goal
-use Rattle.look.proofs.conventions.reach_convention.Goals.{After-special_count-special, Else-refusal-ne0}
+use Rattle.look.proofs.conventions.reach_convention.Goals.{Else-refusal-ne0}
 
 inspected : (c : Else-refusal-ne0) → let a = c.args in Ready (state a.image.now a.journal.now a.book)
 inspected c = ready _ c.type_inv.image c.inspect-refusal.ensures (omega (arith, c.if-refusal-ne0.false))
@@ -24,7 +24,6 @@ returns-then-special-place c =
 
 pub returns : goal.returns
 returns c =
-    let n = (goal.at.returns c).After-special_count-special in
-    let r = inspected (goal.at.After-special_count-special n).Else-refusal-ne0 in
-    let h : n.args.place < length (conventions r.routine) = omega (arith, n.special_count-special.ensures r.routine r.holding, c.if-special-place.false) in
+    let r = inspected (goal.at.returns c).Else-refusal-ne0 in
+    let h : c.args.place < length (conventions r.routine) = omega (arith, c.special_count-special.ensures r.routine r.holding, c.if-special-place.false) in
     comes_to _ _ r.is (rw (c.convention_offset-at.ensures r.routine r.holding h) (convention-stands r.holding _ h))

@@ -8,19 +8,19 @@ use Rattle.look.proofs.Listing.{list-none}
 use Rattle.look.proofs.InConvention.{volatile-listed, param-listed, retval-listed}
 use borrow.Author.Rules.{rules}
 use Rattle.look.proofs.conventions.registers_of.Goals as goal
-use Rattle.look.proofs.conventions.registers_of.Tie as tie
+use Rattle.look.proofs.conventions.registers_of.Goals.{After-convention_at-convention}
 
-abbrev known : (c : tie.After-convention_at-convention) → Bytes c.args.image.now
+abbrev known : (c : After-convention_at-convention) → Bytes c.args.image.now
 known c = c.type_inv.image
 
 pub returns-then-list-eq0 : goal.returns-then-list-eq0
-returns-then-list-eq0 c = let r = c.before.before in λ k n e. volatile-listed (known r) _ e r.convention_at-convention.ensures r.args.list (omega (arith, c.if-list-eq0.true))
+returns-then-list-eq0 c = λ k n e. volatile-listed (known (goal.at.returns-then-list-eq0 c).After-convention_at-convention) _ e c.convention_at-convention.ensures c.args.list (omega (arith, c.if-list-eq0.true))
 
 pub returns-then-list-eq1 : goal.returns-then-list-eq1
-returns-then-list-eq1 c = let r = c.before.before.before in λ k n e. param-listed (known r) _ e r.convention_at-convention.ensures r.args.list (omega (arith, c.if-list-eq1.true))
+returns-then-list-eq1 c = λ k n e. param-listed (known (goal.at.returns-then-list-eq1 c).After-convention_at-convention) _ e c.convention_at-convention.ensures c.args.list (omega (arith, c.if-list-eq1.true))
 
 pub returns-then-list-eq2 : goal.returns-then-list-eq2
-returns-then-list-eq2 c = let r = c.before.before.before.before in λ k n e. retval-listed (known r) _ e r.convention_at-convention.ensures r.args.list (omega (arith, c.if-list-eq2.true))
+returns-then-list-eq2 c = λ k n e. retval-listed (known (goal.at.returns-then-list-eq2 c).After-convention_at-convention) _ e c.convention_at-convention.ensures c.args.list (omega (arith, c.if-list-eq2.true))
 
 pub returns : goal.returns
 unfolding choose
