@@ -11,10 +11,10 @@ use Rattle.instruction.proofs.Asking.{asked-sound, asked-crooked, when-refused}
 use Rattle.append.proofs.Appends.{unread, too_long, all_read}
 use borrow.Author.Rules.{rules}
 use Rattle.append.proofs.refusal_of_bytes.Goals as goal
-use Rattle.append.proofs.refusal_of_bytes.Goals.{After-asked_refusal, Else-not-sound, In-Past-2}
+use Rattle.append.proofs.refusal_of_bytes.Goals.{After-asked_refusal, Else-not-sound, In-Past}
 
 -- What passing over the bytes told.
-told : (c : In-Past-2) → asked c.in-Past.sound (ok tt c.in-Past.end) ≡ span (appended c.args.instruction.now 0)
+told : (c : In-Past) → asked c.in-Past.sound (ok tt c.in-Past.end) ≡ span (appended c.args.instruction.now 0)
 told c = sym (ap when_asked c.in-Past.is) ∙ c.instruction_past-far.ensures.1
 
 refused_with : (c : After-asked_refusal) → no c.asked_refusal.result ≡ span (appended c.args.instruction.now 0)
@@ -22,10 +22,10 @@ refused_with c = handed (when-refused c.in_default.is).1 c.instruction_past-far.
 
 -- where every register is sound it is what reading tells
 past : (c : Else-not-sound) → ok tt c.in-Past.end ≡ span (appended c.args.instruction.now 0)
-past c = sym (asked-sound (ok tt c.in-Past.end) (not-false _ c.if-not-sound.false)) ∙ told (goal.at.Else-not-sound c).In-Past-2
+past c = sym (asked-sound (ok tt c.in-Past.end) (c.if-not-sound.false)) ∙ told (goal.at.Else-not-sound c).In-Past
 
 pub returns-then-not-sound : goal.returns-then-not-sound
-returns-then-not-sound c = unread _ (sym (asked-crooked (ok tt c.in-Past.end) (c.if-not-sound.true)) ∙ told (goal.at.returns-then-not-sound c).In-Past-2)
+returns-then-not-sound c = unread _ (sym (asked-crooked (ok tt c.in-Past.end) (c.if-not-sound.true)) ∙ told (goal.at.returns-then-not-sound c).In-Past)
 
 pub returns-then-end-instruction : goal.returns-then-end-instruction
 returns-then-end-instruction c = too_long _ (past (goal.at.returns-then-end-instruction c).Else-not-sound) (omega (arith, c.if-end-instruction.true))

@@ -7,7 +7,6 @@ use Rattle.fields.specs.Bytes.{put, zeros}
 use Rattle.buffer.proofs.Moves.{clear_more, clear_none}
 use borrow.Author.Rules.{rules}
 use Rattle.buffer.proofs.clear.Goals as goal
-use Rattle.buffer.proofs.clear.Goals.{Start}
 
 pub loop-i-init : goal.loop-i-init
 loop-i-init c = (omega arith, (omega arith, (refl, clear_none _ _)))
@@ -18,5 +17,4 @@ loop-i-preserved c =
 
 pub returns : goal.returns
 returns c =
-    let s : Start = c.before.before in
-    c.loop-i.invariant.1.1.1 ∙ ap (λ (k : ℕ). put s.args.from (zeros (k - s.args.from)) s.args.a.now) (omega arith)
+    c.loop-i.invariant.1.1.1 ∙ ap (λ (k : ℕ). put c.args.from (zeros (k - c.args.from)) c.args.a.now) (omega arith)

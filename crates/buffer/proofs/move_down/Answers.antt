@@ -7,20 +7,14 @@ use Rattle.buffer.proofs.Put.{put_nil}
 use Rattle.buffer.proofs.Moves.{moved, down_more, down_last}
 use borrow.Author.Rules.{rules}
 use Rattle.buffer.proofs.move_down.Goals as goal
-use Rattle.buffer.proofs.move_down.Goals.{At-loop-i, Start}
 
 pub loop-i-init : goal.loop-i-init
 loop-i-init c = (omega arith, (refl, (refl, sym (put_nil _ _))))
 
-abbrev start : At-loop-i → Start
-start c = (goal.at.At-loop-i c).Start
-
 pub loop-i-preserved : goal.loop-i-preserved
 loop-i-preserved c =
-    let l : At-loop-i = c.before.before.before.before.before.before.before in
-    (omega arith, (omega arith, (omega arith, down_more _ _ (start l).args.from _ l.loop-i.i 512 (cc) (omega arith) (omega arith))))
+    (omega arith, (omega arith, (omega arith, down_more _ _ c.args.from _ c.loop-i.i 512 (cc) (omega arith) (omega arith))))
 
 pub returns : goal.returns
 returns c =
-    let l : At-loop-i = c.before.before.before.before.before.before.before in
-    down_last _ _ (start l).args.from _ l.loop-i.i (start l).args.n (cc) (omega arith) (omega arith) (omega arith)
+    down_last _ _ c.args.from _ c.loop-i.i c.args.n (cc) (omega arith) (omega arith) (omega arith)

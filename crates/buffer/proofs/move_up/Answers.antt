@@ -6,7 +6,6 @@ use lib.ListN.{length}
 use Rattle.buffer.proofs.Moves.{moved, up_none, up_turn, up_last}
 use borrow.Author.Rules.{rules}
 use Rattle.buffer.proofs.move_up.Goals as goal
-use Rattle.buffer.proofs.move_up.Goals.{At-loop-i}
 
 pub loop-i-init : goal.loop-i-init
 loop-i-init c = (omega arith, (refl, (refl, up_none _ _ _ _)))
@@ -16,6 +15,5 @@ loop-i-preserved c = (omega arith, (omega arith, (omega arith, up_turn _ _ _ _ _
 
 pub returns : goal.returns
 returns c =
-    let l : At-loop-i = c.before.before.before.before.before.before.before in
-    let s = l.args in
-    up_last _ _ s.from _ s.n l.loop-i.i (cc) (omega arith) (omega arith) (omega arith)
+    let s = c.args in
+    up_last _ _ s.from _ s.n c.loop-i.i (cc) (omega arith) (omega arith) (omega arith)

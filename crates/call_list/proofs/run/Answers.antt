@@ -30,7 +30,7 @@ promised c = R.replays _ _ _ _ _ _ (λ i. omega (arith, c.type_inv.words i)) (λ
 
 -- the words encode a list of calls
 encoded : (c : Else-not-is_call_list) → is_call_list c.args.words.now c.args.bytes.now ≡ true
-encoded c = sym c.is_call_list.ensures ∙ not-false _ c.if-not-is_call_list.false
+encoded c = sym c.is_call_list.ensures ∙ c.if-not-is_call_list.false
 
 pub returns-then-not-is_call_list : goal.returns-then-not-is_call_list
 unfolding Promised

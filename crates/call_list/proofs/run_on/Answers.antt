@@ -10,7 +10,7 @@ use Rattle.call_list.proofs.run_on.Goals as goal
 use Rattle.call_list.proofs.run_on.Goals.{Else-not-is_call_list}
 
 encoded : (c : Else-not-is_call_list) → is_call_list c.args.words.now c.args.bytes.now ≡ true
-encoded c = sym c.is_call_list.ensures ∙ not-false _ c.if-not-is_call_list.false
+encoded c = sym c.is_call_list.ensures ∙ c.if-not-is_call_list.false
 
 pub returns-then-not-is_call_list : goal.returns-then-not-is_call_list
 returns-then-not-is_call_list c =

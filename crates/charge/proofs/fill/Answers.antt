@@ -13,13 +13,13 @@ pub loop-op-init : goal.loop-op-init
 loop-op-init c = (c.requires, (omega arith, λ op l. absurd (omega arith)))
 
 -- the group is one of six
-grouped : (c : After-group_of) → c.Group-of.result < 6
-grouped c = rw c.Group-of.ensures (group-small _)
+grouped : (c : After-group_of) → c.group_of.result < 6
+grouped c = rw c.group_of.ensures (group-small _)
 
 pub loop-op-preserved : goal.loop-op-preserved
 loop-op-preserved c =
     let l = c.loop-op in
-    (simp length-set l.invariant.0, (omega (arith, l.invariant.0), fill_more c.args.rates.rate-1 l.table l.op (omega arith) c.Group-of.ensures l.invariant.1.1))
+    (simp length-set l.invariant.0, (omega (arith, l.invariant.0), fill_more c.args.rates.rate-1 l.table l.op (omega arith) c.group_of.ensures l.invariant.1.1))
 
 pub returns : goal.returns
 returns c =

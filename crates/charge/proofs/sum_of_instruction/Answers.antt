@@ -9,12 +9,12 @@ use borrow.Author.Rules.{rules}
 use Rattle.charge.proofs.sum_of_instruction.Goals as goal
 use Rattle.charge.proofs.sum_of_instruction.Goals.{After-group_of}
 
-grouped : (c : After-group_of) → c.Group-of.result < 6
-grouped c = rw c.Group-of.ensures (group-small _)
+grouped : (c : After-group_of) → c.group_of.result < 6
+grouped c = rw c.group_of.ensures (group-small _)
 
 pub returns : goal.returns
 returns c =
-    λ i n e. ap (λ k. get_or c.args.rates.rate-1 k 0) (c.Group-of.ensures ∙ ap group (c.op_of-op.ensures i n e))
+    λ i n e. ap (λ k. get_or c.args.rates.rate-1 k 0) (c.group_of.ensures ∙ ap group (c.op_of-op.ensures i n e))
 
 pub offset_bounds-rate-group_of : goal.offset_bounds-rate-group_of
 offset_bounds-rate-group_of c = record { fits = omega (arith, grouped c) }

@@ -12,16 +12,16 @@ use Rattle.pod.specs.Written.{convention_bytes}
 use Rattle.laws.proofs.Walks.{convention-within, convention-walked, walked-no}
 use borrow.Author.Rules.{rules}
 use Rattle.convention.proofs.convention_skip.Goals as goal
-use Rattle.convention.proofs.convention_skip.Goals.{In-Past-2}
+use Rattle.convention.proofs.convention_skip.Goals.{In-Past}
 
 -- it was passed over, and what was told is said of what was read
-told : (c : In-Past-2) → judged convention convention_sound c.args.s.now c.args.at ≡ ok c.in-Past.sound c.in-Past.end
+told : (c : In-Past) → judged convention convention_sound c.args.s.now c.args.at ≡ ok c.in-Past.sound c.in-Past.end
 told c = sym c.convention_past-far.ensures ∙ ap of_passed c.in-Past.is
 
 pub returns-in-Past : goal.returns-in-Past
 returns-in-Past c =
     let here = goal.at.returns-in-Past c in
-    convention-walked _ c.type_inv.s _ (judged-past convention convention_sound _ _ (told here.In-Past-2)) (judged-is convention convention_sound _ _ (told here.In-Past-2))
+    convention-walked _ c.type_inv.s _ (judged-past convention convention_sound _ _ (told here.In-Past)) (judged-is convention convention_sound _ _ (told here.In-Past))
 
 pub returns-in_default : goal.returns-in_default
 returns-in_default c =
@@ -30,7 +30,7 @@ returns-in_default c =
     (sym (handed (ap of_passed c.in_default.is) c.convention_past-far.ensures c.passed_refusal.ensures)))
 
 pub overflow_sub-result : goal.overflow_sub-result
-overflow_sub-result c = omega (arith, convention-within _ c.type_inv.s _ (judged-past convention convention_sound _ _ (told (goal.at.overflow_sub-result c).In-Past-2)))
+overflow_sub-result c = omega (arith, convention-within _ c.type_inv.s _ (judged-past convention convention_sound _ _ (told c)))
 
 pub bounds-s-end : goal.bounds-s-end
-bounds-s-end c = omega (arith, convention-within _ c.type_inv.s _ (judged-past convention convention_sound _ _ (told (goal.at.bounds-s-end c).In-Past-2)))
+bounds-s-end c = omega (arith, convention-within _ c.type_inv.s _ (judged-past convention convention_sound _ _ (told (goal.at.bounds-s-end c).In-Past)))

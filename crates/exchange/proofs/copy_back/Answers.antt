@@ -8,15 +8,13 @@ use Rattle.fields.specs.Bytes.{put}
 use Rattle.exchange.proofs.Reversals.{back_none, back_more, back-all}
 use borrow.Author.Rules.{rules}
 use Rattle.exchange.proofs.copy_back.Goals as goal
-use Rattle.exchange.proofs.copy_back.Goals.{At-loop-i}
 
 pub loop-i-init : goal.loop-i-init
 loop-i-init c = (omega arith, (refl, back_none _ c.args.b.now _))
 
 pub loop-i-preserved : goal.loop-i-preserved
 loop-i-preserved c =
-    let at : At-loop-i = c.before.before in
-    (omega arith, (simp length-set (omega arith), back_more _ at.args.b.now _ _ at.loop-i.i at.loop-i.invariant.1.1 (omega arith) (omega arith)))
+    (omega arith, (simp length-set (omega arith), back_more _ c.args.b.now _ _ c.loop-i.i c.loop-i.invariant.1.1 (omega arith) (omega arith)))
 
 pub returns : goal.returns
 returns c =

@@ -26,10 +26,10 @@ S c = lent (goal.at.Else-not-is_lent-2 c).After-is_lent
 -- What is known at them: both lendings are within the limit, then all lengths are in order, then the written length holds a routine, with zeros after it, then
 -- the walk fits it.
 image_lent : (c : Else-not-is_lent) → length (lent (goal.at.Else-not-is_lent c).After-is_lent).image ≤ most_lent
-image_lent c = leb-true _ _ (sym c.is_lent.ensures ∙ not-false _ c.if-not-is_lent.false)
+image_lent c = leb-true _ _ (sym c.is_lent.ensures ∙ c.if-not-is_lent.false)
 
 journal_lent : (c : Else-not-is_lent-2) → length (S c).journal ≤ most_lent
-journal_lent c = leb-true _ _ (sym c.is_lent-2.ensures ∙ not-false _ c.if-not-is_lent-2.false)
+journal_lent c = leb-true _ _ (sym c.is_lent-2.ensures ∙ c.if-not-is_lent-2.false)
 
 written : (c : Else-image-written) → (S (goal.at.Else-image-written c).Else-not-is_lent-2).book.written ≤ length (S (goal.at.Else-image-written c).Else-not-is_lent-2).image
 written c = omega (arith, c.if-image-written.false)
@@ -48,10 +48,10 @@ bytes : (c : Else-journal-used) → Bytes (S (goal.at.Else-journal-used c).Else-
 bytes c = (goal.at.Else-journal-used c).After-shared_slice_known-1.type_inv.image
 
 one : (c : Else-not-passed) → is_routine (part (S (goal.at.Else-not-passed c).Else-not-is_lent-2)) ≡ true
-one c = sym c.pass_image-passed.ensures.0 ∙ not-false _ c.if-not-passed.false
+one c = sym c.pass_image-passed.ensures.0 ∙ c.if-not-passed.false
 
 zero-after : (c : Else-not-is_zero) → rest_is_zero (S (goal.at.Else-not-is_zero c).Else-not-is_lent-2) ≡ true
-zero-after c = sym c.is_zero.ensures ∙ not-false _ c.if-not-is_zero.false
+zero-after c = sym c.is_zero.ensures ∙ c.if-not-is_zero.false
 
 -- a refusal, with its number
 refuses : (s : State) {k n start end : _} → n ≡ k → k ≡ refusal_of (held s) → (k ≡ 0 → ⊥) → (n ≡ refusal_of (held s)) × FindsBlock s start end
@@ -99,7 +99,7 @@ pub returns : goal.returns
 returns c =
     let here = goal.at.returns c in
     let s = S here.Else-not-is_lent-2 in
-    let fits = sym (c.walk_fits.ensures _ (stands s (bytes here.Else-journal-used) (within here.Else-journal-used) (one here.Else-not-passed))) ∙ not-false _ c.if-not-walk_fits.false in
+    let fits = sym (c.walk_fits.ensures _ (stands s (bytes here.Else-journal-used) (within here.Else-journal-used) (one here.Else-not-passed))) ∙ c.if-not-walk_fits.false in
     (
       sound s (bytes here.Else-journal-used) (within here.Else-journal-used) (one here.Else-not-passed) (zero-after here.Else-not-is_zero) fits,
       found s (bytes here.Else-journal-used) (within here.Else-journal-used) (one here.Else-not-passed) (zero-after here.Else-not-is_zero) fits c.place_of.ensures c.pass_image-passed.ensures.1,

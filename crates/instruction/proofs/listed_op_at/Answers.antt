@@ -10,7 +10,7 @@ use Rattle.fields.proofs.Steps.{steps, handed, on-u32, on-part}
 use Rattle.pod.specs.Layout.{named, opcode}
 use borrow.Author.Rules.{rules}
 use Rattle.instruction.proofs.listed_op_at.Goals as goal
-use Rattle.instruction.proofs.listed_op_at.Goals.{After-part_skip-name, In-Past-2}
+use Rattle.instruction.proofs.listed_op_at.Goals.{After-part_skip-name, In-Past}
 
 -- the size is read, and the name decides the answer
 past-size : (c : After-part_skip-name) {x : Res ℕ} → ( 
@@ -19,14 +19,14 @@ unfolding opcode
 past-size c h = on-u32 _ c.in-Value.is c.u32_at-size.ensures h
 
 -- the name ends within the file
-past : (c : In-Past-2) → ( let end = c.in-Value.a + c.in-Value.k in
+past : (c : In-Past) → ( let end = c.in-Value.a + c.in-Value.k in
     (c.in-Past.b ≡ end) × (end ≤ length c.args.s.now))
 past c = part-past _ _ _ (sym (ap of_skip c.in-Past.is) ∙ c.part_skip-name.ensures)
 
 pub returns-in-Past : goal.returns-in-Past
 returns-in-Past c =
     let here = goal.at.returns-in-Past c in
-    past-size here.After-part_skip-name (on-part _ _ _ _ (past here.In-Past-2).1 (rw (← c.part_of.ensures, ← (past here.In-Past-2).0) c.named_at.ensures))
+    past-size here.After-part_skip-name (on-part _ _ _ _ (past here.In-Past).1 (rw (← c.part_of.ensures, ← (past here.In-Past).0) c.named_at.ensures))
 
 pub returns-in_default-name : goal.returns-in_default-name
 unfolding bind
@@ -41,4 +41,4 @@ pub overflow_cast-n : goal.overflow_cast-n
 overflow_cast-n c = search rules
 
 pub part_of-requires : goal.part_of-requires
-part_of-requires c = (past (goal.at.part_of-requires c).In-Past-2).1
+part_of-requires c = (past c).1

@@ -35,21 +35,21 @@ numbered k n = do
   fitting k n
 
 past-count : (c : After-number_of-k) {x : Res ℕ} → (
-    x ≡ numbered c.number_of_lem.result c.in-Value.n c.args.s.now c.in-Value.a → x ≡ Named (goal.at.After-number_of-k c).Start)
+    x ≡ numbered c.number_of-k.result c.in-Value.n c.args.s.now c.in-Value.a → x ≡ Named (goal.at.After-number_of-k c).Start)
 unfolding named
 past-count c h =
-    rw (← c.number_of_lem.ensures) (on-check _ _ _ (text (goal.at.After-number_of-k c).After-u32_at-count) (on-u32 _ c.in-Value.is c.u32_at-count.ensures h))
+    rw (← c.number_of-k.ensures) (on-check _ _ _ (text (goal.at.After-number_of-k c).After-u32_at-count) (on-u32 _ c.in-Value.is c.u32_at-count.ensures h))
 
 past-number : (c : After-operand_count) {x : Res ℕ} → ( 
-    x ≡ fitting c.number_of_lem.result c.in-Value.n c.args.s.now c.in-Value.a → x ≡ Named (goal.at.After-operand_count c).Start)
-past-number c h = let here = goal.at.After-operand_count c in past-count here.After-number_of-k (on-check _ _ _ (lt-ltb here.After-number_of-k.number_of_lem.result 49 (omega (arith, c.if-k-lt49.true))) h)
+    x ≡ fitting c.number_of-k.result c.in-Value.n c.args.s.now c.in-Value.a → x ≡ Named (goal.at.After-operand_count c).Start)
+past-number c h = past-count (goal.at.After-operand_count c).After-number_of-k (on-check _ _ _ (lt-ltb c.number_of-k.result 49 (omega (arith, c.if-k-lt49.true))) h)
 
 -- the operand count that was read, and the one of the operation
 abbrev told : After-operand_count → ℕ
 told c = c.in-Value.n
 
 abbrev wanted : After-operand_count → ℕ
-wanted c = get_or counts (goal.at.After-operand_count c).After-number_of-k.number_of_lem.result 0
+wanted c = get_or counts c.number_of-k.result 0
 
 pub returns-then-n-operand_count : goal.returns-then-n-operand_count
 returns-then-n-operand_count c = let here = goal.at.returns-then-n-operand_count c in past-number here.After-operand_count (on-check _ _ _ (eq-eqb (told here.After-operand_count) (wanted here.After-operand_count) (omega (arith, c.if-n-operand_count.true, c.operand_count.ensures))) refl)
@@ -58,7 +58,7 @@ pub returns-else-n-operand_count : goal.returns-else-n-operand_count
 returns-else-n-operand_count c = let here = goal.at.returns-else-n-operand_count c in past-number here.After-operand_count (off_check _ _ _ (ne_eqb (told here.After-operand_count) (wanted here.After-operand_count) (λ e. omega (arith, e, c.if-n-operand_count.false, c.operand_count.ensures))))
 
 pub returns-else-k-lt49 : goal.returns-else-k-lt49
-returns-else-k-lt49 c = past-count (goal.at.returns-else-k-lt49 c).After-number_of-k (off_check _ _ _ (le-ltb c.before.number_of_lem.result 49 (omega (arith, c.if-k-lt49.false))))
+returns-else-k-lt49 c = past-count (goal.at.returns-else-k-lt49 c).After-number_of-k (off_check _ _ _ (le-ltb c.number_of-k.result 49 (omega (arith, c.if-k-lt49.false))))
 
 pub returns-in_default : goal.returns-in_default
 unfolding named

@@ -23,7 +23,7 @@ pub returns-in_default : goal.returns-in_default
 returns-in_default c =
     let l = c.loop-left.invariant in
     let h = c.loop-left-test.true in
-    let e = sym (handed (ap of_operand c.in_default.is) c.Operand-at.ensures.0 c.operand_refusal.ensures) in
+    let e = sym (handed (ap of_operand c.in_default.is) c.operand_at-operand.ensures.0 c.operand_refusal.ensures) in
     (run-stop operand _ _ _ l.0 h e, ask_stop _ _ _ _ l.1 h e)
 
 pub loop-left-preserved : goal.loop-left-preserved
@@ -31,8 +31,8 @@ loop-left-preserved c =
     let l = c.loop-left.invariant in
     let h = c.loop-left-test.true in
     let told = c.in-Value.is in
-    let e = sym c.Operand-at.ensures.0 ∙ ap of_operand told in
-    (run_next operand _ _ _ l.0 h e, ask_next _ _ _ _ l.1 h e (operand-told told c.Operand-at.ensures.1))
+    let e = sym c.operand_at-operand.ensures.0 ∙ ap of_operand told in
+    (run_next operand _ _ _ l.0 h e, ask_next _ _ _ _ l.1 h e (operand-told told c.operand_at-operand.ensures.1))
 
 pub returns : goal.returns
 returns c =

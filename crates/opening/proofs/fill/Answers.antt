@@ -15,7 +15,7 @@ pub returns : goal.returns
 returns c =
     let a = c.args in
     λ x e.
-    let p = c.Put-written.ensures x e in
+    let p = c.put_written-sum.ensures x e in
     c.accept.ensures _ _
     ∙ in_place a.file.now c.type_inv.file a.n x e a.image-1.now a.journal-1.now a.rates.rate (omega (arith, c.if-room-n.false)) _ _ _
     p.0 c.clear.ensures c.clear-2.ensures p.1

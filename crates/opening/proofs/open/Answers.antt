@@ -15,20 +15,20 @@ use Rattle.pod.specs.Written.{routine_bytes, walked}
 use Rattle.opening.proofs.Openings.{passed, ends, image-long, journal-long, was_read, unread, some-refusal}
 use borrow.Author.Rules.{rules}
 use Rattle.opening.proofs.open.Goals as goal
-use Rattle.opening.proofs.open.Goals.{After-pass_file-far, After-walked_refusal, Else-not-is_lent, Else-not-is_lent-2, In-Past-2, Start}
+use Rattle.opening.proofs.open.Goals.{After-pass_file-far, After-walked_refusal, Else-not-is_lent, Else-not-is_lent-2, In-Past, Start}
 
 -- both lendings are within the limit
 abbrev lent : After-pass_file-far → Else-not-is_lent-2
 lent c = (goal.at.After-pass_file-far c).Else-not-is_lent-2
 
 image_lent : (c : Else-not-is_lent) → length c.args.image.now ≤ most_lent
-image_lent c = leb-true _ _ (sym c.is_lent.ensures ∙ not-false _ c.if-not-is_lent.false)
+image_lent c = leb-true _ _ (sym c.is_lent.ensures ∙ c.if-not-is_lent.false)
 
 journal_lent : (c : Else-not-is_lent-2) → length c.args.journal.now ≤ most_lent
-journal_lent c = leb-true _ _ (sym c.is_lent-2.ensures ∙ not-false _ c.if-not-is_lent-2.false)
+journal_lent c = leb-true _ _ (sym c.is_lent-2.ensures ∙ c.if-not-is_lent-2.false)
 
-past : (c : In-Past-2) → let g = c.far-1.given.0 in
-    walked routine routine_bytes routine_sound (goal.at.In-Past-2 c).Start.args.file.now 0 ≡ ok (sight g.1.0 g.1.1.0) g.0
+past : (c : In-Past) → let g = c.far-1.given.0 in
+    walked routine routine_bytes routine_sound (goal.at.In-Past c).Start.args.file.now 0 ≡ ok (sight g.1.0 g.1.1.0) g.0
 past c = sym c.pass_file-far.ensures ∙ ap of_walked c.in-Past.is
 
 refusal : (c : After-walked_refusal) → walked routine routine_bytes routine_sound (goal.at.After-walked_refusal c).Start.args.file.now 0 ≡ no c.walked_refusal.result
@@ -37,8 +37,8 @@ refusal c = sym (handed (ap of_walked c.in_default.is) c.pass_file-far.ensures c
 pub fill-requires : goal.fill-requires
 fill-requires c =
     let here = goal.at.fill-requires c in
-    let p = passed _ (past here.In-Past-2) in
-    (ends _ c.type_inv.file (past here.In-Past-2), record { x = p.0; reads = p.1; lent = image_lent here.Else-not-is_lent })
+    let p = passed _ (past here.In-Past) in
+    (ends _ c.type_inv.file (past here.In-Past), record { x = p.0; reads = p.1; lent = image_lent here.Else-not-is_lent })
 
 pub returns-then-not-is_lent : goal.returns-then-not-is_lent
 returns-then-not-is_lent c =
@@ -57,7 +57,7 @@ pub returns-in-Past : goal.returns-in-Past
 returns-in-Past c =
     let here = goal.at.returns-in-Past c in
     let args = c.args in
-    let p = passed args.file.now (past here.In-Past-2) in
+    let p = passed args.file.now (past here.In-Past) in
     c.fill.ensures p.0 p.1 ∙ was_read args.file.now args.image-1.now args.journal-1.now args.rates.rate (image_lent here.Else-not-is_lent) (journal_lent here.Else-not-is_lent-2) p.1
 
 pub returns-in_default : goal.returns-in_default

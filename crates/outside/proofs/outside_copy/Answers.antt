@@ -51,7 +51,7 @@ C s = s.args.copy.now
 
 -- What is known at them.
 lent : (c : Else-not-is_lent) → length (C (goal.at.Else-not-is_lent c).Start) ≤ most_lent
-lent c = leb-true _ _ (sym c.is_lent.ensures ∙ not-false _ c.if-not-is_lent.false)
+lent c = leb-true _ _ (sym c.is_lent.ensures ∙ c.if-not-is_lent.false)
 
 inspected : (c : Held) → Ready (S (at_start c))
 inspected c =

@@ -11,10 +11,10 @@ use Rattle.pread.specs.Answers.{convention_read}
 use Rattle.pread.proofs.Found.{accepts, refuses}
 use borrow.Author.Rules.{rules}
 use Rattle.pread.proofs.convention_at.Goals as goal
-use Rattle.pread.proofs.convention_at.Goals.{In-Past-2}
+use Rattle.pread.proofs.convention_at.Goals.{In-Past}
 
 -- the convention that was walked over
-there : (c : In-Past-2) → let a = c.args in (k : RoutineConvention) × (convention a.s.now a.at ≡ ok k c.in-Past.end)
+there : (c : In-Past) → let a = c.args in (k : RoutineConvention) × (convention a.s.now a.at ≡ ok k c.in-Past.end)
 there c = accepts convention convention_bytes convention_sound _ _ (ap of_walked c.in-Past.is) c.convention_skip-far.ensures
 
 pub convention_there-requires : goal.convention_there-requires
@@ -23,7 +23,7 @@ convention_there-requires c =
 
 pub returns-in-Past : goal.returns-in-Past
 returns-in-Past c =
-    let k = there (goal.at.returns-in-Past c).In-Past-2 in
+    let k = there (goal.at.returns-in-Past c).In-Past in
     c.convention_there.ensures k.0 k.1 ∙ ap (convention_read _) (sym k.1)
 
 pub returns-in_default : goal.returns-in_default

@@ -10,14 +10,14 @@ use Rattle.pod.specs.Written.{header_bytes}
 use Rattle.laws.proofs.Walks.{header-within, header-walked, walked-no}
 use borrow.Author.Rules.{rules}
 use Rattle.routine.proofs.header_skip.Goals as goal
-use Rattle.routine.proofs.header_skip.Goals.{In-Past-2}
+use Rattle.routine.proofs.header_skip.Goals.{In-Past}
 
 -- it was passed over
-past : (c : In-Past-2) → ok tt c.in-Past.n ≡ span (header c.args.s.now c.args.at)
+past : (c : In-Past) → ok tt c.in-Past.n ≡ span (header c.args.s.now c.args.at)
 past c = sym (ap of_skip c.in-Past.is) ∙ c.header_past-far.ensures
 
 pub returns-in-Past : goal.returns-in-Past
-returns-in-Past c = header-walked _ c.type_inv.s _ (past (goal.at.returns-in-Past c).In-Past-2)
+returns-in-Past c = header-walked _ c.type_inv.s _ (past (goal.at.returns-in-Past c).In-Past)
 
 pub returns-in_default : goal.returns-in_default
 returns-in_default c =
@@ -25,7 +25,7 @@ returns-in_default c =
     (handed (ap of_skip c.in_default.is) c.header_past-far.ensures c.skip_refusal.ensures)
 
 pub overflow_add-result : goal.overflow_add-result
-overflow_add-result c = omega (arith, header-within _ c.type_inv.s _ (past (goal.at.overflow_add-result c).In-Past-2))
+overflow_add-result c = omega (arith, header-within _ c.type_inv.s _ (past c))
 
 pub bounds-s-at : goal.bounds-s-at
-bounds-s-at c = omega (arith, header-within _ c.type_inv.s _ (past (goal.at.bounds-s-at c).In-Past-2))
+bounds-s-at c = omega (arith, header-within _ c.type_inv.s _ (past (goal.at.bounds-s-at c).In-Past))

@@ -8,10 +8,10 @@ use Rattle.routine.specs.Head.{head_walked}
 use Rattle.routine.proofs.Notes.{routine_noted, routine_seen, routine_refused}
 use borrow.Author.Rules.{rules}
 use Rattle.routine.proofs.routine_noting.Goals as goal
-use Rattle.routine.proofs.routine_noting.Goals.{In-Past-2}
+use Rattle.routine.proofs.routine_noting.Goals.{In-Past}
 
 -- the head that was walked over
-seen : (c : In-Past-2) → let a = c.args in let g = c.head-1.given.0 in ok (sight g.1.0 g.1.1.0) g.0 ≡ head_walked a.s.now a.at
+seen : (c : In-Past) → let a = c.args in let g = c.head-1.given.0 in ok (sight g.1.0 g.1.1.0) g.0 ≡ head_walked a.s.now a.at
 seen c = sym (ap of_walked c.in-Past.is) ∙ c.head_skip-head.ensures
 
 pub returns-in-Past : goal.returns-in-Past
@@ -20,7 +20,7 @@ returns-in-Past c =
     let y = c.type_inv.s in
     let next = c.blocks_noting.result in
     let e = c.blocks_noting.ensures in
-    rw c.noted_both.ensures (routine_seen _ y _ (seen here.In-Past-2) next e.0, routine_noted _ y _ (seen here.In-Past-2) c.args.place next e.1)
+    rw c.noted_both.ensures (routine_seen _ y _ (seen here.In-Past) next e.0, routine_noted _ y _ (seen here.In-Past) c.args.place next e.1)
 
 pub returns-in_default : goal.returns-in_default
 returns-in_default c =

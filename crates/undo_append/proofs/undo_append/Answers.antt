@@ -117,7 +117,7 @@ last_in c =
       is = (sound here.Start).image-1;
       written_is = (sound here.Start).written;
       ends = (found here.After-last_instruction-instruction).end;
-      last = sym (last-read here.After-has_size) ∙ not-false _ c.if-not-has_size.false;
+      last = sym (last-read here.After-has_size) ∙ c.if-not-has_size.false;
     }
 
 passed : (c : Else-not-has_size) → undo_append (R (goal.at.Else-not-has_size c).Start) (T (goal.at.Else-not-has_size c).Start) ≡ U.done (R (goal.at.Else-not-has_size c).Start) (T (goal.at.Else-not-has_size c).Start)

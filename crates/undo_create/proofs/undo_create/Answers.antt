@@ -103,7 +103,7 @@ fresh c =
     c.is_fresh.ensures (B here.Start) (block-holds (holding here.Start) (T here.Start).place l) (stands_here (R here.Start) (T here.Start).place (holding here.Start) l (placed here.After-block_offset-at))
 
 is_new : (c : Else-not-is_fresh) → is_fresh (B (goal.at.Else-not-is_fresh c).Start) ≡ true
-is_new c = sym (fresh (goal.at.Else-not-is_fresh c).After-is_fresh) ∙ not-false _ c.if-not-is_fresh.false
+is_new c = sym (fresh (goal.at.Else-not-is_fresh c).After-is_fresh) ∙ c.if-not-is_fresh.false
 
 passed : (c : Else-not-is_fresh) → undo_create (R (goal.at.Else-not-is_fresh c).Start) (T (goal.at.Else-not-is_fresh c).Start) ≡ U.done (R (goal.at.Else-not-is_fresh c).Start) (T (goal.at.Else-not-is_fresh c).Start)
 passed c = same-vip (goal.at.Else-not-is_fresh c).Else-word64-last ∙ unless_on 13 _ (is_new c)

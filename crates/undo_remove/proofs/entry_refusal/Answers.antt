@@ -38,7 +38,7 @@ abbrev at_find : After-find-found → Start
 at_find c = (goal.at.After-find-found c).Start
 
 whole : (c : After-find-found) → ( is_block (T (goal.at.After-find-found c).Start).vip-1 (last_bytes (T (goal.at.After-find-found c).Start).len c.args.entries.now) ≡ true)
-whole c = sym (tested (goal.at.After-find-found c).After-is_block) ∙ not-false _ c.if-not-is_block.false
+whole c = sym (tested (goal.at.After-find-found c).After-is_block) ∙ c.if-not-is_block.false
 
 -- the routine that the image holds
 module _ (r : Routine) where

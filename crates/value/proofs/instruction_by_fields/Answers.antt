@@ -9,46 +9,35 @@ use Rattle.value.proofs.Parts.{op-listed, counts-small, op_off, operands_off, ta
 use Rattle.fields.proofs.Steps.{handed}
 use borrow.Author.Rules.{rules}
 use Rattle.value.proofs.instruction_by_fields.Goals as goal
-use Rattle.value.proofs.instruction_by_fields.Goals.{After-operand_count-count, After-operands_at-x, After-tail_at-tail, In-Value-2, In_default, In_default-tail}
-
-abbrev counting : After-operands_at-x → After-operand_count-count
-counting c = (goal.at.After-operands_at-x c).After-operand_count-count
-
-abbrev reading : After-tail_at-tail → After-operands_at-x
-reading c = (goal.at.After-tail_at-tail c).After-operands_at-x
+use Rattle.value.proofs.instruction_by_fields.Goals.{After-operands_at-x, In-Value}
 
 -- The operation that was read, and where its operands were asked for.
-op-is : (c : In-Value-2) → opcode c.args.s.now c.args.at ≡ ok c.in-Value.k c.in-Value.a
+op-is : (c : In-Value) → opcode c.args.s.now c.args.at ≡ ok c.in-Value.k c.in-Value.a
 op-is c = sym c.op_at-op.ensures ∙ ap of_op c.in-Value.is
 
-abbrev asked : After-operands_at-x → In-Value-2
-asked c = (goal.at.After-operands_at-x c).In-Value-2
+abbrev asked : After-operands_at-x → In-Value
+asked c = (goal.at.After-operands_at-x c).In-Value
 
 pub overflow_cast-number : goal.overflow_cast-number
 overflow_cast-number c = omega (arith, op-listed _ _ (op-is (asked (goal.at.overflow_cast-number c).After-operands_at-x)))
 
 pub returns-then-x-ne0 : goal.returns-then-x-ne0
 returns-then-x-ne0 c =
-    let x : After-operands_at-x = c.before.before.before in
-    c.refused.ensures ∙ operands_off _ _ (op-is (asked x)) _ _ (counting x).operand_count-count.ensures x.operands_at-x.ensures (λ z. omega arith)
+    c.refused.ensures ∙ operands_off _ _ (op-is (goal.at.returns-then-x-ne0 c).In-Value) _ _ c.operand_count-count.ensures c.operands_at-x.ensures (λ z. omega arith)
 
 pub returns-in-Value-tail : goal.returns-in-Value-tail
 returns-in-Value-tail c =
-    all-on _ _ (op-is (goal.at.returns-in-Value-tail c).In-Value-2) _ _ c.operand_count-count.ensures c.operands_at-x.ensures _ (search rules) (omega arith)
+    all-on _ _ (op-is (goal.at.returns-in-Value-tail c).In-Value) _ _ c.operand_count-count.ensures c.operands_at-x.ensures _ (search rules) (omega arith)
     (sym c.tail_at-tail.ensures ∙ ap of_tail c.in-Value-tail.is) c.flag_bit.ensures
 
 pub returns-in_default-tail : goal.returns-in_default-tail
 returns-in_default-tail c =
-    let e : In_default-tail = c.before.before in
-    let t : After-tail_at-tail = e.before.before in
-    let x = reading t in
-    c.refused-in_default-tail.ensures ∙ tail_off _ _ (op-is (asked x)) _ _ (counting x).operand_count-count.ensures x.operands_at-x.ensures (omega arith)
-    (sym (handed (ap of_tail e.in_default-tail.is) t.tail_at-tail.ensures c.tail_refusal.ensures))
+    c.refused-in_default-tail.ensures ∙ tail_off _ _ (op-is (goal.at.returns-in_default-tail c).In-Value) _ _ c.operand_count-count.ensures c.operands_at-x.ensures (omega arith)
+    (sym (handed (ap of_tail c.in_default-tail.is) c.tail_at-tail.ensures c.tail_refusal.ensures))
 
 pub returns-in_default : goal.returns-in_default
 returns-in_default c =
-    let e : In_default = c.before.before in
-    c.refused-in_default.ensures ∙ op_off _ _ (sym (handed (ap of_op e.in_default.is) e.op_at-op.ensures c.op_refusal.ensures))
+    c.refused-in_default.ensures ∙ op_off _ _ (sym (handed (ap of_op c.in_default.is) c.op_at-op.ensures c.op_refusal.ensures))
 
 pub operands_at-x-requires : goal.operands_at-x-requires
 operands_at-x-requires c = rw c.operand_count-count.ensures (counts-small _)

@@ -15,13 +15,10 @@ use Rattle.value.proofs.Gather.{Got, got_none, got_more, got_stop, got_all}
 use Rattle.fields.proofs.Steps.{handed}
 use borrow.Author.Rules.{rules}
 use Rattle.value.proofs.operands_at.Goals as goal
-use Rattle.value.proofs.operands_at.Goals.{After-operand_at-operand, At-loop-i, In-Value-2}
+use Rattle.value.proofs.operands_at.Goals.{At-loop-i}
 
 pub loop-i-init : goal.loop-i-init
 loop-i-init c = ([], refl, omega arith, places-none _ c.unused_place-none.ensures, got_none operand _ _ _)
-
-abbrev turn : After-operand_at-operand → At-loop-i
-turn c = (goal.at.After-operand_at-operand c).At-loop-i
 
 abbrev N : At-loop-i → ℕ
 N c = c.args.count
@@ -29,24 +26,21 @@ N c = c.args.count
 pub returns-in_default : goal.returns-in_default
 unfolding operands_read
 returns-in_default c =
-    let d : After-operand_at-operand = c.before.before.before in
-    let l = (turn d).loop-i in
-    let q = handed (ap of_operand c.in_default.is) d.Operand-at.ensures.0 c.operand_refusal.ensures in
-    let e = got_stop operand (N (turn d)) _ _ l.invariant.0 l.i _ l.invariant.4 (omega arith) (sym q) in
-    rw (e, places-none _ (turn d).unused_place-none.ensures)
+    let l = c.loop-i in
+    let q = handed (ap of_operand c.in_default.is) c.operand_at-operand.ensures.0 c.operand_refusal.ensures in
+    let e = got_stop operand (N (goal.at.returns-in_default c).At-loop-i) _ _ l.invariant.0 l.i _ l.invariant.4 (omega arith) (sym q) in
+    rw (e, places-none _ c.unused_place-none.ensures)
 
 pub loop-i-preserved : goal.loop-i-preserved
 loop-i-preserved c =
-    let v : In-Value-2 = c.before.before in
-    let d : After-operand_at-operand = v.before.before in
-    let l = d.loop-i in
-    let x = v.in-Value.x in
+    let l = c.loop-i in
+    let x = c.in-Value.x in
     let h : length l.invariant.0 ≡ l.i = l.invariant.1 in (
       l.invariant.0 ++ x ∷ [],
       length-append l.invariant.0 (x ∷ []) ∙ omega arith,
       omega arith,
       rw (c.operand_desc.ensures, l.invariant.3, ← h) (places-set l.invariant.0 x (omega arith)),
-      got_more operand (N (turn d)) _ _ l.invariant.0 l.i _ l.invariant.4 (omega arith) (sym d.Operand-at.ensures.0 ∙ ap of_operand v.in-Value.is),
+      got_more operand (N (goal.at.loop-i-preserved c).At-loop-i) _ _ l.invariant.0 l.i _ l.invariant.4 (omega arith) (sym c.operand_at-operand.ensures.0 ∙ ap of_operand c.in-Value.is),
     )
 
 pub returns : goal.returns

@@ -3,13 +3,10 @@ use Rattle.fields.proofs.Steps.{steps}
 use Rattle.value.proofs.Parts.{tail-stands}
 use borrow.Author.Rules.{rules}
 use Rattle.value.proofs.sp_at.Goals as goal
-use Rattle.value.proofs.sp_at.Goals.{In-Value, Start}
 
 pub returns-in-Value-sp_reset : goal.returns-in-Value-sp_reset
 returns-in-Value-sp_reset c =
-    let index : In-Value = c.before.before.before.before in
-    let s : Start = index.before.before.before.before.before in
-    tail-stands _ _ _ s.args.offset (search rules) (search (rules, steps))
+    tail-stands _ _ _ c.args.offset (search rules) (search (rules, steps))
 
 pub returns-in_default-sp_reset : goal.returns-in_default-sp_reset
 returns-in_default-sp_reset c = search (rules, steps)

@@ -6,18 +6,14 @@ use mir.Val.{SFits}
 use mir.ValLaws.{to_z-of_z}
 use borrow.Author.Rules.{rules}
 use Rattle.value.proofs.tail_at.Goals as goal
-use Rattle.value.proofs.tail_at.Goals.{After-i64_at-sp_offset, In-Value-2, In-Value-sp_offset-2}
 
 pub returns-in-Value-sp_offset : goal.returns-in-Value-sp_offset
 unfolding tail
 returns-in-Value-sp_offset c =
-    let offset : In-Value-sp_offset-2 = c.before.before in
-    let asked : After-i64_at-sp_offset = offset.before.before in
-    let vip : In-Value-2 = asked.before.before in
-    let z = offset.in-Value-sp_offset.z in
+    let z = c.in-Value-sp_offset.z in
     let f : SFits w64 z = search rules in
     let e = c.sp_at.ensures in
-    on-u64 _ vip.in-Value.is vip.u64_at-vip.ensures (on-i64 _ offset.in-Value-sp_offset.is asked.i64_at-sp_offset.ensures (rw (to_z-of_z w64 z f) at e))
+    on-u64 _ c.in-Value.is c.u64_at-vip.ensures (on-i64 _ c.in-Value-sp_offset.is c.i64_at-sp_offset.ensures (rw (to_z-of_z w64 z f) at e))
 
 pub returns-in_default-sp_offset : goal.returns-in_default-sp_offset
 unfolding tail

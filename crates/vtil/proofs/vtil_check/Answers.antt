@@ -13,10 +13,10 @@ use Rattle.laws.proofs.Walks.{walked-past, walked-refused}
 use Rattle.vtil.proofs.Told.{ends, told-ok, told-no, minus_fits, within_limit, over_limit}
 use borrow.Author.Rules.{rules}
 use Rattle.vtil.proofs.vtil_check.Goals as goal
-use Rattle.vtil.proofs.vtil_check.Goals.{In-Past-2}
+use Rattle.vtil.proofs.vtil_check.Goals.{In-Past}
 
 -- the walk accepts
-past : (c : In-Past-2) → ok tt c.in-Past.n ≡ span (read_file c.args.file.now)
+past : (c : In-Past) → ok tt c.in-Past.n ≡ span (read_file c.args.file.now)
 past c = walked-past routine routine_bytes routine_sound _ 0 (sym c.pass_file-far.ensures ∙ ap of_walked c.in-Past.is)
 
 pub returns-then-file-gt-MOST_LENGTH : goal.returns-then-file-gt-MOST_LENGTH
@@ -24,11 +24,11 @@ returns-then-file-gt-MOST_LENGTH c = over_limit _ c.if-file-gt-MOST_LENGTH.true
 
 pub signed-requires : goal.signed-requires
 signed-requires c =
-    omega (arith, ends _ c.type_inv.file (past (goal.at.signed-requires c).In-Past-2))
+    omega (arith, ends _ c.type_inv.file (past c))
 
 pub returns-in-Past : goal.returns-in-Past
 returns-in-Past c =
-    to_z-of_z w64 _ (record { sfits = c.signed.type_inv }) ∙ c.signed.ensures ∙ told-ok _ (past (goal.at.returns-in-Past c).In-Past-2) ∙ within_limit _ c.if-file-gt-MOST_LENGTH.false
+    to_z-of_z w64 _ (record { sfits = c.signed.type_inv }) ∙ c.signed.ensures ∙ told-ok _ (past (goal.at.returns-in-Past c).In-Past) ∙ within_limit _ c.if-file-gt-MOST_LENGTH.false
 
 pub returns-in_default : goal.returns-in_default
 returns-in_default c =

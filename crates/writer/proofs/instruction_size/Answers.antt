@@ -5,18 +5,14 @@ use Rattle.writer.proofs.Whole.{size-whole}
 use Prim.Native.Nat.{◌≤◌}
 use borrow.Author.Rules.{rules}
 use Rattle.writer.proofs.instruction_size.Goals as goal
-use Rattle.writer.proofs.instruction_size.Goals.{After-name_len, Start}
-
-abbrev start : After-name_len → Start
-start c = (goal.at.After-name_len c).Start
+use Rattle.writer.proofs.instruction_size.Goals.{After-name_len}
 
 brief : (c : After-name_len) → c.name_len.result ≤ 6
 brief c = omega (arith, c.name_len.ensures, short c.args.value.op)
 
 pub returns : goal.returns
 returns c =
-    let n : After-name_len = c.before.before in
-    omega (arith, size-whole (start n).args.value, n.name_len.ensures, c.operands_size.ensures.0)
+    omega (arith, size-whole c.args.value, c.name_len.ensures, c.operands_size.ensures.0)
 
 pub overflow_add-result : goal.overflow_add-result
 overflow_add-result c = omega (arith, brief c)

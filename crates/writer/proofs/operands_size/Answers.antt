@@ -17,11 +17,9 @@ overflow_add-n c = omega (arith, c.operand_size-n.ensures.1)
 
 pub loop-i-preserved : goal.loop-i-preserved
 loop-i-preserved c =
-    let l : At-loop-i = c.before.before.before in
     let b = c.operand_size-n.ensures in
-    (omega arith, (omega (arith, b.1), sum_more l.args.t1 _ l.loop-i.i (three l) l.requires _ (omega arith) _ _ _ l.loop-i.invariant.1.1 b.0))
+    (omega arith, (omega (arith, b.1), sum_more c.args.t1 _ c.loop-i.i (three (goal.at.loop-i-preserved c).At-loop-i) c.requires _ (omega arith) _ _ _ c.loop-i.invariant.1.1 b.0))
 
 pub returns : goal.returns
 returns c =
-    let l : At-loop-i = c.before in
-    (sum-none l.args.t1 _ l.loop-i.i (three l) l.requires _ _ (omega arith) l.loop-i.invariant.1.1, omega arith)
+    (sum-none c.args.t1 _ c.loop-i.i (three (goal.at.returns c).At-loop-i) c.requires _ _ (omega arith) c.loop-i.invariant.1.1, omega arith)

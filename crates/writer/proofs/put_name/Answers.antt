@@ -10,10 +10,7 @@ use Rattle.writer.proofs.Name.{byte_more, byte-none, name-put, size-name}
 use Rattle.writer.proofs.Rest.{Rest, rest_all}
 use borrow.Author.Rules.{rules}
 use Rattle.writer.proofs.put_name.Goals as goal
-use Rattle.writer.proofs.put_name.Goals.{After-name_len-n, At-loop-j}
-
-abbrev naming : At-loop-j → After-name_len-n
-naming c = (goal.at.At-loop-j c).After-name_len-n
+use Rattle.writer.proofs.put_name.Goals.{After-name_len-n}
 
 -- the name's length, which is small, and fits after its size
 counted : (c : After-name_len-n) → (c.name_len-n.result ≡ length (get_or names c.args.k []))
@@ -28,9 +25,8 @@ loop-j-init c = (omega arith, rest_all _ _ _)
 
 pub loop-j-preserved : goal.loop-j-preserved
 loop-j-preserved c =
-    let l : At-loop-j = c.before.before in
-    let n = counted (naming l) in
-    (omega arith, byte_more _ _ l.loop-j.invariant.1 (omega arith) (omega arith) c.name_byte.ensures)
+    let n = counted (goal.at.loop-j-preserved c).After-name_len-n in
+    (omega arith, byte_more _ _ c.loop-j.invariant.1 (omega arith) (omega arith) c.name_byte.ensures)
 
 pub returns : goal.returns
 returns c =

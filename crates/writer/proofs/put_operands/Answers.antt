@@ -8,16 +8,10 @@ use mathlib.Core.Path.{◌≡◌}
 use lib.ListN.{length, take, drop}
 use borrow.Author.Rules.{rules}
 use Rattle.writer.proofs.put_operands.Goals as goal
-use Rattle.writer.proofs.put_operands.Goals.{After-put_operand-arg-in-loop-i-1, After-put_operand-o, At-loop-i, Start}
+use Rattle.writer.proofs.put_operands.Goals.{At-loop-i, Start}
 
 pub loop-i-init : goal.loop-i-init
 loop-i-init c = (omega arith, rest_all _ _ _)
-
-abbrev turn : After-put_operand-arg-in-loop-i-1 → At-loop-i
-turn c = (goal.at.After-put_operand-arg-in-loop-i-1 c).At-loop-i
-
-abbrev start : At-loop-i → Start
-start c = (goal.at.At-loop-i c).Start
 
 three : (c : At-loop-i) → length c.args.t1 ≡ 3
 three c = (goal.at.At-loop-i c).Start.well_formed.0.1.0.1
@@ -28,10 +22,8 @@ put_operand-o-requires c =
 
 pub loop-i-preserved : goal.loop-i-preserved
 loop-i-preserved c =
-    let q : After-put_operand-o = c.before.before in
-    let l = turn q.before in
-    let e = q.put_operand-o.ensures in
-    (omega arith, left-more _ _ l.loop-i.i (three l) (start l).requires.0 l.loop-i.invariant.1 _ (omega arith) (start l).requires.1 e.0 e.1)
+    let e = c.put_operand-o.ensures in
+    (omega arith, left-more _ _ c.loop-i.i (three (goal.at.loop-i-preserved c).At-loop-i) c.requires.0 c.loop-i.invariant.1 _ (omega arith) c.requires.1 e.0 e.1)
 
 pub returns : goal.returns
 returns c = left-none _ _ c.loop-i.i (three (goal.at.returns c).At-loop-i) c.requires.0 c.loop-i.invariant.1 (omega arith)

@@ -3,10 +3,8 @@ use native.Mathlib.Omega.{arith}
 use Rattle.writer.proofs.Fields.{register-put}
 use borrow.Author.Rules.{rules}
 use Rattle.writer.proofs.put_register.Goals as goal
-use Rattle.writer.proofs.put_register.Goals.{After-struct_told-1}
 
 pub returns : goal.returns
 returns c =
-    let told : After-struct_told-1 = c.before.before.before.before.before.before.before.before.before.before in
-    let g = told.type_inv.v in
+    let g = c.type_inv.v in
     register-put _ _ _ _ (record { sfits = g.1.1.0.1 }) (record { sfits = g.1.1.1.0.1 }) (cc) (omega arith)
