@@ -45,7 +45,7 @@ move_within-requires c = let here = goal.at.move_within-requires c in (omega (ar
 pub put_instruction-requires : goal.put_instruction-requires
 put_instruction-requires c =
     let here = goal.at.put_instruction-requires c in
-    (omega (arith, at_least (octets here.After-shared_slice_known-1) c.requires.1.0), omega (arith, ends-within (T here.Start), c.requires.1.1, c.move_within.kept.0))
+    (omega (arith, at_least (octets here.After-shared_slice_known-1) c.requires.1.0), omega (arith, ends-within (T here.Start), c.requires.1.1, c.move_within.auto.0))
 
 pub overflow_add-at-2 : goal.overflow_add-at-2
 overflow_add-at-2 c = let here = goal.at.overflow_add-at-2 c in omega (arith, head-within (T here.Start), lent here.Start)
@@ -55,7 +55,7 @@ overflow_add-count c = let here = goal.at.overflow_add-count c in omega (arith, 
 
 pub put_u32-requires : goal.put_u32-requires
 put_u32-requires c =
-    omega (arith, head-within (T (goal.at.put_u32-requires c).Start), c.requires.1.1, c.move_within.kept.0, c.put_instruction.kept.0)
+    omega (arith, head-within (T (goal.at.put_u32-requires c).Start), c.requires.1.1, c.move_within.auto.0, c.put_instruction.auto.0)
 
 pub returns : goal.returns
 returns c =

@@ -21,14 +21,14 @@ call_at-last-requires c = W.sits _ _ _ (omega (arith, c.loop-at-test.true)) c.lo
 
 pub overflow_add-at : goal.overflow_add-at
 overflow_add-at c =
-    omega (arith, W.more c.args.words.now c.args.bytes.now c.loop-at.at (omega (arith, c.loop-at-test.taken)) c.loop-at.invariant.0.encodes, c.good.1.1.1.0.0)
+    omega (arith, W.more c.args.words.now c.args.bytes.now c.loop-at.at (omega (arith, c.loop-at-test.true)) c.loop-at.invariant.0.encodes, c.good.1.1.1.0.0)
 
 pub loop-at-preserved : goal.loop-at-preserved
 loop-at-preserved c =
     (
-      R.next _ _ _ _ _ c.loop-at.invariant.0 (omega (arith, c.loop-at-test.taken)) c.call_at-last.ensures,
-      c.call_at-last.kept.1.0 ∙ c.loop-at.invariant.1,
-      c.call_at-last.kept.1.1.0 ∙ c.loop-at.invariant.2,
+      R.next _ _ _ _ _ c.loop-at.invariant.0 (omega (arith, c.loop-at-test.true)) c.call_at-last.ensures,
+      c.call_at-last.auto.1.0 ∙ c.loop-at.invariant.1,
+      c.call_at-last.auto.1.1.0 ∙ c.loop-at.invariant.2,
     )
 
 pub returns : goal.returns

@@ -19,7 +19,7 @@ grouped c = rw c.group_of.ensures (group-small _)
 pub loop-op-preserved : goal.loop-op-preserved
 loop-op-preserved c =
     let l = c.loop-op in
-    (simp length-set l.invariant.0, (omega (arith, l.invariant.0), fill_more c.args.rates.rate-1 l.table l.op (omega arith) c.group_of.ensures l.invariant.1.1))
+    (simp length-set l.invariant.0, (omega (arith, l.invariant.0), fill_more c.args.rates.rate l.table l.op (omega arith) c.group_of.ensures l.invariant.1.1))
 
 pub returns : goal.returns
 returns c =

@@ -14,7 +14,7 @@ grouped c = rw c.group_of.ensures (group-small _)
 
 pub returns : goal.returns
 returns c =
-    λ i n e. ap (λ k. get_or c.args.rates.rate-1 k 0) (c.group_of.ensures ∙ ap group (c.op_of-op.ensures i n e))
+    λ i n e. ap (λ k. get_or c.args.rates.rate k 0) (c.group_of.ensures ∙ ap group (c.op_of-op.ensures i n e))
 
 pub offset_bounds-rate-group_of : goal.offset_bounds-rate-group_of
 offset_bounds-rate-group_of c = record { fits = omega (arith, grouped c) }

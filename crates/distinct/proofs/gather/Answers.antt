@@ -25,7 +25,7 @@ sift-requires c = put_under (block (goal.at.sift-requires c).After-block_at-k) c
 
 pub loop-left-preserved-then-v-root-2 : goal.loop-left-preserved-then-v-root-2
 loop-left-preserved-then-v-root-2 c =
-    gather_put (block (goal.at.loop-left-preserved-then-v-root-2 c).After-block_at-k) c.loop-left.invariant (omega arith) (omega arith) _ c.sift.kept.0 c.sift.ensures
+    gather_put (block (goal.at.loop-left-preserved-then-v-root-2 c).After-block_at-k) c.loop-left.invariant (omega arith) (omega arith) _ c.sift.auto.0 c.sift.ensures
 
 pub loop-left-preserved-else-v-root-2 : goal.loop-left-preserved-else-v-root-2
 loop-left-preserved-else-v-root-2 c = gather_pass (block (goal.at.loop-left-preserved-else-v-root-2 c).After-block_at-k) c.loop-left.invariant (omega arith) (omega arith)

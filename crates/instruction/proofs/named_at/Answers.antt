@@ -14,7 +14,7 @@ use Rattle.op.specs.Text.{is_text}
 use Rattle.pod.specs.Layout.{named}
 use borrow.Author.Rules.{rules}
 use Rattle.instruction.proofs.named_at.Goals as goal
-use Rattle.instruction.proofs.named_at.Goals.{After-number_of-k, After-operand_count, After-u32_at-count, Start}
+use Rattle.instruction.proofs.named_at.Goals.{After-number_of-k, After-operand_count, After-u32_at-count, In-Value, Start}
 
 -- What is known at them: how much of the definition is passed, and what is left of it.
 abbrev Named : Start → Res ℕ
@@ -46,7 +46,7 @@ past-number c h = past-count (goal.at.After-operand_count c).After-number_of-k (
 
 -- the operand count that was read, and the one of the operation
 abbrev told : After-operand_count → ℕ
-told c = c.in-Value.n
+told c = (goal.at.After-operand_count c).In-Value.count.given.0.0
 
 abbrev wanted : After-operand_count → ℕ
 wanted c = get_or counts c.number_of-k.result 0

@@ -23,13 +23,13 @@ loop-left-init c =
 pub overflow_add-sum : goal.overflow_add-sum
 overflow_add-sum c =
     let w = c.requires in
-    let below = run_below (c.loop-left.invariant.1 w.x w.end w.reads) local-block c.loop-left-test.taken c.normalise_block-passed.ensures in
+    let below = run_below (c.loop-left.invariant.1 w.x w.end w.reads) local-block c.loop-left-test.true c.normalise_block-passed.ensures in
     omega (arith, below, w.fits)
 
 pub loop-left-preserved : goal.loop-left-preserved
 loop-left-preserved c =
     let inv = c.loop-left.invariant in
-    (c.normalise_block-passed.auto.0 ∙ inv.0, λ xs n e. run_next (inv.1 xs n e) local-block c.loop-left-test.taken c.normalise_block-passed.ensures)
+    (c.normalise_block-passed.auto.0 ∙ inv.0, λ xs n e. run_next (inv.1 xs n e) local-block c.loop-left-test.true c.normalise_block-passed.ensures)
 
 pub returns : goal.returns
 returns c =

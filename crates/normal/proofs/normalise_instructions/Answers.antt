@@ -23,12 +23,12 @@ loop-left-init c =
 -- a rate has 32 bits, and so has the count
 pub overflow_add-sum : goal.overflow_add-sum
 overflow_add-sum c =
-    omega (arith, c.normalise_instruction-passed.ensures.1, c.loop-left.invariant.1, c.loop-left-test.taken)
+    omega (arith, c.normalise_instruction-passed.ensures.1, c.loop-left.invariant.1, c.loop-left-test.true)
 
 pub loop-left-preserved : goal.loop-left-preserved
 loop-left-preserved c =
     let inv = c.loop-left.invariant in
-    (c.normalise_instruction-passed.auto.0 ∙ inv.0, omega (arith, c.normalise_instruction-passed.ensures.1, inv.1, c.loop-left-test.taken), λ xs n e. run_next (inv.2 xs n e) local-instruction c.loop-left-test.taken c.normalise_instruction-passed.ensures.0)
+    (c.normalise_instruction-passed.auto.0 ∙ inv.0, omega (arith, c.normalise_instruction-passed.ensures.1, inv.1, c.loop-left-test.true), λ xs n e. run_next (inv.2 xs n e) local-instruction c.loop-left-test.true c.normalise_instruction-passed.ensures.0)
 
 pub returns : goal.returns
 returns c =

@@ -11,7 +11,7 @@ returns-then-a-le-PAD c = too_short c.args.table.now c.type_inv.a (omega (arith,
 
 pub shape_of-a : goal.shape_of-a
 shape_of-a c =
-    c.normalise_blocks.kept.0 ∙ c.normalise_conventions-blocks.kept.0 ∙ c.normalise_convention-special.kept.0 ∙ c.normalise_convention-sub.kept.0
+    c.normalise_blocks.auto.0 ∙ c.normalise_conventions-blocks.auto.0 ∙ c.normalise_convention-special.auto.0 ∙ c.normalise_convention-sub.auto.0
     ∙ length-set c.args.a.now _ _
 
 pub normalise_blocks-requires : goal.normalise_blocks-requires

@@ -20,12 +20,12 @@ loop-blocks-init c = (refl, λ xs m h. run-start m h)
 pub mask_block-o-requires : goal.mask_block-o-requires
 mask_block-o-requires c =
     let w = c.requires in
-    run_stands (c.loop-blocks.invariant.1 w.x w.holds w.at) (omega (arith, c.loop-blocks-test.taken))
+    run_stands (c.loop-blocks.invariant.1 w.x w.holds w.at) (omega (arith, c.loop-blocks-test.true))
 
 pub loop-blocks-preserved : goal.loop-blocks-preserved
 loop-blocks-preserved c =
     let inv = c.loop-blocks.invariant in
-    (c.mask_block-o.auto.0 ∙ inv.0, λ xs m h. run_next (inv.1 xs m h) block-kept (omega (arith, c.loop-blocks-test.taken)) c.mask_block-o.ensures)
+    (c.mask_block-o.auto.0 ∙ inv.0, λ xs m h. run_next (inv.1 xs m h) block-kept (omega (arith, c.loop-blocks-test.true)) c.mask_block-o.ensures)
 
 pub returns : goal.returns
 returns c = λ xs m h. run_end (c.loop-blocks.invariant.1 xs m h) c.loop-blocks-test.false

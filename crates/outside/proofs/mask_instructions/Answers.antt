@@ -20,12 +20,12 @@ loop-instructions-init c = (refl, λ xs m h. run-start m h)
 pub mask_instruction-o-requires : goal.mask_instruction-o-requires
 mask_instruction-o-requires c =
     let w = c.requires in
-    run_stands (c.loop-instructions.invariant.1 w.x w.holds w.at) (omega (arith, c.loop-instructions-test.taken))
+    run_stands (c.loop-instructions.invariant.1 w.x w.holds w.at) (omega (arith, c.loop-instructions-test.true))
 
 pub loop-instructions-preserved : goal.loop-instructions-preserved
 loop-instructions-preserved c =
     let inv = c.loop-instructions.invariant in
-    (c.mask_instruction-o.auto.0 ∙ inv.0, λ xs m h. run_next (inv.1 xs m h) instruction-kept (omega (arith, c.loop-instructions-test.taken)) c.mask_instruction-o.ensures)
+    (c.mask_instruction-o.auto.0 ∙ inv.0, λ xs m h. run_next (inv.1 xs m h) instruction-kept (omega (arith, c.loop-instructions-test.true)) c.mask_instruction-o.ensures)
 
 pub returns : goal.returns
 returns c = λ xs m h. run_end (c.loop-instructions.invariant.1 xs m h) c.loop-instructions-test.false

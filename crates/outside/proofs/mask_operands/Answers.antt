@@ -20,12 +20,12 @@ loop-operands-init c = (refl, λ xs m h. run-start m h)
 pub mask_operand-o-requires : goal.mask_operand-o-requires
 mask_operand-o-requires c =
     let w = c.requires in
-    run_stands (c.loop-operands.invariant.1 w.x w.holds w.at) (omega (arith, c.loop-operands-test.taken))
+    run_stands (c.loop-operands.invariant.1 w.x w.holds w.at) (omega (arith, c.loop-operands-test.true))
 
 pub loop-operands-preserved : goal.loop-operands-preserved
 loop-operands-preserved c =
     let inv = c.loop-operands.invariant in
-    (c.mask_operand-o.auto.0 ∙ inv.0, λ xs m h. run_next (inv.1 xs m h) operand-kept (omega (arith, c.loop-operands-test.taken)) c.mask_operand-o.ensures)
+    (c.mask_operand-o.auto.0 ∙ inv.0, λ xs m h. run_next (inv.1 xs m h) operand-kept (omega (arith, c.loop-operands-test.true)) c.mask_operand-o.ensures)
 
 pub returns : goal.returns
 returns c = λ xs m h. run_end (c.loop-operands.invariant.1 xs m h) c.loop-operands-test.false

@@ -41,7 +41,7 @@ last_is c r i l =
 pub returns-then-end-written : goal.returns-then-end-written
 returns-then-end-written c = λ r i l.
     let k = counted (goal.at.returns-then-end-written c).After-blocks_of-blocks r i l in
-    T.out_last r i _ _ _ _ l (omega (arith, c.if-end-written.taken)) _ _ k.0 k.1 _ _ c.clear.ensures c.put_u32.ensures
+    T.out_last r i _ _ _ _ l (omega (arith, c.if-end-written.true)) _ _ k.0 k.1 _ _ c.clear.ensures c.put_u32.ensures
 
 pub exchange-requires : goal.exchange-requires
 exchange-requires c =

@@ -49,17 +49,17 @@ returns-then-used-lt-TRAILER_SIZE c =
 pub returns-then-kind-eq-CREATE : goal.returns-then-kind-eq-CREATE
 returns-then-kind-eq-CREATE c =
     let here = goal.at.returns-then-kind-eq-CREATE c in
-    c.undo_create.ensures (R here.Start) (holds here.Start) ∙ K.was_created (last here.After-read_trailer-last) (omega (arith, c.if-kind-eq-CREATE.taken))
+    c.undo_create.ensures (R here.Start) (holds here.Start) ∙ K.was_created (last here.After-read_trailer-last) (omega (arith, c.if-kind-eq-CREATE.true))
 
 pub returns-then-kind-eq-REMOVE : goal.returns-then-kind-eq-REMOVE
 returns-then-kind-eq-REMOVE c =
     let here = goal.at.returns-then-kind-eq-REMOVE c in
-    c.undo_remove.ensures (R here.Start) (holds here.Start) ∙ K.was_removed (last here.After-read_trailer-last) (omega (arith, c.if-kind-eq-REMOVE.taken))
+    c.undo_remove.ensures (R here.Start) (holds here.Start) ∙ K.was_removed (last here.After-read_trailer-last) (omega (arith, c.if-kind-eq-REMOVE.true))
 
 pub returns-then-kind-eq-APPEND : goal.returns-then-kind-eq-APPEND
 returns-then-kind-eq-APPEND c =
     let here = goal.at.returns-then-kind-eq-APPEND c in
-    c.undo_append.ensures (R here.Start) (holds here.Start) ∙ K.was_appended (last here.After-read_trailer-last) (omega (arith, c.if-kind-eq-APPEND.taken))
+    c.undo_append.ensures (R here.Start) (holds here.Start) ∙ K.was_appended (last here.After-read_trailer-last) (omega (arith, c.if-kind-eq-APPEND.true))
 
 pub returns : goal.returns
 returns c =

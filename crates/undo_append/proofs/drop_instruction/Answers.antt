@@ -66,7 +66,7 @@ overflow_sub-count c = let here = goal.at.overflow_sub-count c in omega (arith, 
 pub put_u32-requires : goal.put_u32-requires
 put_u32-requires c =
     let here = goal.at.put_u32-requires c in
-    omega (arith, ended (here here.Start), most here.After-word32-count, lent here.After-word32-count, c.clear.auto.0, c.move_within.kept.0)
+    omega (arith, ended (here here.Start), most here.After-word32-count, lent here.After-word32-count, c.clear.auto.0, c.move_within.auto.0)
 
 pub returns : goal.returns
 returns c r i o =

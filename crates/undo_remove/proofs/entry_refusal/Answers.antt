@@ -42,11 +42,11 @@ whole c = sym (tested (goal.at.After-find-found c).After-is_block) ∙ c.if-not-
 
 -- the routine that the image holds
 module _ (r : Routine) where
-  finds : (c : After-find-found) → Holding (at_find c).args.image.now r → Finds r (T (at_find c)).vip-1 c.find-found.result
+  finds : (c : After-find-found) → Holding (at_find c).args.image.now r → Finds r (T (at_find c)).vip c.find-found.result
   finds c h = c.find-found.ensures r h
 
   gone : (c : Else-found-count) → Holding (at_find (finding c)).args.image.now r
-      → length r.explored_blocks ≤ place (T (at_find (finding c))).vip-1 r.explored_blocks
+      → length r.explored_blocks ≤ place (T (at_find (finding c))).vip r.explored_blocks
   gone c h = let f = finds (finding c) h in omega (arith, c.if-found-count.false, f.place, f.count)
 
 pub returns-then-entries-size : goal.returns-then-entries-size

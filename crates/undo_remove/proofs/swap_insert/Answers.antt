@@ -62,7 +62,7 @@ module _ (c : After-block_end-next) where
 pub returns-then-count-place : goal.returns-then-count-place
 returns-then-count-place c = λ r b l e.
     let n = counted (goal.at.returns-then-count-place c).After-blocks_of-blocks r l in
-    E.in_last r _ _ _ _ l b e _ _ n.0 n.1 (omega (arith, c.if-count-place.taken, n.1)) _ _ c.copy_at.ensures c.put_u32.ensures
+    E.in_last r _ _ _ _ l b e _ _ n.0 n.1 (omega (arith, c.if-count-place.true, n.1)) _ _ c.copy_at.ensures c.put_u32.ensures
 
 pub exchange-requires : goal.exchange-requires
 exchange-requires c =

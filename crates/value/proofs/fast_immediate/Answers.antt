@@ -18,4 +18,4 @@ overflow_cast-result c = let a = c.args in omega (arith, width c, kept-fits a.th
 pub returns : goal.returns
 returns c =
     let a = c.args in
-    immediate-kept a.s.now a.at a.there (c.kept-value.ensures ∙ ap (λ v. choose a.there v 0) c.eight.ensures) (width c)
+    immediate-kept a.s.now a.at a.there (c.auto.ensures ∙ ap (λ v. choose a.there v 0) c.eight.ensures) (width c)
