@@ -20,9 +20,11 @@ exported_functions() {
     sed -n 's/^pub extern "C" fn \(vtil_[a-z_]*\).*/\1/p' crates/vtil_c/src/lib.rt | sort
 }
 
-# The signatures and contracts of the functions named vtil_.. in a file, without what makes one an export.
+# The functions named vtil_.. of a file, one a line: signature and contract, without what makes one an export.
 contracts_in() {
-    sed 's/^pub extern "C" fn/pub fn/' "$1" | awk '/^pub fn vtil_/ { inside = 1 } /^{$/ { inside = 0 } inside'
+    awk '/^pub (extern "C" )?fn vtil_/ { inside = 1 }
+        /^{$/ { if (inside) print ""; inside = 0 }
+        inside { printf "%s ", $0 }' "$1" | tr -s ' ' | sed 's/^pub extern "C" fn/pub fn/; s/( /(/g; s/, )/)/g'
 }
 
 described_functions() {

@@ -88,7 +88,11 @@ fn second_create_full(rt: &impl Print) -> io::Result<()> {
     print_answer(rt, "Image 150 and journal 40, create: ", first.refusal)?;
     let book = first.book;
     let second = vtil::vtil_create_block(book, &mut image, &mut journal, 2);
-    print_answer(rt, "Image 150 and journal 40, second create: ", second.refusal)
+    print_answer(
+        rt,
+        "Image 150 and journal 40, second create: ",
+        second.refusal,
+    )
 }
 
 fn image_before_journal(rt: &impl Print) -> io::Result<()> {

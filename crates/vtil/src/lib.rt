@@ -102,12 +102,7 @@ pub fn vtil_read_vip(file: &[u8], at: usize) -> VipRead
 
 // Opening: the file's written form into the image, zeros after it and into the journal, and a fresh book, which carries the rates and what the routine comes
 // to at them.
-pub fn vtil_open(
-    file: &[u8],
-    image: &mut [u8],
-    journal: &mut [u8],
-    rates: Rates,
-) -> Answer
+pub fn vtil_open(file: &[u8], image: &mut [u8], journal: &mut [u8], rates: Rates) -> Answer
     ensures { outcome result image.new journal.new ≡ open_book file.now image.old journal.old rates.rate }
 {
     opening::open(file, image, journal, rates)
@@ -162,12 +157,7 @@ pub fn vtil_block_vip(
 }
 
 // a convention: 0 the routine's, 1 the subroutine's, then the special ones,
-pub fn vtil_convention(
-    book: Book,
-    image: &[u8],
-    journal: &[u8],
-    place: u64,
-) -> ConventionLook
+pub fn vtil_convention(book: Book, image: &[u8], journal: &[u8], place: u64) -> ConventionLook
     ensures { result ≡ convention_look (look_convention place (state image.now journal.now book)) }
 {
     look::conventions::look_convention(book, image, journal, place)
@@ -195,23 +185,13 @@ pub fn vtil_charge(book: Book, image: &[u8], journal: &[u8], rates: Rates) -> Ch
 }
 
 // The edits, and undo: document 01's take back.
-pub fn vtil_create_block(
-    book: Book,
-    image: &mut [u8],
-    journal: &mut [u8],
-    vip: u64,
-) -> Answer
+pub fn vtil_create_block(book: Book, image: &mut [u8], journal: &mut [u8], vip: u64) -> Answer
     ensures { outcome result image.new journal.new ≡ step (edit (create vip)) (state image.old journal.old book) }
 {
     calls::create_block(book, image, journal, Vip(vip))
 }
 
-pub fn vtil_remove_block(
-    book: Book,
-    image: &mut [u8],
-    journal: &mut [u8],
-    vip: u64,
-) -> Answer
+pub fn vtil_remove_block(book: Book, image: &mut [u8], journal: &mut [u8], vip: u64) -> Answer
     ensures { outcome result image.new journal.new ≡ step (edit (remove vip)) (state image.old journal.old book) }
 {
     calls::remove_block(book, image, journal, Vip(vip))
@@ -257,12 +237,7 @@ pub fn vtil_walk_abandon(book: Book, image: &[u8], journal: &[u8]) -> Answer
 }
 
 // A copy for outside reviewers: the routine without the values of its immediates, in a second image.
-pub fn vtil_outside_copy(
-    book: Book,
-    image: &[u8],
-    journal: &[u8],
-    copy: &mut [u8],
-) -> Written
+pub fn vtil_outside_copy(book: Book, image: &[u8], journal: &[u8], copy: &mut [u8]) -> Written
     ensures { (result ≡ write_answer (outside_copy (state image.now journal.now book) copy.old).0)
         × (copy.new ≡ (outside_copy (state image.now journal.now book) copy.old).1) }
 {
