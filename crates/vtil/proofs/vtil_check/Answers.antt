@@ -25,10 +25,10 @@ returns-in-Past c =
     to_z-of_z w64 _ (record { sfits = c.signed.type_inv })
     ∙ c.signed.ensures
     ∙ told-ok _ (past _ c.pass_file-far.ensures c.in-Past.is)
-    ∙ within_limit _ c.if-file-gt-MOST_LENGTH.false
+    ∙ within_limit _ (omega arith)
 
 pub returns-in_default : goal.returns-in_default
 returns-in_default c =
     told-no _ (omega arith)
     (walked-refused routine routine_bytes routine_sound _ 0 (sym (handed (ap of_walked c.in_default.is) c.pass_file-far.ensures c.walked_refusal.ensures)))
-    ∙ within_limit _ c.if-file-gt-MOST_LENGTH.false
+    ∙ within_limit _ (omega arith)
