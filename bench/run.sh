@@ -1,6 +1,6 @@
 #!/usr/bin/env bash
 # Measures the library and the Rust side by side: bench/run.sh [--most-blocks N]
-# VTIL_LIB names the archive; without it, target/staticlib/libvtil.a of the repository (rt staticlib vtil).
+# VTIL_LIB names the archive; without it, target/staticlib/libvtil.a of the repository (./run.sh builds it).
 # Exit status: 0 measured, 2 bad words, 3 something is missing.
 set -euo pipefail
 

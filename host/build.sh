@@ -24,11 +24,10 @@ need_compiler() {
     command -v "$CC" >/dev/null || stop "gcc was installed, but there is still no cc"
 }
 
-# Proves and builds the archive. What vtil names is proved by rt check, which takes crates side by side;
-# rt staticlib takes one after the other.
+# Proves and builds the archive, in crates/vtil_c/out. What it stands on is proved by rt all check, which takes crates side by
+# side; rt lib takes one after the other.
 build_archive() {
-    # shellcheck disable=SC2046
-    rt check $(sed -n 's/^vtil: *//p' crates.txt) && rt staticlib vtil
+    rt all check && (cd crates/vtil_c && rt lib)
 }
 
 # Sets LIB to the archive.
@@ -39,14 +38,14 @@ need_archive() {
         return
     fi
     command -v rt >/dev/null || stop "rt is not there: it is the command of the Rattle kit, which proves and builds the library. Install the kit, or name an archive that is built already: VTIL_LIB=/path/to/libvtil.a $0"
-    mkdir -p target
-    echo "Proving and building the library: rt staticlib vtil (some minutes the first time)"
+    mkdir -p target/staticlib
+    echo "Proving and building the library: rt all check, then rt lib in crates/vtil_c (some minutes the first time)"
     if ! build_archive >target/staticlib.out 2>&1; then
         tail -n 30 target/staticlib.out >&2
         stop "the library was not proved or not built; target/staticlib.out has the whole report"
     fi
     LIB=target/staticlib/libvtil.a
-    [ -r "$LIB" ] || stop "rt staticlib vtil wrote no $LIB"
+    cp crates/vtil_c/out/libvtil_c.a "$LIB" || stop "rt lib wrote no crates/vtil_c/out/libvtil_c.a"
 }
 
 build_routine() {

@@ -8,7 +8,7 @@ missing() {
 
 oracle=$(cd "$(dirname "${BASH_SOURCE[0]}")" && pwd)
 : "${VTIL_LIB:=$oracle/../target/staticlib/libvtil.a}"
-[ -f "$VTIL_LIB" ] || missing "no archive at $VTIL_LIB: run 'rt staticlib vtil', or name one by VTIL_LIB"
+[ -f "$VTIL_LIB" ] || missing "no archive at $VTIL_LIB: run ./run.sh of the repository, or name one by VTIL_LIB"
 VTIL_LIB=$(realpath "$VTIL_LIB")
 export VTIL_LIB
 command -v cargo >/dev/null || missing "cargo is missing: see oracle/setup.sh"

@@ -1,7 +1,7 @@
 #!/usr/bin/env bash
 # docs/CONTRACTS.md speaks of what is there: every must-fail edit that it names stands in its crate, every edit that stands is
-# named, and every exported function has a section with all its parts; and docs/ARCHITECTURE.md's map has every crate. The
-# current folder is the repository root.
+# named, and every exported function has a section with all its parts; every export has the contract of the function that it
+# calls; and docs/ARCHITECTURE.md's map has every crate. The current folder is the repository root.
 set -u
 script=contracts
 . tests/count.sh
@@ -17,7 +17,14 @@ standing_edits() {
 }
 
 exported_functions() {
-    sed -n 's/^pub extern "C" fn \(vtil_[a-z_]*\).*/\1/p' crates/vtil/src/lib.rt | sort
+    sed -n 's/^pub extern "C" fn \(vtil_[a-z_]*\).*/\1/p' crates/vtil_c/src/lib.rt | sort
+}
+
+# The functions named vtil_.. of a file, one a line: signature and contract, without what makes one an export.
+contracts_in() {
+    awk '/^pub (extern "C" )?fn vtil_/ { inside = 1 }
+        /^{$/ { if (inside) print ""; inside = 0 }
+        inside { printf "%s ", $0 }' "$1" | tr -s ' ' | sed 's/^pub extern "C" fn/pub fn/; s/( /(/g; s/, )/)/g'
 }
 
 described_functions() {
@@ -40,7 +47,7 @@ lacking_parts() {
 }
 
 listed_crates() {
-    sed -n 's/^\([a-z_]*\):.*/\1/p' crates.txt | sort
+    sed -n 's/^\([a-z_]*\)\( staticlib\)\{0,1\}:.*/\1/p' crates.txt | sort
 }
 
 mapped_crates() {
@@ -55,6 +62,7 @@ none() {
 none "every edit that is named stands" "$(comm -23 <(named_edits) <(standing_edits))"
 none "every edit that stands is named" "$(comm -13 <(named_edits) <(standing_edits))"
 none "every exported function has a section, and no other" "$(comm -3 <(exported_functions) <(described_functions))"
+none "every export has the contract of the function of vtil" "$(diff <(contracts_in crates/vtil/src/lib.rt) <(contracts_in crates/vtil_c/src/lib.rt))"
 none "every section has its parts" "$(lacking_parts)"
 none "every crate is on the map once, and no other" "$(comm -3 <(listed_crates) <(mapped_crates))"
 finish

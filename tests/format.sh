@@ -17,7 +17,7 @@ fold_names() {
 }
 
 library_counts() {
-    awk '/^const COUNTS/ { inside = 1; next } inside && /\]/ { exit } inside { gsub(/[ ,]/, ""); print }' crates/op/src/lib.rt
+    awk '/^const COUNTS/ { inside = 1; next } inside && /\]/ { exit } inside' crates/op/src/lib.rt | tr -d ' ' | tr ',' '\n' | grep .
 }
 
 command_names() {

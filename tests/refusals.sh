@@ -8,7 +8,7 @@ script=refusals
 # Each lists its refusals, one a line: number, name in lower case with dashes, and words where it has any.
 
 definitions() {
-    sed -nE 's/^([a-z-]+) = ([0-9]+)$/\2 \1/p' crates/fields/specs/Refusals.antt
+    sed -nE 's/^([a-z_]+) = ([0-9]+)$/\2 \1/p' crates/fields/specs/Refusals.antt | tr _ -
 }
 
 code() {

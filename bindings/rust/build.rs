@@ -1,4 +1,4 @@
-//! Links the archive that VTIL_LIB names; without it, target/staticlib/libvtil.a of the repository (rt staticlib vtil).
+//! Links the archive that VTIL_LIB names; without it, target/staticlib/libvtil.a of the repository (./run.sh builds it).
 
 use std::path::{Path, PathBuf};
 use std::process::exit;
@@ -14,7 +14,7 @@ fn main() {
     println!("cargo:rerun-if-env-changed=VTIL_LIB");
     let path = archive();
     let found = path.canonicalize().unwrap_or_else(|error| {
-        eprintln!("{}: {error}: build it by rt staticlib vtil, or name an archive by VTIL_LIB", path.display());
+        eprintln!("{}: {error}: build it by ./run.sh, or name an archive by VTIL_LIB", path.display());
         exit(1)
     });
     let folder = found.parent().expect("a file lies in a folder");

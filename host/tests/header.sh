@@ -20,7 +20,7 @@ try() {
 # The numbers of the refusals, as the library's definitions list them, and those of the kinds of calls.
 number_asserts() {
     local number word
-    sed -nE 's/^([a-z-]+) = ([0-9]+)$/\1 \2/p' crates/fields/specs/Refusals.antt | tr 'a-z-' 'A-Z_' |
+    sed -nE 's/^([a-z_]+) = ([0-9]+)$/\1 \2/p' crates/fields/specs/Refusals.antt | tr 'a-z' 'A-Z' |
         while read -r word number; do printf 'static_assert(VTIL_%s == %d, "%s");\n' "$word" "$number" "$word"; done
     number=0
     for word in CREATE REMOVE APPEND UNDO WALK_START WALK_NEXT WALK_ABANDON; do

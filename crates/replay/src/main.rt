@@ -3,9 +3,11 @@
 // little-endian.
 #![tactic(auto)]
 
-ghost use Rattle.std.specs.Prelude.{◌<◌, ◌≤◌};
+ghost use Rattle.std.specs.Prelude.{◌<◌, ◌≤◌, IfOk, length};
 
-use libc::STDOUT_FILENO;
+use std::fs::File;
+use std::io;
+use std::io::Read;
 
 // The counts: 0 accepted, 1 to 9 the refusals, then these two.
 const RECORDS: usize = 10;
@@ -35,7 +37,7 @@ fn size_of(b: &[u8; 4]) -> usize {
 fn refusal_of(answer: u64) -> u64
     ensures { result ≤ 9 }
 {
-    let minus = std::num::wrapping_sub_u64(0, answer);
+    let minus = 0u64.wrapping_sub(answer);
     if minus > 9 {
         return 0;
     }
@@ -68,7 +70,7 @@ fn length_of(answer: u64) -> i64 {
 fn count(counts: &mut [u64; 12], i: usize)
     requires { i < 12 }
 {
-    counts[i] = std::num::wrapping_add_u64(counts[i], 1);
+    counts[i] = counts[i].wrapping_add(1);
 }
 
 fn compare(counts: &mut [u64; 12], got: i64, answer: u64) {
@@ -79,84 +81,89 @@ fn compare(counts: &mut [u64; 12], got: i64, answer: u64) {
     }
 }
 
+// Reads until `buf` is full or the file ends, and answers how many bytes that were.
+fn read_full(answers: &mut File, buf: &mut [u8]) -> io::Result<usize>
+    ensures { IfOk result (λ n. n ≤ length buf.new) }
+{
+    let mut done = 0;
+    while done < buf.len() {
+        let n = answers.read(&mut buf[done..])?;
+        if n == 0 {
+            break;
+        }
+        done += n;
+    }
+    Ok(done)
+}
+
 // Reads the rest of a record into `file`, which has its file's length, and checks it. False: the record breaks off.
-fn replay_file(fd: i32, file: &mut [u8], counts: &mut [u64; 12]) -> bool {
+fn replay_file(answers: &mut File, file: &mut [u8], counts: &mut [u64; 12]) -> io::Result<bool> {
     let mut tail = [0u8; 8];
-    let got = io::read_full(fd, file);
-    let ended = io::read_full(fd, &mut tail);
+    let got = read_full(answers, file)?;
+    let ended = read_full(answers, &mut tail)?;
     if got < file.len() || ended < 8 {
-        return false;
+        return Ok(false);
     }
     compare(counts, vtil::vtil_check(file), number(&tail));
-    true
+    Ok(true)
 }
 
 // Runs one record and answers whether to go on. A record that breaks off, or whose file is too long, counts as a
 // difference: the sample has none.
-fn replay_one(fd: i32, counts: &mut [u64; 12]) -> bool {
+fn replay_one(answers: &mut File, counts: &mut [u64; 12]) -> io::Result<bool> {
     let mut head = [0u8; 4];
-    let got = io::read_full(fd, &mut head);
+    let got = read_full(answers, &mut head)?;
     if got == 0 {
-        return false;
+        return Ok(false);
     }
-    let mut room = io::buffer();
+    let mut room = [0u8; 4096];
     let size = size_of(&head);
     if size <= 4096 {
-        // `count` answers `size` here, and its contract says that this lies within `room`.
-        let n = io::count(size as isize, &room);
-        if replay_file(fd, &mut room[..n], counts) {
-            return true;
+        if replay_file(answers, &mut room[..size], counts)? {
+            return Ok(true);
         }
     }
     count(counts, DIFFERENCES);
-    false
+    Ok(false)
 }
 
 // A proved loop has to end, and nothing says that a file does: the turns are counted down, from a number that no run
 // uses up.
-fn replay_all(fd: i32, counts: &mut [u64; 12]) {
+fn replay_all(answers: &mut File, counts: &mut [u64; 12]) -> io::Result<()> {
     let mut turns = u64::MAX;
-    while turns > 0 && replay_one(fd, counts) {
+    while turns > 0 && replay_one(answers, counts)? {
         turns -= 1;
     }
+    Ok(())
 }
 
-fn print_line(text: &[u8], n: u64) {
-    io::write_all(STDOUT_FILENO, text);
-    io::print_decimal(STDOUT_FILENO, n);
-    io::write_all(STDOUT_FILENO, b"\n");
+fn print_line(rt: &impl Print, text: &str, n: u64) -> io::Result<()> {
+    println!(rt; "{text}{n}")
 }
 
-fn print_refused(refusal: u64, n: u64) {
-    io::write_all(STDOUT_FILENO, b"refused ");
-    io::print_decimal(STDOUT_FILENO, refusal);
-    print_line(b": ", n);
+fn print_refused(rt: &impl Print, refusal: u64, n: u64) -> io::Result<()> {
+    print!(rt; "refused {refusal}")?;
+    print_line(rt, ": ", n)
 }
 
-fn print_counts(counts: &[u64; 12]) {
-    print_line(b"records ", counts[RECORDS]);
-    print_line(b"differences ", counts[DIFFERENCES]);
-    print_line(b"accepted ", counts[0]);
-    print_refused(1, counts[1]);
-    print_refused(2, counts[2]);
-    print_refused(3, counts[3]);
-    print_refused(4, counts[4]);
-    print_refused(5, counts[5]);
-    print_refused(6, counts[6]);
-    print_refused(7, counts[7]);
-    print_refused(8, counts[8]);
-    print_refused(9, counts[9]);
+fn print_counts(rt: &impl Print, counts: &[u64; 12]) -> io::Result<()> {
+    print_line(rt, "records ", counts[RECORDS])?;
+    print_line(rt, "differences ", counts[DIFFERENCES])?;
+    print_line(rt, "accepted ", counts[0])?;
+    print_refused(rt, 1, counts[1])?;
+    print_refused(rt, 2, counts[2])?;
+    print_refused(rt, 3, counts[3])?;
+    print_refused(rt, 4, counts[4])?;
+    print_refused(rt, 5, counts[5])?;
+    print_refused(rt, 6, counts[6])?;
+    print_refused(rt, 7, counts[7])?;
+    print_refused(rt, 8, counts[8])?;
+    print_refused(rt, 9, counts[9])
 }
 
-fn main() {
-    let path = b"answers.bin";
-    let fd = os::open_read(path);
-    if fd < 0 {
-        os::fail(path);
-        return;
-    }
+fn main(rt: HostRuntime) -> io::Result<()> {
+    let mut answers = File::open(&rt, "answers.bin")?;
     let mut counts = [0u64; 12];
-    replay_all(fd, &mut counts);
-    libc::close(fd);
-    print_counts(&counts);
+    replay_all(&mut answers, &mut counts)?;
+    print_counts(&rt, &counts)
 }

@@ -2,7 +2,7 @@
 #![tactic(auto)]
 
 use book::{Answer, Rates};
-use libc::STDOUT_FILENO;
+use std::io;
 
 // The smallest file, and after its block count of 1 the start of a block with one instruction: the instruction follows at byte 142.
 fn one_instruction() -> [u8; 149] {
@@ -29,30 +29,31 @@ fn refusal_of(answer: i64) -> u64 {
 }
 
 // What the check says of the first `n` bytes.
-fn print_check(file: &[u8], n: usize) {
+fn print_check(rt: &impl Print, file: &[u8], n: usize) -> io::Result<()> {
     if n <= file.len() {
         let start = &file[..n];
-        io::print_decimal(STDOUT_FILENO, refusal_of(vtil::vtil_check(start)));
-        io::write_all(STDOUT_FILENO, b"\n");
+        let refusal = refusal_of(vtil::vtil_check(start));
+        println!(rt; "{refusal}")?;
     }
+    Ok(())
 }
 
-fn name_not_text() {
+fn name_not_text(rt: &impl Print) -> io::Result<()> {
     let mut file = one_instruction();
     file[142] = 1;
     file[146] = 0xff;
-    io::write_all(STDOUT_FILENO, b"Name FF, then end: ");
-    print_check(&file, 147);
+    print!(rt; "Name FF, then end: ")?;
+    print_check(rt, &file, 147)
 }
 
-fn count_missing() {
+fn count_missing(rt: &impl Print) -> io::Result<()> {
     let mut file = one_instruction();
     file[142] = 3;
     file[146] = b'z';
     file[147] = b'z';
     file[148] = b'z';
-    io::write_all(STDOUT_FILENO, b"zzz, then end: ");
-    print_check(&file, 149);
+    print!(rt; "zzz, then end: ")?;
+    print_check(rt, &file, 149)
 }
 
 // The header of machine 2 and 106 zeros.
@@ -76,44 +77,48 @@ fn create_one(image: &mut [u8], journal: &mut [u8]) -> Answer {
     vtil::vtil_create_block(book, image, journal, 1)
 }
 
-fn print_answer(text: &[u8], refusal: u64) {
-    io::write_all(STDOUT_FILENO, text);
-    io::print_decimal(STDOUT_FILENO, refusal);
-    io::write_all(STDOUT_FILENO, b"\n");
+fn print_answer(rt: &impl Print, text: &str, refusal: u64) -> io::Result<()> {
+    println!(rt; "{text}{refusal}")
 }
 
-fn second_create_full() {
+fn second_create_full(rt: &impl Print) -> io::Result<()> {
     let mut image = [0u8; 150];
     let mut journal = [0u8; 40];
     let first = create_one(&mut image, &mut journal);
-    print_answer(b"Image 150 and journal 40, create: ", first.refusal);
+    print_answer(rt, "Image 150 and journal 40, create: ", first.refusal)?;
     let book = first.book;
     let second = vtil::vtil_create_block(book, &mut image, &mut journal, 2);
-    print_answer(b"Image 150 and journal 40, second create: ", second.refusal);
+    print_answer(
+        rt,
+        "Image 150 and journal 40, second create: ",
+        second.refusal,
+    )
 }
 
-fn image_before_journal() {
+fn image_before_journal(rt: &impl Print) -> io::Result<()> {
     let mut image = [0u8; 149];
     let mut journal = [0u8; 19];
     print_answer(
-        b"Image 149 and journal 19, create: ",
+        rt,
+        "Image 149 and journal 19, create: ",
         create_one(&mut image, &mut journal).refusal,
-    );
+    )
 }
 
-fn journal_full() {
+fn journal_full(rt: &impl Print) -> io::Result<()> {
     let mut image = [0u8; 150];
     let mut journal = [0u8; 19];
     print_answer(
-        b"Image 150 and journal 19, create: ",
+        rt,
+        "Image 150 and journal 19, create: ",
         create_one(&mut image, &mut journal).refusal,
-    );
+    )
 }
 
-fn main() {
-    name_not_text();
-    count_missing();
-    second_create_full();
-    image_before_journal();
-    journal_full();
+fn main(rt: HostRuntime) -> io::Result<()> {
+    name_not_text(&rt)?;
+    count_missing(&rt)?;
+    second_create_full(&rt)?;
+    image_before_journal(&rt)?;
+    journal_full(&rt)
 }

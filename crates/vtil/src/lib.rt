@@ -44,8 +44,7 @@ fn signed(n: usize) -> i64
 }
 
 // The file check: the consumed length, or minus the refusal.
-#[unsafe(no_mangle)]
-pub extern "C" fn vtil_check(file: &[u8]) -> i64
+pub fn vtil_check(file: &[u8]) -> i64
     ensures { result ≡ check_file file.now }
 {
     if file.len() > MOST_LENGTH {
@@ -60,48 +59,42 @@ pub extern "C" fn vtil_check(file: &[u8]) -> i64
 }
 
 // Reading by offset, without a book: the whole routine that a file starts with,
-#[unsafe(no_mangle)]
-pub extern "C" fn vtil_read_routine(file: &[u8]) -> RoutineRead
+pub fn vtil_read_routine(file: &[u8]) -> RoutineRead
     ensures { result ≡ routine_read 0 (read_file file.now) }
 {
     reader::routine_at(file, 0)
 }
 
 // and what stands at an offset: a convention,
-#[unsafe(no_mangle)]
-pub extern "C" fn vtil_read_convention(file: &[u8], at: usize) -> ConventionRead
+pub fn vtil_read_convention(file: &[u8], at: usize) -> ConventionRead
     ensures { result ≡ convention_read at (convention file.now at) }
 {
     reader::convention_at(file, at)
 }
 
 // a register,
-#[unsafe(no_mangle)]
-pub extern "C" fn vtil_read_register(file: &[u8], at: usize) -> RegisterRead
+pub fn vtil_read_register(file: &[u8], at: usize) -> RegisterRead
     ensures { result ≡ register_read (register file.now at) }
 {
     reader::register_at(file, at)
 }
 
 // a block,
-#[unsafe(no_mangle)]
-pub extern "C" fn vtil_read_block(file: &[u8], at: usize) -> BlockRead
+pub fn vtil_read_block(file: &[u8], at: usize) -> BlockRead
     ensures { result ≡ block_read at (block file.now at) }
 {
     reader::block_at(file, at)
 }
 
 // an instruction,
-#[unsafe(no_mangle)]
-pub extern "C" fn vtil_read_instruction(file: &[u8], at: usize) -> InstructionRead
+pub fn vtil_read_instruction(file: &[u8], at: usize) -> InstructionRead
     ensures { result ≡ instruction_read (instruction file.now at) }
 {
     reader::instruction_at(file, at)
 }
 
 // a vip.
-#[unsafe(no_mangle)]
-pub extern "C" fn vtil_read_vip(file: &[u8], at: usize) -> VipRead
+pub fn vtil_read_vip(file: &[u8], at: usize) -> VipRead
     ensures { result ≡ vip_read (u64 file.now at) }
 {
     reader::vip_at(file, at)
@@ -109,45 +102,35 @@ pub extern "C" fn vtil_read_vip(file: &[u8], at: usize) -> VipRead
 
 // Opening: the file's written form into the image, zeros after it and into the journal, and a fresh book, which carries the rates and what the routine comes
 // to at them.
-#[unsafe(no_mangle)]
-pub extern "C" fn vtil_open(
-    file: &[u8],
-    image: &mut [u8],
-    journal: &mut [u8],
-    rates: Rates,
-) -> Answer
+pub fn vtil_open(file: &[u8], image: &mut [u8], journal: &mut [u8], rates: Rates) -> Answer
     ensures { outcome result image.new journal.new ≡ open_book file.now image.old journal.old rates.rate }
 {
     opening::open(file, image, journal, rates)
 }
 
 // The writer of an instruction value.
-#[unsafe(no_mangle)]
-pub extern "C" fn vtil_write_instruction(value: InstructionDesc, image: &mut [u8]) -> Written
+pub fn vtil_write_instruction(value: InstructionDesc, image: &mut [u8]) -> Written
     ensures { (result ≡ write_answer (write_instruction image.old value).0) × (image.new ≡ (write_instruction image.old value).1) }
 {
     writer::write_instruction(value, image)
 }
 
 // Looking, by place from 0: at the routine,
-#[unsafe(no_mangle)]
-pub extern "C" fn vtil_routine(book: Book, image: &[u8], journal: &[u8]) -> RoutineLook
+pub fn vtil_routine(book: Book, image: &[u8], journal: &[u8]) -> RoutineLook
     ensures { result ≡ routine_look (look_routine (state image.now journal.now book)) }
 {
     look::look_routine(book, image, journal)
 }
 
 // a block,
-#[unsafe(no_mangle)]
-pub extern "C" fn vtil_block(book: Book, image: &[u8], journal: &[u8], place: u64) -> BlockLook
+pub fn vtil_block(book: Book, image: &[u8], journal: &[u8], place: u64) -> BlockLook
     ensures { result ≡ block_look (look_block place (state image.now journal.now book)) }
 {
     look::blocks::look_block(book, image, journal, place)
 }
 
 // one of a block's instructions,
-#[unsafe(no_mangle)]
-pub extern "C" fn vtil_instruction(
+pub fn vtil_instruction(
     book: Book,
     image: &[u8],
     journal: &[u8],
@@ -160,8 +143,7 @@ pub extern "C" fn vtil_instruction(
 }
 
 // one of its prev (list 0) or next (1) vips,
-#[unsafe(no_mangle)]
-pub extern "C" fn vtil_block_vip(
+pub fn vtil_block_vip(
     book: Book,
     image: &[u8],
     journal: &[u8],
@@ -175,21 +157,14 @@ pub extern "C" fn vtil_block_vip(
 }
 
 // a convention: 0 the routine's, 1 the subroutine's, then the special ones,
-#[unsafe(no_mangle)]
-pub extern "C" fn vtil_convention(
-    book: Book,
-    image: &[u8],
-    journal: &[u8],
-    place: u64,
-) -> ConventionLook
+pub fn vtil_convention(book: Book, image: &[u8], journal: &[u8], place: u64) -> ConventionLook
     ensures { result ≡ convention_look (look_convention place (state image.now journal.now book)) }
 {
     look::conventions::look_convention(book, image, journal, place)
 }
 
 // one of its volatile (list 0), param (1) or retval (2) registers.
-#[unsafe(no_mangle)]
-pub extern "C" fn vtil_convention_register(
+pub fn vtil_convention_register(
     book: Book,
     image: &[u8],
     journal: &[u8],
@@ -203,40 +178,26 @@ pub extern "C" fn vtil_convention_register(
 }
 
 // The charge for the routine at the rates of the six groups, in whole cents.
-#[unsafe(no_mangle)]
-pub extern "C" fn vtil_charge(book: Book, image: &[u8], journal: &[u8], rates: Rates) -> ChargeLook
+pub fn vtil_charge(book: Book, image: &[u8], journal: &[u8], rates: Rates) -> ChargeLook
     ensures { result ≡ charge_look (look_charge rates.rate (state image.now journal.now book)) }
 {
     charge::charge(book, image, journal, rates)
 }
 
 // The edits, and undo: document 01's take back.
-#[unsafe(no_mangle)]
-pub extern "C" fn vtil_create_block(
-    book: Book,
-    image: &mut [u8],
-    journal: &mut [u8],
-    vip: u64,
-) -> Answer
+pub fn vtil_create_block(book: Book, image: &mut [u8], journal: &mut [u8], vip: u64) -> Answer
     ensures { outcome result image.new journal.new ≡ step (edit (create vip)) (state image.old journal.old book) }
 {
     calls::create_block(book, image, journal, Vip(vip))
 }
 
-#[unsafe(no_mangle)]
-pub extern "C" fn vtil_remove_block(
-    book: Book,
-    image: &mut [u8],
-    journal: &mut [u8],
-    vip: u64,
-) -> Answer
+pub fn vtil_remove_block(book: Book, image: &mut [u8], journal: &mut [u8], vip: u64) -> Answer
     ensures { outcome result image.new journal.new ≡ step (edit (remove vip)) (state image.old journal.old book) }
 {
     calls::remove_block(book, image, journal, Vip(vip))
 }
 
-#[unsafe(no_mangle)]
-pub extern "C" fn vtil_append(
+pub fn vtil_append(
     book: Book,
     image: &mut [u8],
     journal: &mut [u8],
@@ -248,45 +209,35 @@ pub extern "C" fn vtil_append(
     calls::append(book, image, journal, Vip(vip), instruction)
 }
 
-#[unsafe(no_mangle)]
-pub extern "C" fn vtil_undo(book: Book, image: &mut [u8], journal: &mut [u8]) -> Answer
+pub fn vtil_undo(book: Book, image: &mut [u8], journal: &mut [u8]) -> Answer
     ensures { outcome result image.new journal.new ≡ step undo (state image.old journal.old book) }
 {
     calls::undo(book, image, journal)
 }
 
 // Sending block by block: a walk begins,
-#[unsafe(no_mangle)]
-pub extern "C" fn vtil_walk_start(book: Book, image: &[u8], journal: &[u8]) -> Answer
+pub fn vtil_walk_start(book: Book, image: &[u8], journal: &[u8]) -> Answer
     ensures { outcome result image.now journal.now ≡ step (walking walk_start) (state image.now journal.now book) }
 {
     walk::start(book, image, journal)
 }
 
 // hands out the next block, or says end,
-#[unsafe(no_mangle)]
-pub extern "C" fn vtil_walk_next(book: Book, image: &[u8], journal: &[u8]) -> WalkAnswer
+pub fn vtil_walk_next(book: Book, image: &[u8], journal: &[u8]) -> WalkAnswer
     ensures { walk_outcome result image.now journal.now ≡ told_step (walking walk_next) (state image.now journal.now book) }
 {
     walk::next(book, image, journal)
 }
 
 // or is abandoned.
-#[unsafe(no_mangle)]
-pub extern "C" fn vtil_walk_abandon(book: Book, image: &[u8], journal: &[u8]) -> Answer
+pub fn vtil_walk_abandon(book: Book, image: &[u8], journal: &[u8]) -> Answer
     ensures { outcome result image.now journal.now ≡ step (walking walk_abandon) (state image.now journal.now book) }
 {
     walk::abandon(book, image, journal)
 }
 
 // A copy for outside reviewers: the routine without the values of its immediates, in a second image.
-#[unsafe(no_mangle)]
-pub extern "C" fn vtil_outside_copy(
-    book: Book,
-    image: &[u8],
-    journal: &[u8],
-    copy: &mut [u8],
-) -> Written
+pub fn vtil_outside_copy(book: Book, image: &[u8], journal: &[u8], copy: &mut [u8]) -> Written
     ensures { (result ≡ write_answer (outside_copy (state image.now journal.now book) copy.old).0)
         × (copy.new ≡ (outside_copy (state image.now journal.now book) copy.old).1) }
 {
@@ -295,8 +246,7 @@ pub extern "C" fn vtil_outside_copy(
 
 // Opens a file at rates and runs a list of calls on it. By its contract it leaves what the routine machine leaves, and carries the sum of the machine's
 // routine; demand 3 adds which books hold equal bytes, and what a take back returns to.
-#[unsafe(no_mangle)]
-pub extern "C" fn vtil_run(
+pub fn vtil_run(
     file: &[u8],
     image: &mut [u8],
     journal: &mut [u8],
@@ -310,8 +260,7 @@ pub extern "C" fn vtil_run(
 }
 
 // The same on a book that is there: words that encode no list are refused 15, with the book as handed in.
-#[unsafe(no_mangle)]
-pub extern "C" fn vtil_run_on(
+pub fn vtil_run_on(
     book: Book,
     image: &mut [u8],
     journal: &mut [u8],

@@ -1,0 +1,9 @@
+-- What was read lies within the buffer, and each turn reads more of it.
+use Rattle.std.proofs.Common.{length, ◌-◌, ◌≤◌}
+use Rattle.replay.proofs.read_full.Given as goal
+
+abbrev pub invariant-loop-done : goal.invariant-loop-done
+invariant-loop-done l = l.done ≤ length l.buf
+
+abbrev pub decreases-loop-done : goal.decreases-loop-done
+decreases-loop-done l = length l.initial.buf - l.done
