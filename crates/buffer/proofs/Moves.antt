@@ -1,13 +1,13 @@
 -- What a turn of each loop that clears or moves adds: the bytes put so far, and one or more beside them, are bytes put at once.
 -- Assumes nothing.
 use mathlib.Core.Path.{◌≡◌, sym, ap, ap₂, ◌∙◌}
-use mathlib.Core.List.{List, [], ◌∷◌, ◌++◌, append-nil}
+use mathlib.Core.List.{List, [], ◌∷◌, ◌++◌}
 use Prim.Native.Nat.{ℕ, ◌+◌, ◌-◌, ◌≤◌, ◌<◌}
 use native.Mathlib.Omega.{arith}
 use native.Mathlib.Numerals.{add-one}
-use lib.ListN.{length, take, drop, set, length-drop, length-replicate, replicate-append-replicate, drop_of_length-le}
-use lib.Seq.{set_split, drop-drop, take-add, take_all, take-length}
-use borrow.Rule.Slice.PartMut.{mid_of, put_mid}
+use lib.ListN.{length, take, drop, set, length-replicate, replicate-append-replicate}
+use lib.Seq.{set_split, drop-drop, take-add}
+use borrow.Rule.Slice.PartMut.{put_mid}
 use Rattle.fields.specs.Bytes.{put, zeros}
 use Rattle.buffer.proofs.Put.{put_nil, put-put, put-put-before, length-put, length_part, part-put-at, part-put-before, part-put-after}
 
@@ -33,14 +33,12 @@ clear_more a b f i e h k =
     ∙ put-put f (zeros (i - f)) (0 ∷ []) a (omega arith)
     ∙ ap (λ (l : List ℕ). put f l a) z
 
--- b copied to the front of the part from i on
-pub copied : (a b l : List ℕ) (i : ℕ) → i + length b ≤ length a → l ≡ take (length b) b ++ drop (length b) (mid_of i (length a - i) a)
-    → put_mid i (length a - i) a l ≡ put i b a
+-- b over the part from i on that is as long
+pub copied : (a b l : List ℕ) (i : ℕ) → l ≡ b → put_mid i (i + length b - i) a l ≡ put i b a
 unfolding put
-copied a b l i h e =
-    let m : length (drop i a) ≤ length a - i = omega (arith, length-drop i a) in
-    let z : drop (length a - i) (drop i a) ≡ [] = drop_of_length-le (drop i a) m in
-    rw (e, take-length b, take_all (length a - i) (drop i a) m, z, drop-drop (length b) i a, append-nil)
+copied a b l i e =
+    let n : i + length b - i ≡ length b = omega arith in
+    rw (e, n, drop-drop (length b) i a)
 
 -- the part of a that is n bytes long, from f, put at t: what a move leaves
 abbrev pub moved : ℕ → ℕ → ℕ → List ℕ → List ℕ

@@ -7,9 +7,10 @@ use Prim.Native.Nat.{ℕ, ◌+◌, ◌-◌, ◌≤◌, ◌<◌}
 use native.Mathlib.Omega.{arith}
 use native.Mathlib.Numerals.{add-one}
 use lib.ListN.{length, take, drop, get_or, set, length-append, length-take, take-append-drop, length-reverse, drop_of_length-le}
-use lib.Seq.{take_at, drop_at, length-slice, length-take-le, drop-append-le, take-suc, take_all}
+use lib.Seq.{take_at, drop_at, length-slice, length-take-le, drop-append-le, drop-drop, take-suc, take_all}
 use Rattle.std.specs.Prelude.{reverse}
-use Rattle.std.proofs.lemmas.List.{reverse-reverse, reverse-append}
+use Rattle.std.proofs.lemmas.List.{drop-take, reverse-reverse, reverse-append}
+use borrow.Rule.Slice.PartMut.{put_mid}
 use Rattle.fields.specs.Bytes.{put}
 use Rattle.exchange.specs.Parts.{slice, exchanged, reversed, swapped_back}
 use Rattle.buffer.proofs.Put.{length_part, length-put, put_nil, put-parts, put-put-before}
@@ -131,6 +132,14 @@ reversed-turn a i j n q o h l =
     ap (reversed (i + n) (j - n)) (q ∙ ap (swapped_back i (j - n) n) w)
     ∙ swapped_parts (take i a) (slice i (i + n) a) (slice (i + n) (j - n) a) (slice (j - n) j a) (drop j a) i (j - n) n la lx ly (omega arith) j (omega arith)
     ∙ ap (reversed i j) (sym w)
+
+-- a part reversed in its place
+pub reversed-part : (a z : List ℕ) (i j : ℕ) → i ≤ j → z ≡ reverse (take (j - i) (drop i a)) → put_mid i (j - i) a z ≡ reversed i j a
+unfolding slice
+reversed-part a z i j h e =
+    let n : i + (j - i) ≡ j = omega arith in
+    let w : take (j - i) (drop i a) ≡ drop i (take j a) = sym (drop-take i (j - i) a) ∙ ap (λ (k : ℕ). drop i (take k a)) n in
+    rw (e, w, drop-drop (j - i) i a, n)
 
 -- the loop that copies the last byte first, with i bytes copied: where it begins, and a turn of it
 pub back_none : (a b : List ℕ) (at : ℕ) → a ≡ put (at + length b - 0) (reverse (take 0 b)) a

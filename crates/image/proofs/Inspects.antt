@@ -4,7 +4,7 @@
 use mathlib.Core.Path.{◌≡◌, refl, sym, ap, ap₂, ◌∙◌}
 use mathlib.Core.Bool.{Bool, true, false, ◌&&◌, and-true}
 use mathlib.Core.List.{List, [], ◌++◌, append-nil}
-use Prim.Native.Nat.{ℕ, suc, ◌+◌, ◌-◌, ◌≤◌, ◌<◌}
+use Prim.Native.Nat.{ℕ, suc, ◌-◌, ◌≤◌, ◌<◌}
 use native.Mathlib.Numerals.{add-one}
 use native.Mathlib.Omega.{arith}
 use lib.Dec.{eqb}
@@ -13,11 +13,10 @@ use borrow.Author.Tests.{le-leb, lt-leb, eq-eqb, ne_eqb, eqb-true, eqb-false}
 use Rattle.fields.specs.Bytes.{zeros, Bytes, most_lent}
 use Rattle.fields.specs.Parse.{Res, ok, no}
 use Rattle.fields.specs.Outcome.{Outcome, refused, accepted, after, ◌>>=◌, ◌>>◌, refuse_unless, refusal_of}
-use Rattle.fields.proofs.Only.{Only}
 use Rattle.fields.proofs.Outcomes.{unless_on, unless_off}
 use Rattle.fields.proofs.Le.{bytes_take}
 use Rattle.fields.specs.Lists.{choose, same}
-use Rattle.op.proofs.Same.{same-yes, same-no}
+use Rattle.op.proofs.Same.{same-no}
 use Rattle.pod.specs.Values.{Routine}
 use Rattle.pod.specs.Layout.{routine, read_file}
 use Rattle.pod.specs.Sound.{routine_sound}
@@ -27,7 +26,7 @@ use Rattle.laws.proofs.Layouts.{routine_layout, read-to, read-holds}
 use Rattle.laws.proofs.Walks.{spans-walked, walked_whole}
 use Rattle.laws.specs.At.{At}
 use Rattle.machine.specs.Edits.{size}
-use Rattle.machine.specs.Walk.{walk_fits, block_start}
+use Rattle.machine.specs.Walk.{walk_fits}
 use Rattle.machine.specs.Journal.{or_spoiled, whole}
 use Rattle.machine.specs.Machine.{Call, permit}
 use Rattle.machine.specs.Book.{State, in_image, held, step}

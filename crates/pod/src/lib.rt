@@ -171,6 +171,7 @@ fn immediate_at(s: &[u8], at: usize) -> ImmediateRead
 }
 
 // Whether a register with this width and offset is sound. Their sum is taken in 64 bits, where it cannot wrap.
+#[tactic(auto, using(crate::proofs::Slices::narrow, crate::proofs::Slices::before))]
 fn is_slice(width: i32, offset: i32) -> bool
     ensures { result ≡ is_slice width offset }
 {

@@ -1,7 +1,6 @@
-// The lent file and the offset reached in it: document 01's record in the place of scroll's `gread` with `offset: &mut`. The
-// borrow checker covers no function over a struct that holds a reference, so each one here is thin: it takes the record apart
-// and leaves the work to covered functions on slice and numbers. Each has an entry with plain parameters, so a caller's proof
-// needs no steps by hand.
+// The lent file and the offset reached in it: document 01's record in the place of scroll's `gread` with `offset: &mut`. Each
+// function over the record is thin: it takes it apart and leaves the work to functions on slice and numbers. Each has an entry
+// with plain parameters.
 #![tactic(auto)]
 
 ghost use Rattle.std.specs.Prelude.{◌≡◌};

@@ -5,7 +5,7 @@ use mathlib.Core.Bool.{true, false}
 use native.Mathlib.Omega.{arith}
 use Prim.Native.Nat.{ℕ, ◌+◌, ◌≤◌, ◌<◌, ◌^◌}
 use lib.ListN.{length}
-use borrow.Author.Tests.{ltb-true, ltb-false, not-true, not-false}
+use borrow.Author.Tests.{ltb-true, ltb-false}
 use Rattle.fields.specs.Bytes.{put, Bytes}
 use Rattle.fields.specs.Outcome.{Outcome, refused, accepted}
 use Rattle.pod.specs.Values.{Routine}
@@ -87,7 +87,7 @@ block c = (goal.at.After-last_instruction-last c).Else-found-place
 last : (c : After-last_instruction-last) → FindsLast (R (goal.at.After-last_instruction-last c).Start) (I (goal.at.After-last_instruction-last c).Start) c.last_instruction-last.result
 last c = let here = goal.at.After-last_instruction-last c in c.last_instruction-last.ensures (R here.Start) (I here.Start) (sound-holding c.requires.sound) (there here.Else-found-place) (finds here.After-find-found).at
 
-target : (c : After-last_instruction-last) → 
+target : (c : After-last_instruction-last) →
     Target c.args.image.now c.args.book.written c.find-found.result.at c.last_instruction-last.result.end (R (goal.at.After-last_instruction-last c).Start) (I (goal.at.After-last_instruction-last c).Start)
 target c = let here = goal.at.After-last_instruction-last c in record { filled = sound-filled c.requires.sound; there = there here.Else-found-place; begins = (finds here.After-find-found).at; ends = (last c).end }
 
@@ -221,7 +221,7 @@ returns c =
     (c.insert_instruction.ensures (R here.Start) (I here.Start) (Y here.After-admit-refusal) (target here.After-last_instruction-last))
     (c.put_trailer.ensures
     ∙ ap (λ j. put c.args.book.used (trailer_bytes (trailer_with v j (length c.args.instruction.now) 3)) c.args.journal.now) (finds here.After-find-found).place
-    ∙ ap (λ c. put c.args.book.used c c.args.journal.now) (sym (entry-is (R here.Start) v c.args.instruction.now (Y here.After-admit-refusal))))
+    ∙ ap (λ e. put c.args.book.used e c.args.journal.now) (sym (entry-is (R here.Start) v c.args.instruction.now (Y here.After-admit-refusal))))
 
 -- what is written is within an image
 pub overflow_add-grown : goal.overflow_add-grown

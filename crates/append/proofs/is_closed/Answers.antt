@@ -4,7 +4,6 @@ use Rattle.machine.specs.Edits.{leaves_block}
 use Rattle.machine.proofs.Lists.{last-is-none, last-is-at}
 use Rattle.image.proofs.Parts.{any_instruction}
 use Rattle.image.proofs.Lasts.{none, some, final-read}
-use borrow.Author.Rules.{rules}
 use Rattle.append.proofs.is_closed.Goals as goal
 
 pub returns-then-last : goal.returns-then-last

@@ -5,7 +5,6 @@ use lib.ListN.{length}
 use Rattle.fields.specs.Bytes.{put}
 use Rattle.pod.specs.Written.{bytes}
 use Rattle.append.proofs.Flags.{flag_stored}
-use borrow.Author.Rules.{rules}
 use Rattle.append.proofs.put_instruction.Goals as goal
 
 pub returns : goal.returns
@@ -13,4 +12,4 @@ returns c =
     let a = c.args in
     c.put_u8.ensures
     ∙ ap₂ (λ f b. put (a.at + (length a.instruction.now - 1)) (bytes 1 f) b) c.flag_bit-reset.ensures c.copy_at.ensures
-    ∙ flag_stored a.instruction.now c.requires.0 a.at a.image-1.now c.requires.1
+    ∙ flag_stored a.instruction.now c.requires.0 a.at a.image.now c.requires.1

@@ -1,7 +1,6 @@
 -- `append::refusal_of_bytes` meets its contract: each answer is one case of the bytes, with what `instruction_past` tells of them where registers are asked.
 use mathlib.Core.Path.{◌≡◌, sym, ap, ◌∙◌}
 use native.Mathlib.Omega.{arith}
-use borrow.Author.Tests.{not-true, not-false}
 use Rattle.fields.specs.Parse.{ok, no, span}
 use Rattle.fields.proofs.Steps.{handed}
 use Rattle.pod.specs.Sound.{appended}
@@ -9,7 +8,6 @@ use Rattle.pod.specs.Told.{asked}
 use Rattle.instruction.specs.Answers.{when_asked}
 use Rattle.instruction.proofs.Asking.{asked-sound, asked-crooked, when-refused}
 use Rattle.append.proofs.Appends.{unread, too_long, all_read}
-use borrow.Author.Rules.{rules}
 use Rattle.append.proofs.refusal_of_bytes.Goals as goal
 use Rattle.append.proofs.refusal_of_bytes.Goals.{After-asked_refusal, Else-not-sound, In-Past}
 

@@ -1,11 +1,10 @@
 -- The loop's invariant: zeros are put from `from` up to i. A turn puts one more beside them.
-use Prim.Native.Nat.{ℕ, ◌≤◌, ◌-◌}
-use mathlib.Core.Path.{◌≡◌, refl, ap, ◌∙◌}
+use Prim.Native.Nat.{ℕ, ◌-◌}
+use mathlib.Core.Path.{refl, ap, ◌∙◌}
 use native.Mathlib.Omega.{arith}
-use lib.ListN.{length, length-set}
+use lib.ListN.{length-set}
 use Rattle.fields.specs.Bytes.{put, zeros}
 use Rattle.buffer.proofs.Moves.{clear_more, clear_none}
-use borrow.Author.Rules.{rules}
 use Rattle.buffer.proofs.clear.Goals as goal
 
 pub loop-i-init : goal.loop-i-init

@@ -1,8 +1,6 @@
--- What `bytes::copy` leaves at the front of the part from `at` on is a put of the whole slice.
-use native.Mathlib.Omega.{arith}
+-- What `copy_from_slice` leaves of the part from `at` on is the whole of `b`.
 use Rattle.buffer.proofs.Moves.{copied}
-use borrow.Author.Rules.{rules}
 use Rattle.buffer.proofs.copy_at.Goals as goal
 
 pub returns : goal.returns
-returns c = copied _ _ _ _ (omega arith) c.before.before.copy.ensures.1
+returns c = copied _ _ _ _ c.copy_from_slice.ensures.after

@@ -1,11 +1,8 @@
 -- Both loops keep the same: the bytes from `from` up to i are 0. A number of eight bytes is 0 where each byte is, and only there.
-use Prim.Native.Nat.{◌≤◌, ◌-◌}
 use mathlib.Core.List.{[]}
-use mathlib.Core.Path.{◌≡◌, refl}
+use mathlib.Core.Path.{refl}
 use native.Mathlib.Omega.{arith}
-use lib.ListN.{length}
-use Rattle.buffer.proofs.Alike.{Alike, alike_none, alike_more, alike_one, le_alike, none-bytes, le-nothing, zeros-yes, zeros-no, zeros-no-byte}
-use borrow.Author.Rules.{rules}
+use Rattle.buffer.proofs.Alike.{alike_none, alike_more, alike_one, le_alike, none-bytes, le-nothing, zeros-yes, zeros-no, zeros-no-byte}
 use Rattle.buffer.proofs.is_zero.Goals as goal
 
 pub returns-then-a-from : goal.returns-then-a-from

@@ -1,10 +1,8 @@
 use Prim.Native.Nat.{◌≤◌, ◌-◌}
 use mathlib.Core.List.{[]}
-use mathlib.Core.Path.{◌≡◌, refl}
-use native.Mathlib.Omega.{arith}
+use mathlib.Core.Path.{◌≡◌}
 use lib.ListN.{length}
-use Rattle.buffer.proofs.Alike.{Alike, alike_none, alike_more, alike_one, le_alike, none-bytes, le-nothing, zeros-yes, zeros-no, zeros-no-byte}
-use borrow.Author.Rules.{rules}
+use Rattle.buffer.proofs.Alike.{Alike}
 use Rattle.buffer.proofs.is_zero.Given as goal
 
 abbrev pub invariant-loop-i : goal.invariant-loop-i
@@ -12,3 +10,9 @@ invariant-loop-i l = (l.n ≡ length l.a) × ((l.from ≤ l.i) × ((l.i ≤ l.n)
 
 abbrev pub decreases-loop-i : goal.decreases-loop-i
 decreases-loop-i l = l.n - l.i
+
+abbrev pub invariant-loop-i-2 : goal.invariant-loop-i-2
+invariant-loop-i-2 l = (l.n ≡ length l.a) × ((l.from ≤ l.i) × ((l.i ≤ l.n) × Alike l.a [] l.from l.i))
+
+abbrev pub decreases-loop-i-2 : goal.decreases-loop-i-2
+decreases-loop-i-2 l = l.n - l.i

@@ -1,11 +1,8 @@
 -- The loop's invariant: the first i bytes are moved. Those that a turn reads stand past all that was put, so they are as they were.
-use Prim.Native.Nat.{◌≤◌, ◌-◌}
-use mathlib.Core.Path.{◌≡◌, refl, sym}
+use mathlib.Core.Path.{refl, sym}
 use native.Mathlib.Omega.{arith}
-use lib.ListN.{length}
 use Rattle.buffer.proofs.Put.{put_nil}
-use Rattle.buffer.proofs.Moves.{moved, down_more, down_last}
-use borrow.Author.Rules.{rules}
+use Rattle.buffer.proofs.Moves.{down_more, down_last}
 use Rattle.buffer.proofs.move_down.Goals as goal
 
 pub loop-i-init : goal.loop-i-init

@@ -1,10 +1,7 @@
 use Prim.Native.Nat.{◌≤◌, ◌-◌}
-use mathlib.Core.Path.{◌≡◌, refl, sym}
-use native.Mathlib.Omega.{arith}
+use mathlib.Core.Path.{◌≡◌}
 use lib.ListN.{length}
-use Rattle.buffer.proofs.Put.{put_nil}
-use Rattle.buffer.proofs.Moves.{moved, down_more, down_last}
-use borrow.Author.Rules.{rules}
+use Rattle.buffer.proofs.Moves.{moved}
 use Rattle.buffer.proofs.move_down.Given as goal
 
 abbrev pub invariant-loop-i : goal.invariant-loop-i

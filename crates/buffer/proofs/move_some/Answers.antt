@@ -4,7 +4,6 @@ use lib.ListN.{length-take}
 use lib.Seq.{length-take-le}
 use mathlib.Core.Path.{sym}
 use Rattle.buffer.proofs.Moves.{through}
-use borrow.Author.Rules.{rules}
 use Rattle.buffer.proofs.move_some.Goals as goal
 
 pub returns : goal.returns

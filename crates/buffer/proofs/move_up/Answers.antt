@@ -1,10 +1,7 @@
 -- The loop's invariant: the bytes from the i-th on are moved. Those that a turn reads stand before all that was put, so they are as they were.
-use Prim.Native.Nat.{◌≤◌, ◌+◌, ◌-◌}
-use mathlib.Core.Path.{◌≡◌, refl}
+use mathlib.Core.Path.{refl}
 use native.Mathlib.Omega.{arith}
-use lib.ListN.{length}
-use Rattle.buffer.proofs.Moves.{moved, up_none, up_turn, up_last}
-use borrow.Author.Rules.{rules}
+use Rattle.buffer.proofs.Moves.{up_none, up_turn, up_last}
 use Rattle.buffer.proofs.move_up.Goals as goal
 
 pub loop-i-init : goal.loop-i-init

@@ -1,9 +1,7 @@
 use Prim.Native.Nat.{◌≤◌, ◌+◌, ◌-◌}
-use mathlib.Core.Path.{◌≡◌, refl}
-use native.Mathlib.Omega.{arith}
+use mathlib.Core.Path.{◌≡◌}
 use lib.ListN.{length}
-use Rattle.buffer.proofs.Moves.{moved, up_none, up_turn, up_last}
-use borrow.Author.Rules.{rules}
+use Rattle.buffer.proofs.Moves.{moved}
 use Rattle.buffer.proofs.move_up.Given as goal
 
 abbrev pub invariant-loop-i : goal.invariant-loop-i

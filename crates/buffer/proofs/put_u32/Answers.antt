@@ -3,7 +3,6 @@ use lib.ListN.{length-set}
 use native.Mathlib.Omega.{arith}
 use Rattle.pod.specs.Written.{bytes}
 use Rattle.buffer.proofs.Digits.{store4}
-use borrow.Author.Rules.{rules}
 use Rattle.buffer.proofs.put_u32.Goals as goal
 
 pub returns : goal.returns

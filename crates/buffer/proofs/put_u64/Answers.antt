@@ -1,7 +1,6 @@
 -- Two puts of four bytes, of the low and the high half, are one of eight.
 use native.Mathlib.Omega.{arith}
 use Rattle.buffer.proofs.Digits.{put_halves}
-use borrow.Author.Rules.{rules}
 use Rattle.buffer.proofs.put_u64.Goals as goal
 
 pub returns : goal.returns

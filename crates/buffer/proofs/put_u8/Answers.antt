@@ -1,7 +1,6 @@
 -- A store of one byte, whose own bytes are itself, since it is below 256.
 use native.Mathlib.Omega.{arith}
 use Rattle.buffer.proofs.Digits.{store1}
-use borrow.Author.Rules.{rules}
 use Rattle.buffer.proofs.put_u8.Goals as goal
 
 pub returns : goal.returns

@@ -12,7 +12,6 @@ use Rattle.book.specs.Holding.{blocks_start}
 use Rattle.image.specs.Filled.{Filled}
 use Rattle.image.proofs.Fills.{filled-holding}
 use Rattle.create.proofs.Creates.{created-image}
-use borrow.Author.Rules.{rules}
 use Rattle.create.proofs.add_block.Goals as goal
 use Rattle.create.proofs.add_block.Goals.{After-blocks_of-blocks}
 
@@ -25,22 +24,22 @@ module _ (c : After-blocks_of-blocks) (x : Routine) (f : Filled c.args.image.now
   counted = (c.blocks_of-blocks.ensures x (filled-holding f)).1
 
 pub overflow_sub-start : goal.overflow_sub-start
-overflow_sub-start c = let p = c.requires.0 in omega (arith, begins c p.x p.filled)
+overflow_sub-start c = let p = c.requires.0 in omega (arith, begins (goal.at.overflow_sub-start c).After-blocks_of-blocks p.x p.filled)
 
 pub overflow_add-count : goal.overflow_add-count
 overflow_add-count c =
     let p = c.requires.0 in
-    omega (arith, counted c p.x p.filled, blocks-few p.x p.x.explored_blocks, p.filled.written, c.requires.1, p.filled.lent)
+    omega (arith, counted (goal.at.overflow_add-count c).After-blocks_of-blocks p.x p.filled, blocks-few p.x p.x.explored_blocks, p.filled.written, c.requires.1, p.filled.lent)
 
 pub put_u32-requires : goal.put_u32-requires
 put_u32-requires c =
     let p = c.requires.0 in
-    omega (arith, begins c p.x p.filled, routine-size p.x, p.filled.written, c.requires.1, c.put_u64.auto.0)
+    omega (arith, begins (goal.at.put_u32-requires c).After-blocks_of-blocks p.x p.filled, routine-size p.x, p.filled.written, c.requires.1, c.put_u64.auto.a)
 
 pub returns : goal.returns
 returns c =
     let a = c.args in
     λ x f.
     c.put_u32.ensures
-    ∙ ap₂ (λ n i. put (c.blocks_of-blocks.result.start - 4) (bytes 4 (n + 1)) i) (counted c x f) c.put_u64.ensures
-    ∙ created-image f c.requires.1 a.vip.0 (begins c x f)
+    ∙ ap₂ (λ n i. put (c.blocks_of-blocks.result.start - 4) (bytes 4 (n + 1)) i) (counted (goal.at.returns c).After-blocks_of-blocks x f) c.put_u64.ensures
+    ∙ created-image f c.requires.1 a.vip.0 (begins (goal.at.returns c).After-blocks_of-blocks x f)

@@ -24,7 +24,6 @@ use Rattle.image.proofs.Inspects.{sound-holding}
 use Rattle.image.proofs.Fills.{sound-filled, is-filled}
 use Rattle.create.specs.Created.{with_new}
 use Rattle.create.proofs.Creates.{not_created, creates, create-costs}
-use borrow.Author.Rules.{rules}
 use Rattle.create.proofs.create_block.Goals as goal
 use Rattle.create.proofs.create_block.Goals.{After-find-found, Else-found-count, Else-refusal-ne0, Start}
 

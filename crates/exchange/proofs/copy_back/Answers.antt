@@ -1,12 +1,8 @@
 -- The loop's invariant: the first i bytes of b stand reversed before the end. A turn puts one before them.
-use Prim.Native.Nat.{◌≤◌, ◌+◌, ◌-◌}
-use mathlib.Core.Path.{◌≡◌, refl}
+use mathlib.Core.Path.{refl}
 use native.Mathlib.Omega.{arith}
-use lib.ListN.{length, take, length-set}
-use Rattle.bytes.specs.Bytes.{rev}
-use Rattle.fields.specs.Bytes.{put}
+use lib.ListN.{length-set}
 use Rattle.exchange.proofs.Reversals.{back_none, back_more, back-all}
-use borrow.Author.Rules.{rules}
 use Rattle.exchange.proofs.copy_back.Goals as goal
 
 pub loop-i-init : goal.loop-i-init

@@ -1,7 +1,6 @@
 -- A put over the whole of `x` is what was put.
 use native.Mathlib.Omega.{arith}
 use Rattle.exchange.proofs.Reversals.{whole}
-use borrow.Author.Rules.{rules}
 use Rattle.exchange.proofs.copy_out.Goals as goal
 
 pub returns : goal.returns

@@ -1,7 +1,6 @@
 -- Four reversals exchange two parts around a third (proofs/Reversals.antt): the calls' `ensures`, one after the other, and that law.
 use Rattle.exchange.proofs.Reversals.{four}
 use native.Mathlib.Omega.{arith}
-use borrow.Author.Rules.{rules}
 use Rattle.exchange.proofs.exchange.Goals as goal
 
 pub returns : goal.returns

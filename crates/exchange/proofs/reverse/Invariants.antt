@@ -1,10 +1,7 @@
 use Prim.Native.Nat.{◌≤◌, ◌-◌}
-use mathlib.Core.Path.{◌≡◌, refl, ◌∙◌}
-use native.Mathlib.Omega.{arith}
+use mathlib.Core.Path.{◌≡◌}
 use lib.ListN.{length}
 use Rattle.exchange.specs.Parts.{reversed}
-use Rattle.exchange.proofs.Reversals.{reversed-turn}
-use borrow.Author.Rules.{rules}
 use Rattle.exchange.proofs.reverse.Given as goal
 
 abbrev pub invariant-loop-j : goal.invariant-loop-j

@@ -1,11 +1,11 @@
 -- The walk stands at the beginning of block i, and no block before it has the vip. The measure is how many blocks are left.
 use mathlib.Core.Path.{refl}
-use Prim.Native.Nat.{◌-◌, ◌≤◌, ◌<◌}
+use Prim.Native.Nat.{◌<◌}
 use native.Mathlib.Omega.{arith}
 use lib.ListN.{length}
 use Rattle.pod.specs.Values.{Routine}
 use Rattle.book.specs.Holding.{Holding}
-use Rattle.image.proofs.Searches.{Walked, walk_start, walk_end, walk-hit, walk_next}
+use Rattle.image.proofs.Searches.{walk_start, walk_end, walk-hit, walk_next}
 use borrow.Author.Rules.{rules}
 use Rattle.image.proofs.find.Goals as goal
 use Rattle.image.proofs.find.Goals.{In-loop-i}

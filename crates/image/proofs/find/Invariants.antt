@@ -1,11 +1,7 @@
-use mathlib.Core.Path.{refl}
-use Prim.Native.Nat.{◌-◌, ◌≤◌, ◌<◌}
-use native.Mathlib.Omega.{arith}
-use lib.ListN.{length}
+use Prim.Native.Nat.{◌-◌, ◌≤◌}
 use Rattle.pod.specs.Values.{Routine}
 use Rattle.book.specs.Holding.{Holding}
-use Rattle.image.proofs.Searches.{Walked, walk_start, walk_end, walk-hit, walk_next}
-use borrow.Author.Rules.{rules}
+use Rattle.image.proofs.Searches.{Walked}
 use Rattle.image.proofs.find.Given as goal
 
 abbrev pub invariant-loop-i : goal.invariant-loop-i

@@ -13,9 +13,8 @@ use Rattle.image.specs.Places.{is_routine}
 use Rattle.image.specs.Inspected.{FindsBlock}
 use Rattle.image.proofs.Inspects.{Within, part, rest_is_zero, too_large_image, too_large_journal, past-image, past-journal, spoiled, not_zero, stands, astray, sound, found, none_found}
 use borrow.Author.Tests.{leb-true, leb-false, not-true, not-false}
-use borrow.Author.Rules.{rules}
 use Rattle.image.proofs.inspect_at.Goals as goal
-use Rattle.image.proofs.inspect_at.Goals.{After-is_lent, After-shared_slice_known-1, Else-image-written, Else-journal-used, Else-not-is_lent, Else-not-is_lent-2, Else-not-is_zero, Else-not-passed}
+use Rattle.image.proofs.inspect_at.Goals.{After-is_lent, Else-image-written, Else-journal-used, Else-not-is_lent, Else-not-is_lent-2, Else-not-is_zero, Else-not-passed}
 
 abbrev lent : After-is_lent → State
 lent c = let args = c.args in state args.image.now args.journal.now args.book
@@ -45,10 +44,10 @@ within c =
     }
 
 bytes : (c : Else-journal-used) → Bytes (S (goal.at.Else-journal-used c).Else-not-is_lent-2).image
-bytes c = (goal.at.Else-journal-used c).After-shared_slice_known-1.type_inv.image
+bytes c = c.type_inv.image
 
 one : (c : Else-not-passed) → is_routine (part (S (goal.at.Else-not-passed c).Else-not-is_lent-2)) ≡ true
-one c = sym c.pass_image-passed.ensures.0 ∙ c.if-not-passed.false
+one c = sym c.pass_image-passed.ensures.0 ∙ not-false _ c.if-not-passed.false
 
 zero-after : (c : Else-not-is_zero) → rest_is_zero (S (goal.at.Else-not-is_zero c).Else-not-is_lent-2) ≡ true
 zero-after c = sym c.is_zero.ensures ∙ c.if-not-is_zero.false
@@ -81,7 +80,7 @@ slice_bounds-pass_image-end c = let here = goal.at.slice_bounds-pass_image-end c
 pub returns-then-not-passed : goal.returns-then-not-passed
 returns-then-not-passed c =
     let here = goal.at.returns-then-not-passed c in
-    refuses _ c.refuse-then-not-passed.ensures (spoiled (S here.Else-not-is_lent-2) (bytes here.Else-journal-used) (within here.Else-journal-used) (sym c.pass_image-passed.ensures.0 ∙ c.if-not-passed.true)) (λ z. omega arith)
+    refuses _ c.refuse-then-not-passed.ensures (spoiled (S here.Else-not-is_lent-2) (bytes here.Else-journal-used) (within here.Else-journal-used) (sym c.pass_image-passed.ensures.0 ∙ not-true _ c.if-not-passed.true)) (λ z. omega arith)
 
 pub returns-then-not-is_zero : goal.returns-then-not-is_zero
 returns-then-not-is_zero c =
@@ -99,8 +98,7 @@ pub returns : goal.returns
 returns c =
     let here = goal.at.returns c in
     let s = S here.Else-not-is_lent-2 in
-    let fits = sym (c.walk_fits.ensures _ (stands s (bytes here.Else-journal-used) (within here.Else-journal-used) (one here.Else-not-passed))) ∙ c.if-not-walk_fits.false in
-    (
+    let fits = sym (c.walk_fits.ensures _ (stands s (bytes here.Else-journal-used) (within here.Else-journal-used) (one here.Else-not-passed))) ∙ c.if-not-walk_fits.false in (
       sound s (bytes here.Else-journal-used) (within here.Else-journal-used) (one here.Else-not-passed) (zero-after here.Else-not-is_zero) fits,
       found s (bytes here.Else-journal-used) (within here.Else-journal-used) (one here.Else-not-passed) (zero-after here.Else-not-is_zero) fits c.place_of.ensures c.pass_image-passed.ensures.1,
     )

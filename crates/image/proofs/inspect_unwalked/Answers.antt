@@ -1,7 +1,6 @@
 -- `image::inspect_unwalked` meets its contract: by what `held` was, and by whether a walk is open.
 use native.Mathlib.Omega.{arith}
 use Rattle.image.proofs.Inspects.{unwalked-refused, unwalked_open, unwalked-held}
-use borrow.Author.Rules.{rules}
 use Rattle.image.proofs.inspect_unwalked.Goals as goal
 
 pub returns-then-refusal-ne0 : goal.returns-then-refusal-ne0

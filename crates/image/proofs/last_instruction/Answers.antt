@@ -9,7 +9,6 @@ use Rattle.book.specs.Holding.{Holding, block_start}
 use Rattle.ends.specs.Ends.{instructionEnd}
 use Rattle.image.specs.Places.{instruction_start}
 use Rattle.image.proofs.Parts.{count-found, instruction-next}
-use borrow.Author.Rules.{rules}
 use Rattle.image.proofs.last_instruction.Goals as goal
 use Rattle.image.proofs.last_instruction.Goals.{After-word32-count, Start}
 
@@ -28,13 +27,13 @@ module _ (x : Routine) (i : ℕ) where
 
 pub returns-then-count-eq0 : goal.returns-then-count-eq0
 returns-then-count-eq0 c x i h l e =
-    let n : N x i ≡ 0 = sym (counted x i c h l e) ∙ c.if-count-eq0.true in
+    let n : N x i ≡ 0 = sym (counted x i (goal.at.returns-then-count-eq0 c).After-word32-count h l e) ∙ c.if-count-eq0.true in
     let first = c.instruction_offset-first.ensures x i h l e (omega arith) in
     record { from = first ∙ ap (λ k. instruction_start x i (k - 1)) (sym n); end = first ∙ ap (instruction_start x i) (sym n) }
 
 pub returns : goal.returns
 returns c x i h l e =
-    let n = counted x i c h l e in
+    let n = counted x i (goal.at.returns c).After-word32-count h l e in
     let some : 0 < N x i = omega (arith, n, c.if-count-eq0.false) in
     let from : c.instruction_offset-from.result ≡ instruction_start x i (N x i - 1)
     = c.instruction_offset-from.ensures x i h l e (omega (arith, n)) ∙ ap (λ k. instruction_start x i (k - 1)) n in

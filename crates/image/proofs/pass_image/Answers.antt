@@ -12,7 +12,6 @@ use Rattle.pod.specs.Written.{routine_head_bytes, routine_bytes}
 use Rattle.laws.proofs.Walks.{walked-refused}
 use Rattle.routine.specs.Noted.{of_noted}
 use Rattle.image.specs.Places.{ends_at, is_routine}
-use borrow.Author.Rules.{rules}
 use Rattle.image.proofs.pass_image.Goals as goal
 
 pub returns-in-Past : goal.returns-in-Past

@@ -1,10 +1,9 @@
 -- Where no walk is open there is no place to test; where one is, its place is compared with the number of blocks.
-use mathlib.Core.Path.{◌≡◌, sym, ap, ◌∙◌}
+use mathlib.Core.Path.{sym, ap, ◌∙◌}
 use Prim.Native.Nat.{◌-◌}
 use native.Mathlib.Omega.{arith}
 use lib.Dec.{leb}
 use Rattle.machine.proofs.Walks.{fits-closed, fits-is}
-use borrow.Author.Rules.{rules}
 use Rattle.image.proofs.walk_fits.Goals as goal
 
 pub returns-then-walk-eq0 : goal.returns-then-walk-eq0

@@ -5,5 +5,5 @@ use Rattle.normal.proofs.normalise_block.Goals as goal
 
 pub returns : goal.returns
 returns c =
-    block-normal c.args.table.now c.type_inv.a _ c.jump-list.ensures c.normalise_instructions-instructions.ensures c.vips_end-next.ensures
+    block-normal c.args.table.now (search rules) _ c.jump-list.ensures c.normalise_instructions-instructions.ensures c.vips_end-next.ensures
     c.vips_end-end.ensures

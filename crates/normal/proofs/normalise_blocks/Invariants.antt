@@ -1,6 +1,5 @@
 use Prim.Native.Nat.{ℕ}
-use native.Mathlib.Omega.{arith}
-use mathlib.Core.Path.{◌≡◌, refl, ◌∙◌}
+use mathlib.Core.Path.{◌≡◌}
 use mathlib.Core.List.{List}
 use lib.ListN.{length}
 use Rattle.fields.specs.Parse.{ok, counted}
@@ -8,9 +7,7 @@ use Rattle.pod.specs.Values.{BasicBlock}
 use Rattle.pod.specs.Layout.{block}
 use Rattle.pod.specs.Written.{block_bytes}
 use Rattle.charge.specs.Sums.{block_in}
-use Rattle.laws.proofs.Local.{local-block}
-use Rattle.normal.proofs.Runs.{Run, run-start, run_next, run_below, run_end, run_sum}
-use borrow.Author.Rules.{rules}
+use Rattle.normal.proofs.Runs.{Run}
 use Rattle.normal.proofs.normalise_blocks.Given as goal
 
 abbrev pub invariant-loop-left : goal.invariant-loop-left

@@ -5,4 +5,4 @@ use Rattle.normal.proofs.normalise_convention.Goals as goal
 
 pub returns : goal.returns
 returns c =
-    convention-normal c.slice_known-1.given _ c.convention_end-end.ensures c.normalise_flag.ensures
+    convention-normal (search rules) _ c.convention_end-end.ensures c.normalise_flag.ensures

@@ -1,15 +1,13 @@
 use Prim.Native.Nat.{ℕ}
-use mathlib.Core.Path.{◌≡◌, refl, ◌∙◌}
+use mathlib.Core.Path.{◌≡◌}
 use mathlib.Core.List.{List}
 use lib.ListN.{length}
 use Rattle.fields.specs.Parse.{ok, counted}
 use Rattle.pod.specs.Values.{RoutineConvention}
 use Rattle.pod.specs.Layout.{convention}
 use Rattle.pod.specs.Written.{convention_bytes}
-use Rattle.laws.proofs.Local.{local-convention}
 use Rattle.normal.specs.Over.{nothing}
-use Rattle.normal.proofs.Runs.{Run, run-start, run_next, run_end}
-use borrow.Author.Rules.{rules}
+use Rattle.normal.proofs.Runs.{Run}
 use Rattle.normal.proofs.normalise_conventions.Given as goal
 
 abbrev pub invariant-loop-left : goal.invariant-loop-left

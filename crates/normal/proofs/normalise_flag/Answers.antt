@@ -6,7 +6,6 @@ use native.Mathlib.Omega.{arith}
 use lib.Dec.{eqb}
 use lib.ListN.{set, get_or}
 use Rattle.normal.proofs.Puts.{byte-is-bit}
-use borrow.Author.Rules.{rules}
 use Rattle.normal.proofs.normalise_flag.Goals as goal
 
 pub returns-then-end-eq0 : goal.returns-then-end-eq0

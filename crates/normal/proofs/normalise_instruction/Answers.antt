@@ -6,4 +6,4 @@ use Rattle.normal.proofs.normalise_instruction.Goals as goal
 
 pub returns : goal.returns
 returns c =
-    (instruction-normal c.args.table.now c.type_inv.a _ c.rate_at-rate.ensures c.instruction_end-end.ensures c.normalise_flag.ensures, omega (arith, c.rate_at-rate.ok))
+    (instruction-normal c.args.table.now (search rules) _ c.rate_at-rate.ensures c.instruction_end-end.ensures c.normalise_flag.ensures, omega arith)

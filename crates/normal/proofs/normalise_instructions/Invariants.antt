@@ -1,6 +1,5 @@
 use Prim.Native.Nat.{ℕ, ◌+◌, ◌*◌, ◌≤◌}
-use native.Mathlib.Omega.{arith}
-use mathlib.Core.Path.{◌≡◌, refl, ◌∙◌}
+use mathlib.Core.Path.{◌≡◌}
 use mathlib.Core.List.{List}
 use lib.ListN.{length}
 use Rattle.fields.specs.Parse.{ok, counted}
@@ -9,9 +8,7 @@ use Rattle.pod.specs.Layout.{instruction}
 use Rattle.pod.specs.Written.{instruction_bytes}
 use Rattle.charge.specs.Sums.{in_table}
 use Rattle.machine.proofs.Sums.{most_rate}
-use Rattle.laws.proofs.Local.{local-instruction}
-use Rattle.normal.proofs.Runs.{Run, run-start, run_next, run_end, run_sum}
-use borrow.Author.Rules.{rules}
+use Rattle.normal.proofs.Runs.{Run}
 use Rattle.normal.proofs.normalise_instructions.Given as goal
 
 abbrev pub invariant-loop-left : goal.invariant-loop-left

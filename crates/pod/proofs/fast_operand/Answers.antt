@@ -14,25 +14,19 @@ width_fits c = rw c.four-width.ensures (le_lt 4 _ _ c.type_inv.s)
 offset-fits : (c : After-four-offset) → c.four-offset.result < 2 ^ 32
 offset-fits c = rw c.four-offset.ensures (le_lt 4 _ _ c.type_inv.s)
 
-pub returns-then-kind-gt1 : goal.returns-then-kind-gt1
-returns-then-kind-gt1 c = λ h. absurd (omega arith)
-
 pub overflow_mul-kind : goal.overflow_mul-kind
-overflow_mul-kind c = record { fits = small _ _ c.if-kind-gt1.false (rw c.wide-top.ensures (c.type_inv.s _).fits) }
-
-pub returns-then-kind-top-gt2 : goal.returns-then-kind-top-gt2
-returns-then-kind-top-gt2 c = λ h. absurd (omega arith)
+overflow_mul-kind c = record { fits = small _ _ (omega arith) (rw c.wide-top.ensures (c.type_inv.s _).fits) }
 
 pub returns : goal.returns
 returns c = λ h.
     (
       fast _ _ c.type_inv.s c.requires _ _ _ _ c.four-kind.ensures c.wide-top.ensures c.four-width.ensures c.four-offset.ensures
-          c.if-kind-gt1.false c.if-kind-top-gt2.false,
-      omega (arith, c.if-kind-gt1.false),
+          (omega arith) (omega arith),
+      omega arith,
     )
 
 pub overflow_add-reach : goal.overflow_add-reach
 overflow_add-reach c = record { fits = omega (arith, width_fits c, offset-fits c) }
 
 pub overflow_mul-result-2 : goal.overflow_mul-result-2
-overflow_mul-result-2 c = record { fits = small_reach _ _ _ c.if-kind-gt1.false (width_fits c) (offset-fits c) }
+overflow_mul-result-2 c = record { fits = small_reach _ _ _ (omega arith) (width_fits c) (offset-fits c) }

@@ -6,7 +6,6 @@ use Rattle.fields.specs.Bytes.{put}
 use Rattle.machine.specs.Trailer.{trailer_with, trailer_bytes}
 use Rattle.machine.proofs.Undo.{trailer-long}
 use Rattle.buffer.proofs.Put.{put-put}
-use borrow.Author.Rules.{rules}
 use Rattle.remove.proofs.put_entry.Goals as goal
 
 pub returns : goal.returns

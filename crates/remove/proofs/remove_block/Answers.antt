@@ -19,7 +19,6 @@ use Rattle.remove.specs.Removable.{Removable}
 use Rattle.image.proofs.Inspects.{sound-holding}
 use Rattle.image.proofs.Here as B
 use Rattle.remove.proofs.Steps as K
-use borrow.Author.Rules.{rules}
 use Rattle.remove.proofs.remove_block.Goals as goal
 use Rattle.remove.proofs.remove_block.Goals.{After-admit-refusal, After-block_end-end, After-find-found, After-put_entry, After-sum_of_block-less, Else-found-place, Else-refusal-ne0, Else-sum-less, Start}
 
@@ -57,29 +56,29 @@ abbrev Roomy : Type 0
 Roomy = Else-refusal-ne0
 
 abbrev testing : Roomy → After-admit-refusal
-testing c = c.before
+testing c = (goal.at.Else-refusal-ne0 c).After-admit-refusal
 
 abbrev summing : After-sum_of_block-less → Roomy
-summing c = c.before.before
+summing c = (goal.at.After-sum_of_block-less c).Else-refusal-ne0
 
 -- and here every test is passed
 abbrev Passed : Type 0
 Passed = Else-sum-less
 
 abbrev comparing : Passed → After-sum_of_block-less
-comparing c = c.before
+comparing c = (goal.at.Else-sum-less c).After-sum_of_block-less
 
 abbrev at_end : Passed → After-block_end-end
 at_end c = ending (testing (summing (comparing c)))
 
 abbrev passing : After-put_entry → Passed
-passing c = c.before.before.before.before
+passing c = (goal.at.After-put_entry c).Else-sum-less
 
 -- What is known at them.
 finds : (c : After-find-found) → Finds (R (goal.at.After-find-found c).Start) c.args.vip.0 c.find-found.result
 finds c = let here = goal.at.After-find-found c in c.find-found.ensures (R here.Start) (holding here.Start)
 
-there : (c : Else-found-place) → ( P (goal.at.Else-found-place c).Start < length (R (goal.at.Else-found-place c).Start).explored_blocks)
+there : (c : Else-found-place) → (P (goal.at.Else-found-place c).Start < length (R (goal.at.Else-found-place c).Start).explored_blocks)
 there c = let here = goal.at.Else-found-place c in omega (arith, c.if-found-place.false, (finds here.After-find-found).place, (finds here.After-find-found).count)
 
 -- at the end of the block, which stands in the routine
@@ -101,7 +100,7 @@ module _ (c : After-block_end-end) where
       let g = s.requires.sound in
       record {
         holds = g.holds;
-        is = g.image-1;
+        is = g.image;
         whole = g.written;
         room = g.room;
         lent = g.image_lent;
@@ -158,7 +157,7 @@ returns-then-sum-less c =
     ∙ sym (K.sum-short (S (s e)) (R (s e)) (s e).requires.sound (s e).requires.none_open _ (there (being_there e)) _ _ (is_left e) (is_spent e) t.admit-refusal.ensures (no-refusal a) (comes_to here.After-sum_of_block-less) (omega (arith, c.if-sum-less.true)))
 
 pub put_entry-requires : goal.put_entry-requires
-put_entry-requires c = let a = summing (comparing c.before.before.before) in (omega (arith, room a), omega (arith, (s (ending (testing a))).requires.sound.journal_lent))
+put_entry-requires c = let a = (goal.at.put_entry-requires c).Else-refusal-ne0 in (omega (arith, room a), omega (arith, (s (ending (testing a))).requires.sound.journal_lent))
 
 pub swap_remove-requires : goal.swap_remove-requires
 swap_remove-requires c =
@@ -184,22 +183,22 @@ returns c =
     (c.put_entry.ensures ∙ ap₂ (λ i x. put s.args.book.used (x ++ trailer_bytes (trailer_with s.args.vip.0 i (length x) 2)) s.args.journal.now) (finds (f e)).place x)
 
 pub overflow_sub-size : goal.overflow_sub-size
-overflow_sub-size c = omega (arith, ends c)
+overflow_sub-size c = omega (arith, ends (goal.at.overflow_sub-size c).After-block_end-end)
 
 pub overflow_sub-left : goal.overflow_sub-left
-overflow_sub-left c = omega (arith, ends c, whole c, c.requires.sound.written)
+overflow_sub-left c = omega (arith, ends (goal.at.overflow_sub-left c).After-block_end-end, whole (goal.at.overflow_sub-left c).After-block_end-end, c.requires.sound.written)
 
 pub overflow_add-spent : goal.overflow_add-spent
-overflow_add-spent c = omega (arith, ends c, whole c, lent (goal.at.overflow_add-spent c).Start)
+overflow_add-spent c = omega (arith, ends (goal.at.overflow_add-spent c).After-block_end-end, whole (goal.at.overflow_add-spent c).After-block_end-end, lent (goal.at.overflow_add-spent c).Start)
 
 pub overflow_add-spent-2 : goal.overflow_add-spent-2
-overflow_add-spent-2 c = omega (arith, ends c, whole c, lent (goal.at.overflow_add-spent-2 c).Start)
+overflow_add-spent-2 c = omega (arith, ends (goal.at.overflow_add-spent-2 c).After-block_end-end, whole (goal.at.overflow_add-spent-2 c).After-block_end-end, lent (goal.at.overflow_add-spent-2 c).Start)
 
 pub slice_bounds-put_entry-count : goal.slice_bounds-put_entry-count
-slice_bounds-put_entry-count c = omega (arith, ends (at_end c.before))
+slice_bounds-put_entry-count c = omega (arith, ends (at_end (goal.at.slice_bounds-put_entry-count c).Else-sum-less))
 
 pub slice_bounds-put_entry-start : goal.slice_bounds-put_entry-start
-slice_bounds-put_entry-start c = let e = at_end c.before.before in omega (arith, ends e, whole e, (s e).requires.sound.room)
+slice_bounds-put_entry-start c = let e = at_end (goal.at.slice_bounds-put_entry-start c).Else-sum-less in omega (arith, ends e, whole e, (s e).requires.sound.room)
 
 pub slice_bounds-put_entry-end : goal.slice_bounds-put_entry-end
-slice_bounds-put_entry-end c = let e = at_end c.before.before in omega (arith, ends e, whole e, (s e).requires.sound.room)
+slice_bounds-put_entry-end c = let e = at_end (goal.at.slice_bounds-put_entry-end c).Else-sum-less in omega (arith, ends e, whole e, (s e).requires.sound.room)

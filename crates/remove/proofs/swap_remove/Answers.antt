@@ -8,7 +8,6 @@ use Rattle.pod.specs.Values.{Routine}
 use Rattle.book.specs.Holding.{blocks_start, block_start}
 use Rattle.remove.specs.Removable.{Removable}
 use Rattle.remove.proofs.Taken as T
-use borrow.Author.Rules.{rules}
 use Rattle.remove.proofs.swap_remove.Goals as goal
 use Rattle.remove.proofs.swap_remove.Goals.{After-block_offset-last, After-blocks_of-blocks, Start}
 
