@@ -20,7 +20,7 @@ use Rattle.op.specs.Ops.{names, counts, number, index_of}
 use Rattle.op.specs.Text.{is_text, text, next_state, lead}
 use Rattle.op.specs.Packed.{key, bits, Packed, Entry, Known}
 use Rattle.op.specs.declared.Slot.{Slot}
-use Rattle.op.proofs.Table.{entry, both, split, every, at, Arms}
+use Rattle.op.proofs.Table.{entry, both, split, every, at}
 use Rattle.op.proofs.Same.{short, same_eq, names-many}
 
 pub T_true : (b : Bool) → T b → b ≡ true
@@ -190,9 +190,12 @@ slot h e t =
       code_is = w.1;
     }
 
-pub filled : {C : Type 0} (h e : ℕ) → C → (s : Arms C h e) → T (every right s.keyed) → T (every empty s.others)
-    → Entry (h / 32) h (record { key = e % 2 ^ 56; code = e / 2 ^ 56 })
-filled h e c s t u = ⊎_elim (λ p. inl (slot h e p)) (λ p. inr (leb→le (2 ^ 48) (e % 2 ^ 56) p)) (s.all right empty t u c)
+-- the entry of an arm with one number, and of one with several: antt computes the test of what stands in the arm
+pub named_arm : {h e k a : ℕ} → h ≡ k → e ≡ a → T (right (k, a)) → Entry (h / 32) h (record { key = e % 2 ^ 56; code = e / 2 ^ 56 })
+named_arm {h} {e} i j t = inl (slot h e (rw (i, j) t))
+
+pub unnamed_arm : {h e a : ℕ} → e ≡ a → T (empty a) → Entry (h / 32) h (record { key = e % 2 ^ 56; code = e / 2 ^ 56 })
+unnamed_arm {h} {e} j u = inr (leb→le (2 ^ 48) (e % 2 ^ 56) (rw j u))
 
 -- the bits have the length in the highest
 pub bits-long : (n v : ℕ) → bits n v / 32 ≡ n

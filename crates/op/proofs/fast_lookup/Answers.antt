@@ -29,7 +29,7 @@ returns c h s o b l e =
     let n = c.args.n in
     let q = c.code_of.ensures h in
     let cut : c.low-v.result ≡ le 8 s o % 2 ^ (8 * n) = c.low-v.ensures ∙ ap (λ v. v % 2 ^ (8 * n)) e in
-    rw (sym q.1) (known s o n (bits n c.low-v.result) c.slot_of.result b l (short (goal.at.returns c).After-low-v) (q.0 ∙ cut) (code_of-requires c c.slot_of.lifetimes))
+    rw (sym q.1) (known s o n (bits n c.low-v.result) c.slot_of.result b l (short (goal.at.returns c).After-low-v) (q.0 ∙ cut) (at_bits _ _ _ _ c.bits_of.ensures c.slot_of.ensures))
 
 pub returns-then-n-lt2 : goal.returns-then-n-lt2
 returns-then-n-lt2 c h = absurd (omega arith)
