@@ -1,9 +1,7 @@
 -- Of the vips passed the buffer has all from lo to below hi, and nothing but vips (`Gathering`). The measure is the number of blocks left.
 use native.Mathlib.Omega.{arith}
 use mathlib.Core.Logic.{inl, inr}
-use Rattle.distinct.specs.Walked.{vipsFrom}
-use Rattle.distinct.proofs.Walks.{Gathering, BlockRead, gather_start, gather_skip, gather_found, gather_pass, put_under, gather_put, gather_end}
-use borrow.Author.Rules.{rules}
+use Rattle.distinct.proofs.Walks.{BlockRead, gather_start, gather_skip, gather_found, gather_pass, put_under, gather_put, gather_end}
 use Rattle.distinct.proofs.gather.Goals as goal
 use Rattle.distinct.proofs.gather.Goals.{After-block_at-k}
 
@@ -25,7 +23,7 @@ sift-requires c = put_under (block (goal.at.sift-requires c).After-block_at-k) c
 
 pub loop-left-preserved-then-v-root-2 : goal.loop-left-preserved-then-v-root-2
 loop-left-preserved-then-v-root-2 c =
-    gather_put (block (goal.at.loop-left-preserved-then-v-root-2 c).After-block_at-k) c.loop-left.invariant (omega arith) (omega arith) _ c.sift.auto.0 c.sift.ensures
+    gather_put (block (goal.at.loop-left-preserved-then-v-root-2 c).After-block_at-k) c.loop-left.invariant (omega arith) (omega arith) _ c.sift.auto.b c.sift.ensures
 
 pub loop-left-preserved-else-v-root-2 : goal.loop-left-preserved-else-v-root-2
 loop-left-preserved-else-v-root-2 c = gather_pass (block (goal.at.loop-left-preserved-else-v-root-2 c).After-block_at-k) c.loop-left.invariant (omega arith) (omega arith)

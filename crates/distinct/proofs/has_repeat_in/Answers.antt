@@ -1,21 +1,16 @@
 -- Each way out has its own reason: too few blocks, the highest number twice, or the passes.
 use native.Mathlib.Omega.{arith}
-use mathlib.Core.Path.{◌≡◌, sym}
-use lib.ListN.{length, take}
+use mathlib.Core.Path.{sym}
 use lib.Seq.{length-take-le}
 use Rattle.distinct.specs.Walked.{vipsFrom, TopTwice}
 use mathlib.Core.Bool.{false}
 use Rattle.distinct.proofs.Rounds.{few, not-twice}
-use borrow.Author.Rules.{rules}
 use Rattle.distinct.proofs.has_repeat_in.Goals as goal
-use Rattle.distinct.proofs.has_repeat_in.Goals.{After-passes-arg-1, Else-top_twice}
+use Rattle.distinct.proofs.has_repeat_in.Goals.{Else-top_twice}
 
 -- the highest number is not there twice, and a part of the buffer is as long as there are blocks
 apart : (c : Else-top_twice) → let a = c.args in TopTwice (vipsFrom a.s.now a.start a.count) false
 apart c = not-twice c.top_twice.ensures c.if-top_twice.false
-
-fits : (c : After-passes-arg-1) → let a = c.args in length (take a.count a.b-1.now) ≡ a.count
-fits c = length-take-le _ _ (omega arith)
 
 pub returns-then-count-lt2 : goal.returns-then-count-lt2
 returns-then-count-lt2 c = sym (few _ _ _ (omega arith))
@@ -24,10 +19,10 @@ pub returns-then-top_twice : goal.returns-then-top_twice
 returns-then-top_twice c = sym (c.top_twice.ensures.twice c.if-top_twice.true)
 
 pub slice_bounds-passes-end-then-count-b : goal.slice_bounds-passes-end-then-count-b
-slice_bounds-passes-end-then-count-b c = sym (fits c)
+slice_bounds-passes-end-then-count-b c = sym (length-take-le c.args.count c.args.b.now (omega arith))
 
 pub passes-requires : goal.passes-requires
-passes-requires c = (omega (arith, fits c), apart (goal.at.passes-requires c).Else-top_twice)
+passes-requires c = (omega (arith, length-take-le c.args.count c.args.b.now (omega arith)), apart (goal.at.passes-requires c).Else-top_twice)
 
 pub passes-requires-else-count-b : goal.passes-requires-else-count-b
 passes-requires-else-count-b c = (omega arith, apart (goal.at.passes-requires-else-count-b c).Else-top_twice)

@@ -1,11 +1,8 @@
 use Prim.Native.Nat.{◌-◌}
-use native.Mathlib.Omega.{arith}
-use mathlib.Core.Path.{sym}
 use lib.ListN.{length}
 use Rattle.distinct.specs.Walked.{vipsFrom}
 use Rattle.sorting.specs.Buffer.{TOP}
-use Rattle.distinct.proofs.Rounds.{Passing, pass-start, pass-twice, pass-more, pass-end}
-use borrow.Author.Rules.{rules}
+use Rattle.distinct.proofs.Rounds.{Passing}
 use Rattle.distinct.proofs.passes.Given as goal
 
 abbrev pub invariant-loop-lo : goal.invariant-loop-lo

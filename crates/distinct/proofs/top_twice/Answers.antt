@@ -1,8 +1,6 @@
 -- How often the highest number was passed (`Tops`). The measure is the number of blocks left.
 use native.Mathlib.Omega.{arith}
-use Rattle.distinct.specs.Walked.{vipsFrom}
-use Rattle.distinct.proofs.Walks.{Tops, BlockRead, tops_other, tops_first, tops_twice, tops_end}
-use borrow.Author.Rules.{rules}
+use Rattle.distinct.proofs.Walks.{BlockRead, tops_other, tops_first, tops_twice, tops_end}
 use Rattle.distinct.proofs.top_twice.Goals as goal
 use Rattle.distinct.proofs.top_twice.Goals.{After-block_at-b}
 

@@ -1,7 +1,5 @@
-use native.Mathlib.Omega.{arith}
 use Rattle.distinct.specs.Walked.{vipsFrom}
-use Rattle.distinct.proofs.Walks.{Tops, BlockRead, tops_other, tops_first, tops_twice, tops_end}
-use borrow.Author.Rules.{rules}
+use Rattle.distinct.proofs.Walks.{Tops}
 use Rattle.distinct.proofs.top_twice.Given as goal
 
 abbrev pub invariant-loop-left : goal.invariant-loop-left
