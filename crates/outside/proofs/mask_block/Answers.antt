@@ -1,6 +1,5 @@
 -- The count says how many instructions stand after the head; these are masked, and past the vips after them the walk finds the end.
 use Rattle.outside.proofs.Parts.{instructions-within, instructions_stand, block-masked}
-use borrow.Author.Rules.{rules}
 use Rattle.outside.proofs.mask_block.Goals as goal
 
 pub four-count-requires : goal.four-count-requires

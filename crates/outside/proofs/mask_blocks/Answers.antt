@@ -1,17 +1,8 @@
 -- The loop's invariant: the blocks passed are masked, and as many as are left stand where the loop stands. The measure is how many are left.
 use native.Mathlib.Omega.{arith}
-use mathlib.Core.Path.{◌≡◌, refl, ◌∙◌}
-use mathlib.Core.List.{List}
-use lib.ListN.{length}
-use Rattle.pod.specs.Written.{many_bytes, block_bytes}
-use Rattle.pod.specs.Values.{BasicBlock}
-use Rattle.laws.specs.At.{At}
-use Rattle.laws.specs.Holds.{BlockHolds}
-use Rattle.machine.specs.Outside.{mask_block}
+use mathlib.Core.Path.{refl, ◌∙◌}
 use Rattle.machine.proofs.Masked.{block-kept}
-use Rattle.outside.specs.Masks.{SoMany}
-use Rattle.outside.proofs.Runs.{Run, run-start, run_stands, run_next, run_end}
-use borrow.Author.Rules.{rules}
+use Rattle.outside.proofs.Runs.{run-start, run_stands, run_next, run_end}
 use Rattle.outside.proofs.mask_blocks.Goals as goal
 
 pub loop-blocks-init : goal.loop-blocks-init
@@ -25,7 +16,7 @@ mask_block-o-requires c =
 pub loop-blocks-preserved : goal.loop-blocks-preserved
 loop-blocks-preserved c =
     let inv = c.loop-blocks.invariant in
-    (c.mask_block-o.auto.0 ∙ inv.0, λ xs m h. run_next (inv.1 xs m h) block-kept (omega (arith, c.loop-blocks-test.true)) c.mask_block-o.ensures)
+    (c.mask_block-o.auto.a ∙ inv.0, λ xs m h. run_next (inv.1 xs m h) block-kept (omega (arith, c.loop-blocks-test.true)) c.mask_block-o.ensures)
 
 pub returns : goal.returns
 returns c = λ xs m h. run_end (c.loop-blocks.invariant.1 xs m h) c.loop-blocks-test.false

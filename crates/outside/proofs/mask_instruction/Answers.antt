@@ -4,7 +4,6 @@ use mathlib.Core.Path.{refl}
 use Prim.Native.Nat.{◌+◌, ◌≤◌}
 use lib.ListN.{length}
 use Rattle.outside.proofs.Parts.{count-within, operands_stand, tail_within, instruction-masked}
-use borrow.Author.Rules.{rules}
 use Rattle.outside.proofs.mask_instruction.Goals as goal
 use Rattle.outside.proofs.mask_instruction.Goals.{After-four}
 

@@ -1,17 +1,8 @@
 -- The loop's invariant: the instructions passed are masked, and as many as are left stand where the loop stands. The measure is how many are left.
 use native.Mathlib.Omega.{arith}
-use mathlib.Core.Path.{◌≡◌, refl, ◌∙◌}
-use mathlib.Core.List.{List}
-use lib.ListN.{length}
-use Rattle.pod.specs.Written.{many_bytes, instruction_bytes}
-use Rattle.pod.specs.Values.{Instruction}
-use Rattle.laws.specs.At.{At}
-use Rattle.laws.specs.Holds.{InstructionHolds}
-use Rattle.machine.specs.Outside.{mask_instruction}
+use mathlib.Core.Path.{refl, ◌∙◌}
 use Rattle.machine.proofs.Masked.{instruction-kept}
-use Rattle.outside.specs.Masks.{SoMany}
-use Rattle.outside.proofs.Runs.{Run, run-start, run_stands, run_next, run_end}
-use borrow.Author.Rules.{rules}
+use Rattle.outside.proofs.Runs.{run-start, run_stands, run_next, run_end}
 use Rattle.outside.proofs.mask_instructions.Goals as goal
 
 pub loop-instructions-init : goal.loop-instructions-init
@@ -25,7 +16,7 @@ mask_instruction-o-requires c =
 pub loop-instructions-preserved : goal.loop-instructions-preserved
 loop-instructions-preserved c =
     let inv = c.loop-instructions.invariant in
-    (c.mask_instruction-o.auto.0 ∙ inv.0, λ xs m h. run_next (inv.1 xs m h) instruction-kept (omega (arith, c.loop-instructions-test.true)) c.mask_instruction-o.ensures)
+    (c.mask_instruction-o.auto.a ∙ inv.0, λ xs m h. run_next (inv.1 xs m h) instruction-kept (omega (arith, c.loop-instructions-test.true)) c.mask_instruction-o.ensures)
 
 pub returns : goal.returns
 returns c = λ xs m h. run_end (c.loop-instructions.invariant.1 xs m h) c.loop-instructions-test.false

@@ -2,7 +2,6 @@
 use native.Mathlib.Omega.{arith}
 use Prim.Native.Nat.{◌≤◌}
 use Rattle.outside.proofs.Parts.{operand-within, kind-small, times-kind, operand_masked}
-use borrow.Author.Rules.{rules}
 use Rattle.outside.proofs.mask_operand.Goals as goal
 use Rattle.outside.proofs.mask_operand.Goals.{After-four-kind}
 

@@ -1,17 +1,8 @@
 -- The loop's invariant: the operands passed are masked, and as many as are left stand where the loop stands. The measure is how many are left.
 use native.Mathlib.Omega.{arith}
-use mathlib.Core.Path.{◌≡◌, refl, ◌∙◌}
-use mathlib.Core.List.{List}
-use lib.ListN.{length}
-use Rattle.pod.specs.Written.{many_bytes, operand_bytes}
-use Rattle.pod.specs.declared.Operand.{Operand}
-use Rattle.laws.specs.At.{At}
-use Rattle.laws.specs.Holds.{OperandHolds}
-use Rattle.machine.specs.Outside.{mask_operand}
+use mathlib.Core.Path.{refl, ◌∙◌}
 use Rattle.machine.proofs.Masked.{operand-kept}
-use Rattle.outside.specs.Masks.{SoMany}
-use Rattle.outside.proofs.Runs.{Run, run-start, run_stands, run_next, run_end}
-use borrow.Author.Rules.{rules}
+use Rattle.outside.proofs.Runs.{run-start, run_stands, run_next, run_end}
 use Rattle.outside.proofs.mask_operands.Goals as goal
 
 pub loop-operands-init : goal.loop-operands-init
@@ -25,7 +16,7 @@ mask_operand-o-requires c =
 pub loop-operands-preserved : goal.loop-operands-preserved
 loop-operands-preserved c =
     let inv = c.loop-operands.invariant in
-    (c.mask_operand-o.auto.0 ∙ inv.0, λ xs m h. run_next (inv.1 xs m h) operand-kept (omega (arith, c.loop-operands-test.true)) c.mask_operand-o.ensures)
+    (c.mask_operand-o.auto.a ∙ inv.0, λ xs m h. run_next (inv.1 xs m h) operand-kept (omega (arith, c.loop-operands-test.true)) c.mask_operand-o.ensures)
 
 pub returns : goal.returns
 returns c = λ xs m h. run_end (c.loop-operands.invariant.1 xs m h) c.loop-operands-test.false

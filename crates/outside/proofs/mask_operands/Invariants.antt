@@ -1,5 +1,4 @@
-use native.Mathlib.Omega.{arith}
-use mathlib.Core.Path.{◌≡◌, refl, ◌∙◌}
+use mathlib.Core.Path.{◌≡◌}
 use mathlib.Core.List.{List}
 use lib.ListN.{length}
 use Rattle.pod.specs.Written.{many_bytes, operand_bytes}
@@ -7,10 +6,8 @@ use Rattle.pod.specs.declared.Operand.{Operand}
 use Rattle.laws.specs.At.{At}
 use Rattle.laws.specs.Holds.{OperandHolds}
 use Rattle.machine.specs.Outside.{mask_operand}
-use Rattle.machine.proofs.Masked.{operand-kept}
 use Rattle.outside.specs.Masks.{SoMany}
-use Rattle.outside.proofs.Runs.{Run, run-start, run_stands, run_next, run_end}
-use borrow.Author.Rules.{rules}
+use Rattle.outside.proofs.Runs.{Run}
 use Rattle.outside.proofs.mask_operands.Given as goal
 
 abbrev pub invariant-loop-operands : goal.invariant-loop-operands

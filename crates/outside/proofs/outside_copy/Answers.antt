@@ -4,7 +4,7 @@ use mathlib.Core.Path.{◌≡◌, refl, sym, ◌∙◌}
 use mathlib.Core.List.{List}
 use Prim.Native.Nat.{ℕ, ◌≤◌}
 use lib.ListN.{length}
-use borrow.Author.Tests.{leb-true, leb-false, not-true, not-false}
+use borrow.Author.Tests.{leb-true, leb-false}
 use Rattle.fields.specs.Bytes.{most_lent}
 use Rattle.fields.specs.Outcome.{Outcome, accepted}
 use Rattle.machine.specs.Book.{State}
@@ -17,31 +17,7 @@ use Rattle.image.proofs.Fills.{sound-filled}
 use Rattle.outside.proofs.Copies.{too_large, not-held, no_room, copied}
 use borrow.Author.Rules.{rules}
 use Rattle.outside.proofs.outside_copy.Goals as goal
-use Rattle.outside.proofs.outside_copy.Goals.{After-inspect-refusal, After-is_lent, After-shared_slice_known-1, Else-copy-written, Else-not-is_lent, Else-refusal-ne0, Start}
-
--- The way through the code, each place from the next.
-abbrev known : After-is_lent → After-shared_slice_known-1
-known c = (goal.at.After-is_lent c).After-shared_slice_known-1
-
-abbrev asking : After-inspect-refusal → Else-not-is_lent
-asking c = (goal.at.After-inspect-refusal c).Else-not-is_lent
-
-abbrev begin : Else-not-is_lent → Start
-begin c = (goal.at.Else-not-is_lent c).Start
-
--- here the book is not spoiled,
-abbrev Held : Type 0
-Held = Else-refusal-ne0
-
-abbrev at_start : Held → Start
-at_start c = begin (asking c.before)
-
--- and here there is room
-abbrev Roomy : Type 0
-Roomy = Else-copy-written
-
-abbrev testing : Roomy → Held
-testing c = c.before
+use Rattle.outside.proofs.outside_copy.Goals.{Else-not-is_lent, Else-refusal-ne0, Start}
 
 abbrev S : Start → State
 S s = state s.args.image.now s.args.journal.now s.args.book
@@ -49,14 +25,12 @@ S s = state s.args.image.now s.args.journal.now s.args.book
 abbrev C : Start → List ℕ
 C s = s.args.copy.now
 
--- What is known at them.
+-- What is known at them: the copy is lent, and the book is not spoiled.
 lent : (c : Else-not-is_lent) → length (C (goal.at.Else-not-is_lent c).Start) ≤ most_lent
 lent c = leb-true _ _ (sym c.is_lent.ensures ∙ c.if-not-is_lent.false)
 
-inspected : (c : Held) → Ready (S (at_start c))
-inspected c =
-    let i = c.before in
-    ready _ (known (asking i).before).type_inv.image i.inspect-refusal.ensures (omega (arith, c.if-refusal-ne0.false))
+inspected : (c : Else-refusal-ne0) → Ready (S (goal.at.Else-refusal-ne0 c).Start)
+inspected c = ready _ (search rules) c.inspect-refusal.ensures (omega (arith, c.if-refusal-ne0.false))
 
 -- the answer and the second image of the call, where both are known
 both : (s : Start) {r : Written} {left : List ℕ} {x : Outcome ℕ × List ℕ} → outside_copy (S s) (C s) ≡ x → r ≡ write_answer x.0 → left ≡ x.1
@@ -79,19 +53,19 @@ returns-then-refusal-ne0 c =
 
 pub returns-then-copy-written : goal.returns-then-copy-written
 returns-then-copy-written c =
-    let s = at_start c in
-    let r = inspected c in
-    both s (no_room (S s) (C s) (lent (goal.at.returns-then-copy-written c).Else-not-is_lent) r.is (omega (arith, c.if-copy-written.true, r.sound.written))) c.refuse-then-copy-written.ensures refl
+    let here = goal.at.returns-then-copy-written c in
+    let r = inspected here.Else-refusal-ne0 in
+    both here.Start (no_room (S here.Start) (C here.Start) (lent here.Else-not-is_lent) r.is (omega (arith, c.if-copy-written.true, r.sound.written)))
+    c.refuse-then-copy-written.ensures refl
 
 pub put_masked-requires : goal.put_masked-requires
 put_masked-requires c =
-    let r = inspected (testing c) in
+    let r = inspected (goal.at.put_masked-requires c).Else-refusal-ne0 in
     (record { x = r.routine; filled = sound-filled r.sound }, omega (arith, c.if-copy-written.false))
 
 pub returns : goal.returns
 returns c =
-    let h = testing c in
-    let s = at_start h in
-    let r = inspected h in
-    both s (copied (S s) (C s) (lent (asking h.before)) r.is (omega (arith, c.if-copy-written.false, r.sound.written)))
+    let here = goal.at.returns c in
+    let r = inspected here.Else-refusal-ne0 in
+    both here.Start (copied (S here.Start) (C here.Start) (lent here.Else-not-is_lent) r.is (omega (arith, c.if-copy-written.false, r.sound.written)))
     (written-size r.sound.written) (c.put_masked.ensures r.routine (sound-filled r.sound))

@@ -4,7 +4,6 @@ use mathlib.Core.Path.{◌≡◌, sym}
 use lib.ListN.{length, take}
 use lib.Seq.{length-take-le}
 use Rattle.outside.proofs.Copies.{filled-long, holding, blocks_stand, masked-is}
-use borrow.Author.Rules.{rules}
 use Rattle.outside.proofs.put_masked.Goals as goal
 use Rattle.outside.proofs.put_masked.Goals.{Start}
 

@@ -1,10 +1,7 @@
 -- `writer::any_faulty` meets its contract: what is left of the used places answers as all of them do.
 use mathlib.Core.Path.{◌≡◌, refl, sym, ◌∙◌}
-use Prim.Native.Nat.{◌≤◌, ◌-◌}
-use lib.ListN.{length, take, drop}
+use lib.ListN.{length}
 use native.Mathlib.Omega.{arith}
-use Rattle.fields.specs.Lists.{any}
-use Rattle.writer.specs.Forms.{faulty}
 use Rattle.writer.proofs.Used.{any-hit, any_miss, any_none}
 use borrow.Author.Rules.{rules}
 use Rattle.writer.proofs.any_faulty.Goals as goal
@@ -13,8 +10,8 @@ use Rattle.writer.proofs.any_faulty.Goals.{At-loop-i}
 pub loop-i-init : goal.loop-i-init
 loop-i-init c = (omega arith, refl)
 
-three : (c : At-loop-i) → length c.args.t1 ≡ 3
-three c = c.before.well_formed.0.1.0.1
+three : (c : At-loop-i) → length c.args.p ≡ 3
+three c = search rules
 
 pub returns-then-is_faulty : goal.returns-then-is_faulty
 returns-then-is_faulty c =

@@ -1,11 +1,8 @@
-use mathlib.Core.Path.{◌≡◌, refl, sym, ◌∙◌}
+use mathlib.Core.Path.{◌≡◌}
 use Prim.Native.Nat.{◌≤◌, ◌-◌}
-use lib.ListN.{length, take, drop}
-use native.Mathlib.Omega.{arith}
+use lib.ListN.{take, drop}
 use Rattle.fields.specs.Lists.{any}
 use Rattle.writer.specs.Forms.{faulty}
-use Rattle.writer.proofs.Used.{any-hit, any_miss, any_none}
-use borrow.Author.Rules.{rules}
 use Rattle.writer.proofs.any_faulty.Given as goal
 
 abbrev pub invariant-loop-i : goal.invariant-loop-i

@@ -3,7 +3,6 @@ use native.Mathlib.Omega.{arith}
 use Rattle.op.proofs.Same.{short}
 use Rattle.writer.proofs.Whole.{size-whole}
 use Prim.Native.Nat.{◌≤◌}
-use borrow.Author.Rules.{rules}
 use Rattle.writer.proofs.instruction_size.Goals as goal
 use Rattle.writer.proofs.instruction_size.Goals.{After-name_len}
 

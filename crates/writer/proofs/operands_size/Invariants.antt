@@ -1,10 +1,7 @@
-use Rattle.writer.proofs.Used.{sum_more, sum-none}
 use mathlib.Core.Path.{◌≡◌}
 use Prim.Native.Nat.{◌+◌, ◌*◌, ◌≤◌, ◌-◌}
-use native.Mathlib.Omega.{arith}
 use lib.ListN.{length, take, drop}
 use Rattle.writer.specs.Forms.{operands_bytes}
-use borrow.Author.Rules.{rules}
 use Rattle.writer.proofs.operands_size.Given as goal
 
 abbrev pub invariant-loop-i : goal.invariant-loop-i

@@ -1,8 +1,8 @@
 -- `writer::put_instruction` meets its contract: its four parts, one after the other.
 use Prim.Native.Nat.{◌+◌, ◌≤◌}
 use Rattle.writer.proofs.Whole.{used_bytes, size-whole, whole-put}
-use mathlib.Core.Path.{sym, ◌∙◌}
-use lib.ListN.{length, length-map}
+use mathlib.Core.Path.{◌≡◌}
+use lib.ListN.{length}
 use native.Mathlib.Omega.{arith}
 use Rattle.writer.proofs.Name.{size-name}
 use borrow.Author.Rules.{rules}
@@ -24,7 +24,7 @@ put_tail-requires c = omega (arith, room (goal.at.put_tail-requires c).After-put
 
 pub returns : goal.returns
 returns c =
-    let three = sym (length-map c.args.value.operands _) ∙ c.good.0.1.1.1.1.0.1.0.1 in
+    let three : length c.args.value.operands ≡ 3 = search rules in
     whole-put c.args.value three (omega arith) _ _ (cc) (omega arith)
 
 pub put_u32-requires : goal.put_u32-requires

@@ -1,14 +1,13 @@
 -- `writer::put_name` meets its contract: the size, and then what is left of the name, put where the loop stands, makes it the whole.
-use Prim.Native.Nat.{◌+◌, ◌≤◌, ◌-◌}
+use Prim.Native.Nat.{◌+◌, ◌≤◌}
 use mathlib.Core.List.{[]}
 use native.Mathlib.Omega.{arith}
 use mathlib.Core.Path.{◌≡◌, ◌∙◌}
-use lib.ListN.{length, get_or, drop}
+use lib.ListN.{length, get_or}
 use Rattle.op.specs.Ops.{names}
 use Rattle.op.proofs.Same.{short}
 use Rattle.writer.proofs.Name.{byte_more, byte-none, name-put, size-name}
-use Rattle.writer.proofs.Rest.{Rest, rest_all}
-use borrow.Author.Rules.{rules}
+use Rattle.writer.proofs.Rest.{rest_all}
 use Rattle.writer.proofs.put_name.Goals as goal
 use Rattle.writer.proofs.put_name.Goals.{After-name_len-n}
 

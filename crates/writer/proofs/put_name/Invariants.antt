@@ -1,13 +1,8 @@
 use Prim.Native.Nat.{◌+◌, ◌≤◌, ◌-◌}
 use mathlib.Core.List.{[]}
-use native.Mathlib.Omega.{arith}
-use mathlib.Core.Path.{◌≡◌, ◌∙◌}
-use lib.ListN.{length, get_or, drop}
+use lib.ListN.{get_or, drop}
 use Rattle.op.specs.Ops.{names}
-use Rattle.op.proofs.Same.{short}
-use Rattle.writer.proofs.Name.{byte_more, byte-none, name-put, size-name}
-use Rattle.writer.proofs.Rest.{Rest, rest_all}
-use borrow.Author.Rules.{rules}
+use Rattle.writer.proofs.Rest.{Rest}
 use Rattle.writer.proofs.put_name.Given as goal
 
 abbrev pub invariant-loop-j : goal.invariant-loop-j

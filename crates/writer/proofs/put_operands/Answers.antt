@@ -1,11 +1,9 @@
 -- `writer::put_operands` meets its contract: what is left of the used places, put where the loop stands, makes it the whole.
 use native.Mathlib.Omega.{arith}
-use Rattle.writer.specs.Forms.{operands_bytes}
 use Rattle.writer.proofs.Used.{left-room, left-more, left-none}
-use Rattle.writer.proofs.Rest.{Rest, rest_all}
-use Prim.Native.Nat.{◌≤◌, ◌-◌}
+use Rattle.writer.proofs.Rest.{rest_all}
 use mathlib.Core.Path.{◌≡◌}
-use lib.ListN.{length, take, drop}
+use lib.ListN.{length}
 use borrow.Author.Rules.{rules}
 use Rattle.writer.proofs.put_operands.Goals as goal
 use Rattle.writer.proofs.put_operands.Goals.{At-loop-i, Start}
@@ -13,8 +11,8 @@ use Rattle.writer.proofs.put_operands.Goals.{At-loop-i, Start}
 pub loop-i-init : goal.loop-i-init
 loop-i-init c = (omega arith, rest_all _ _ _)
 
-three : (c : At-loop-i) → length c.args.t1 ≡ 3
-three c = (goal.at.At-loop-i c).Start.well_formed.0.1.0.1
+three : (c : At-loop-i) → length c.args.p ≡ 3
+three c = search rules
 
 pub put_operand-o-requires : goal.put_operand-o-requires
 put_operand-o-requires c =

@@ -1,11 +1,7 @@
-use native.Mathlib.Omega.{arith}
 use Rattle.writer.specs.Forms.{operands_bytes}
-use Rattle.writer.proofs.Used.{left-room, left-more, left-none}
-use Rattle.writer.proofs.Rest.{Rest, rest_all}
+use Rattle.writer.proofs.Rest.{Rest}
 use Prim.Native.Nat.{◌≤◌, ◌-◌}
-use mathlib.Core.Path.{◌≡◌}
-use lib.ListN.{length, take, drop}
-use borrow.Author.Rules.{rules}
+use lib.ListN.{take, drop}
 use Rattle.writer.proofs.put_operands.Given as goal
 
 abbrev pub invariant-loop-i : goal.invariant-loop-i

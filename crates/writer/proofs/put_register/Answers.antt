@@ -5,6 +5,4 @@ use borrow.Author.Rules.{rules}
 use Rattle.writer.proofs.put_register.Goals as goal
 
 pub returns : goal.returns
-returns c =
-    let g = c.type_inv.v in
-    register-put _ _ _ _ (record { sfits = g.1.1.0.1 }) (record { sfits = g.1.1.1.0.1 }) (cc) (omega arith)
+returns c = register-put _ _ _ _ (search rules) (search rules) (cc) (omega arith)

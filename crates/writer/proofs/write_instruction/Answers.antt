@@ -5,7 +5,7 @@ use mathlib.Core.Bool.{false}
 use mathlib.Core.List.{List}
 use native.Mathlib.Omega.{arith}
 use lib.ListN.{length}
-use borrow.Author.Tests.{leb-true, leb-false, not-true, not-false}
+use borrow.Author.Tests.{leb-true, leb-false}
 use Rattle.fields.specs.Bytes.{most_lent}
 use Rattle.fields.specs.Lists.{any}
 use Rattle.pod.specs.Descs.{used_operands}
@@ -13,7 +13,6 @@ use Rattle.pod.specs.declared.InstructionDesc.{InstructionDesc}
 use Rattle.writer.specs.Forms.{faulty}
 use Rattle.value.proofs.Parts.{counts-small}
 use Rattle.writer.proofs.Writes.{Regular, Writable, lent_too_large, op_unknown, count_wrong, register-foreign, kind_unknown, image-short, all-written}
-use borrow.Author.Rules.{rules}
 use Rattle.writer.proofs.write_instruction.Goals as goal
 use Rattle.writer.proofs.write_instruction.Goals.{Else-any_faulty, Else-any_faulty-2, Else-not-is_lent, Else-value-operand_count}
 
