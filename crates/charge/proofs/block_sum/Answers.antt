@@ -1,6 +1,5 @@
 -- Straight code: the calls put together come to the block's instructions, and past its vips.
 use Rattle.charge.proofs.InBlock.{instructions-read, vips-passed}
-use borrow.Author.Rules.{rules}
 use Rattle.charge.proofs.block_sum.Goals as goal
 
 pub returns : goal.returns

@@ -1,15 +1,7 @@
 -- The sum so far, with what is left, comes to the whole; and the whole is known to fit.
-use mathlib.Core.List.{List}
-use Prim.Native.Nat.{ℕ}
-use mathlib.Core.Path.{◌≡◌, refl}
+use mathlib.Core.Path.{refl}
 use native.Mathlib.Omega.{arith}
-use Rattle.fields.specs.Parse.{ok, many}
-use Rattle.pod.specs.Values.{BasicBlock}
-use Rattle.pod.specs.Layout.{block}
-use Rattle.machine.specs.Charge.{Rates, total, block_sum}
-use Rattle.charge.specs.Sums.{Table}
-use Rattle.charge.proofs.Totals.{Left, begins, ends, goes_on, stays_below}
-use borrow.Author.Rules.{rules}
+use Rattle.charge.proofs.Totals.{begins, ends, goes_on, stays_below}
 use Rattle.charge.proofs.blocks_sum.Goals as goal
 
 pub loop-blocks-init : goal.loop-blocks-init

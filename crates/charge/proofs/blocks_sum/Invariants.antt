@@ -1,14 +1,12 @@
 use mathlib.Core.List.{List}
 use Prim.Native.Nat.{ℕ}
-use mathlib.Core.Path.{◌≡◌, refl}
-use native.Mathlib.Omega.{arith}
+use mathlib.Core.Path.{◌≡◌}
 use Rattle.fields.specs.Parse.{ok, many}
 use Rattle.pod.specs.Values.{BasicBlock}
 use Rattle.pod.specs.Layout.{block}
 use Rattle.machine.specs.Charge.{Rates, total, block_sum}
 use Rattle.charge.specs.Sums.{Table}
-use Rattle.charge.proofs.Totals.{Left, begins, ends, goes_on, stays_below}
-use borrow.Author.Rules.{rules}
+use Rattle.charge.proofs.Totals.{Left}
 use Rattle.charge.proofs.blocks_sum.Given as goal
 
 abbrev pub invariant-loop-blocks : goal.invariant-loop-blocks

@@ -1,7 +1,6 @@
 -- A part of a cent is a cent: both sides are the quotient, or one more.
 use native.Mathlib.Omega.{arith}
 use Rattle.machine.specs.Charge.{cents}
-use borrow.Author.Rules.{rules}
 use Rattle.charge.proofs.cents_of.Goals as goal
 
 pub returns-then-whole-sum : goal.returns-then-whole-sum

@@ -7,7 +7,6 @@ use Rattle.image.proofs.Inspects.{Ready, ready, refused-by}
 use Rattle.machine.proofs.Sums.{most_rate}
 use Rattle.charge.proofs.Rated.{rates-small}
 use Rattle.charge.proofs.Charged.{refused_charge, blocks-read, summable, accepted_charge}
-use borrow.Author.Rules.{rules}
 use Rattle.charge.proofs.charge.Goals as goal
 use Rattle.charge.proofs.charge.Goals.{Else-refusal-ne0, Start}
 

@@ -1,11 +1,9 @@
 -- The operations passed have their rates. The measure is what is left of the table.
-use mathlib.Core.Path.{◌≡◌}
-use Prim.Native.Nat.{◌-◌, ◌≤◌, ◌<◌}
+use Prim.Native.Nat.{◌<◌}
 use native.Mathlib.Omega.{arith}
-use lib.ListN.{length, length-set}
+use lib.ListN.{length-set}
 use Rattle.charge.proofs.Groups.{group-small}
-use Rattle.charge.proofs.Tables.{FilledTo, fill_more}
-use borrow.Author.Rules.{rules}
+use Rattle.charge.proofs.Tables.{fill_more}
 use Rattle.charge.proofs.fill.Goals as goal
 use Rattle.charge.proofs.fill.Goals.{After-group_of}
 

@@ -1,10 +1,7 @@
 use mathlib.Core.Path.{◌≡◌}
-use Prim.Native.Nat.{◌-◌, ◌≤◌, ◌<◌}
-use native.Mathlib.Omega.{arith}
-use lib.ListN.{length, length-set}
-use Rattle.charge.proofs.Groups.{group-small}
-use Rattle.charge.proofs.Tables.{FilledTo, fill_more}
-use borrow.Author.Rules.{rules}
+use Prim.Native.Nat.{◌-◌, ◌≤◌}
+use lib.ListN.{length}
+use Rattle.charge.proofs.Tables.{FilledTo}
 use Rattle.charge.proofs.fill.Given as goal
 
 abbrev pub invariant-loop-op : goal.invariant-loop-op

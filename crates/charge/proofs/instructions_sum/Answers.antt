@@ -1,20 +1,13 @@
 -- The sum so far is at most a rate of 32 bits for each instruction passed, so it does not wrap; and with what is left it comes to the whole.
-use mathlib.Core.List.{List}
-use Prim.Native.Nat.{ℕ, ◌+◌, ◌*◌, ◌≤◌}
-use mathlib.Core.Path.{◌≡◌, refl, ◌∙◌}
+use Prim.Native.Nat.{◌≤◌}
+use mathlib.Core.Path.{refl, ◌∙◌}
 use native.Mathlib.Omega.{arith}
-use Rattle.fields.specs.Parse.{ok, many}
-use Rattle.pod.specs.Values.{Instruction}
-use Rattle.pod.specs.Layout.{instruction}
 use Rattle.ends.proofs.Same.{instruction_ends}
-use Rattle.machine.specs.Charge.{Rates, total, rate_of}
-use Rattle.charge.specs.Sums.{Table}
 use Rattle.machine.proofs.Sums.{most_rate}
 use Rattle.fields.specs.Bytes.{Bytes}
 use Rattle.instruction.proofs.Operation.{op-listed}
 use Rattle.charge.proofs.Tables.{in_table_is}
-use Rattle.charge.proofs.Totals.{Left, begins, ends, goes_on}
-use borrow.Author.Rules.{rules}
+use Rattle.charge.proofs.Totals.{begins, ends, goes_on}
 use Rattle.charge.proofs.instructions_sum.Goals as goal
 use Rattle.charge.proofs.instructions_sum.Goals.{After-rate_at, At-loop-left}
 
@@ -33,8 +26,7 @@ overflow_add-sum c = record { fits = omega (arith, small c, c.loop-left.invarian
 
 pub loop-left-preserved : goal.loop-left-preserved
 loop-left-preserved c =
-    let here = goal.at.loop-left-preserved c in
-    (
+    let here = goal.at.loop-left-preserved c in (
       omega (arith, small here.After-rate_at, c.loop-left.invariant.0, c.loop-left-test.true),
       λ rates t xs n e.
           goes_on _ _ (c.loop-left.invariant.1 rates t xs n e) (omega (arith, c.loop-left-test.true))

@@ -1,19 +1,13 @@
 use mathlib.Core.List.{List}
 use Prim.Native.Nat.{ℕ, ◌+◌, ◌*◌, ◌≤◌}
-use mathlib.Core.Path.{◌≡◌, refl, ◌∙◌}
-use native.Mathlib.Omega.{arith}
+use mathlib.Core.Path.{◌≡◌}
 use Rattle.fields.specs.Parse.{ok, many}
 use Rattle.pod.specs.Values.{Instruction}
 use Rattle.pod.specs.Layout.{instruction}
-use Rattle.ends.proofs.Same.{instruction_ends}
 use Rattle.machine.specs.Charge.{Rates, total, rate_of}
 use Rattle.charge.specs.Sums.{Table}
 use Rattle.machine.proofs.Sums.{most_rate}
-use Rattle.fields.specs.Bytes.{Bytes}
-use Rattle.instruction.proofs.Operation.{op-listed}
-use Rattle.charge.proofs.Tables.{in_table_is}
-use Rattle.charge.proofs.Totals.{Left, begins, ends, goes_on}
-use borrow.Author.Rules.{rules}
+use Rattle.charge.proofs.Totals.{Left}
 use Rattle.charge.proofs.instructions_sum.Given as goal
 
 abbrev pub invariant-loop-left : goal.invariant-loop-left

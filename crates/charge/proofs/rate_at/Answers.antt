@@ -3,7 +3,6 @@ use mathlib.Core.Path.{sym, ap}
 use native.Mathlib.Omega.{arith}
 use lib.ListN.{get_or}
 use Rattle.charge.proofs.Tables.{past-table}
-use borrow.Author.Rules.{rules}
 use Rattle.charge.proofs.rate_at.Goals as goal
 
 pub returns-then-op-table : goal.returns-then-op-table

@@ -1,5 +1,4 @@
 -- At the table of the rates, the walk over the block.
-use borrow.Author.Rules.{rules}
 use Rattle.charge.proofs.sum_of_block.Goals as goal
 
 pub returns : goal.returns

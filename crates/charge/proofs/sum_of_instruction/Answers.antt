@@ -5,7 +5,6 @@ use native.Mathlib.Omega.{arith}
 use lib.ListN.{get_or}
 use Rattle.machine.specs.Charge.{group}
 use Rattle.charge.proofs.Groups.{group-small}
-use borrow.Author.Rules.{rules}
 use Rattle.charge.proofs.sum_of_instruction.Goals as goal
 use Rattle.charge.proofs.sum_of_instruction.Goals.{After-group_of}
 

@@ -8,7 +8,6 @@ use lib.Seq.{length-take-le}
 use Rattle.machine.proofs.Sums.{most_rate}
 use Rattle.charge.proofs.Rated.{rates-small}
 use Rattle.opening.proofs.Openings.{normal-copied, copied-sum, copied_countable}
-use borrow.Author.Rules.{rules}
 use Rattle.opening.proofs.put_written.Goals as goal
 use Rattle.opening.proofs.put_written.Goals.{Start}
 
@@ -32,6 +31,6 @@ returns c =
     let a = c.args in
     let b = c.type_inv.file in
     λ x e. (
-      normal-copied a.file.now a.image-1.now _ a.n c.requires.0 c.requires.1.0 c.copy_at.ensures b c.normalise_routine-passed.ensures x e,
-      copied-sum a.file.now a.image-1.now _ a.n c.requires.0 c.requires.1.0 c.copy_at.ensures b a.rates.rate c.fill.ensures c.normalise_routine-passed.ensures x e,
+      normal-copied a.file.now a.image.now _ a.n c.requires.0 c.requires.1.0 c.copy_at.ensures b c.normalise_routine-passed.ensures x e,
+      copied-sum a.file.now a.image.now _ a.n c.requires.0 c.requires.1.0 c.copy_at.ensures b a.rates.rate c.fill.ensures c.normalise_routine-passed.ensures x e,
     )
