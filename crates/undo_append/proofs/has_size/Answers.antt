@@ -10,7 +10,6 @@ use Rattle.machine.proofs.Lists.{last-is-none, last-is-at}
 use Rattle.image.proofs.Cuts.{the_block}
 use Rattle.image.proofs.Parts.{any_instruction}
 use Rattle.image.proofs.Lasts.{final, final-size, none, some}
-use borrow.Author.Rules.{rules}
 use Rattle.undo_append.proofs.has_size.Goals as goal
 
 pub returns-then-last : goal.returns-then-last

@@ -4,7 +4,7 @@ use mathlib.Core.Path.{◌≡◌, sym, ◌∙◌}
 use native.Mathlib.Omega.{arith}
 use Prim.Native.Nat.{ℕ, ◌+◌, ◌-◌, ◌≤◌, ◌<◌, ◌^◌}
 use lib.ListN.{length}
-use borrow.Author.Tests.{eq-eqb, ne_eqb, lt-ltb, le-ltb, not-true, not-false}
+use borrow.Author.Tests.{eq-eqb, ne_eqb, lt-ltb, le-ltb}
 use Rattle.fields.specs.Outcome.{refused, accepted}
 use Rattle.fields.proofs.Outcomes.{unless_on, unless_off}
 use Rattle.pod.specs.Values.{BasicBlock, Routine}
@@ -26,7 +26,6 @@ use Rattle.image.proofs.Lasts.{final, ordered, final-read}
 use Rattle.undo_append.specs.Last.{BlockIn, LastIn, shortened}
 use Rattle.undo_append.proofs.Unappends.{some, inside, longer, shortened-size}
 use Rattle.undo_append.proofs.Unappends as U
-use borrow.Author.Rules.{rules}
 use Rattle.undo_append.proofs.undo_append.Goals as goal
 use Rattle.undo_append.proofs.undo_append.Goals.{After-block_offset-at, After-blocks_of-blocks, After-has_size, After-last_instruction-instruction, After-sum_of_instruction-less, After-word64, Else-blocks-place, Else-not-has_size, Else-word64-last, Start}
 
@@ -71,8 +70,8 @@ within c = omega (arith, c.if-blocks-place.false, counted (goal.at.Else-blocks-p
 placed : (c : Else-blocks-place) → undo_append (R (goal.at.Else-blocks-place c).Start) (T (goal.at.Else-blocks-place c).Start) ≡ U.if_there (R (goal.at.Else-blocks-place c).Start) (T (goal.at.Else-blocks-place c).Start)
 placed c = U.tests _ _ ∙ unless_on 13 _ (lt-ltb _ _ (within c))
 
-here : (c : After-block_offset-at) → BlockIn c.args.image.now (R (goal.at.After-block_offset-at c).Start) (T (goal.at.After-block_offset-at c).Start).place c.block_offset-at.result
-here c =
+stands : (c : After-block_offset-at) → BlockIn c.args.image.now (R (goal.at.After-block_offset-at c).Start) (T (goal.at.After-block_offset-at c).Start).place c.block_offset-at.result
+stands c =
     let here = goal.at.After-block_offset-at c in
     record {
       holding = holding here.Start;
@@ -84,7 +83,7 @@ here c =
 vip_read : (c : After-word64) → c.word64.result ≡ (B (goal.at.After-word64 c).Start).vip
 vip_read c =
     let here = goal.at.After-word64 c in
-    let o = here here.After-block_offset-at in
+    let o = stands here.After-block_offset-at in
     c.word64.ensures ∙ block-word _ (B here.Start) (block-holds (holding here.Start) (T here.Start).place o.within) (stands_here (R here.Start) (T here.Start).place (holding here.Start) o.within o.at_is)
 
 same-vip : (c : Else-word64-last) → undo_append (R (goal.at.Else-word64-last c).Start) (T (goal.at.Else-word64-last c).Start) ≡ U.if_last (R (goal.at.Else-word64-last c).Start) (T (goal.at.Else-word64-last c).Start)
@@ -95,7 +94,7 @@ same-vip c =
 found : (c : After-last_instruction-instruction) → FindsLast (R (goal.at.After-last_instruction-instruction c).Start) (T (goal.at.After-last_instruction-instruction c).Start).place c.last_instruction-instruction.result
 found c =
     let here = goal.at.After-last_instruction-instruction c in
-    let o = here here.After-block_offset-at in
+    let o = stands here.After-block_offset-at in
     c.last_instruction-instruction.ensures (R here.Start) (T here.Start).place o.holding o.within o.at_is
 
 -- and has the entry's size
@@ -108,13 +107,13 @@ last c = (goal.at.Else-not-has_size c).After-last_instruction-instruction
 abbrev block : Else-not-has_size → After-block_offset-at
 block c = (goal.at.Else-not-has_size c).After-block_offset-at
 
-last_in : (c : Else-not-has_size) → 
+last_in : (c : Else-not-has_size) →
     LastIn c.args.image.now (R (goal.at.Else-not-has_size c).Start) (T (goal.at.Else-not-has_size c).Start).place c.block_offset-at.result c.last_instruction-instruction.result.end (T (goal.at.Else-not-has_size c).Start).len c.args.book.written
 last_in c =
     let here = goal.at.Else-not-has_size c in
     record {
-      block = here here.After-block_offset-at;
-      is = (sound here.Start).image-1;
+      block = stands here.After-block_offset-at;
+      is = (sound here.Start).image;
       written_is = (sound here.Start).written;
       ends = (found here.After-last_instruction-instruction).end;
       last = sym (last-read here.After-has_size) ∙ c.if-not-has_size.false;
@@ -142,11 +141,11 @@ module _ (c : After-sum_of_instruction-less) where
 
   comes_to : less ≡ rate_of rates (final (B s))
   comes_to =
-      let r = final-read (R s) (T s).place (found (last e)) (holding s) (here (block e)).within (some (last_in e)) in
+      let r = final-read (R s) (T s).place (found (last e)) (holding s) (stands (block e)).within (some (last_in e)) in
       c.sum_of_instruction-less.ensures _ _ r.1
 
   loses : sum rates R' + less ≡ sum rates (R s)
-  loses = omega (arith, shortened-sum rates (R s) (T s).place (here (block e)).within any_instruction (some (last_in e)), comes_to)
+  loses = omega (arith, shortened-sum rates (R s) (T s).place (stands (block e)).within any_instruction (some (last_in e)), comes_to)
 
   sum-short : s.args.book.sum < less → carried rates (R s) R' s.args.book.sum ≡ refused 13
   sum-short h = carried-short rates (R s) R' s.args.book.sum (omega (arith, loses))

@@ -4,7 +4,6 @@ use Prim.Native.Nat.{◌-◌}
 use Rattle.fields.specs.Bytes.{put}
 use Rattle.pod.specs.Written.{bytes}
 use Rattle.undo_create.proofs.Uncreates.{uncreated_image}
-use borrow.Author.Rules.{rules}
 use Rattle.undo_create.proofs.drop_block.Goals as goal
 
 pub returns : goal.returns

@@ -5,7 +5,7 @@ use native.Mathlib.Omega.{arith}
 use mathlib.Core.Bool.{true}
 use Prim.Native.Nat.{◌+◌, ◌≤◌, ◌<◌, ◌^◌}
 use lib.ListN.{length}
-use borrow.Author.Tests.{eq-eqb, ne_eqb, not-true, not-false}
+use borrow.Author.Tests.{eq-eqb, ne_eqb}
 use Rattle.fields.specs.Outcome.{refused, accepted}
 use Rattle.fields.proofs.Outcomes.{unless_on, unless_off}
 use Rattle.pod.specs.Values.{BasicBlock, Routine}
@@ -26,7 +26,6 @@ use Rattle.image.proofs.Cuts.{block-fits}
 use Rattle.undo_create.specs.Last.{EndsWith, up_to}
 use Rattle.undo_create.proofs.Uncreates.{up_to_size}
 use Rattle.undo_create.proofs.Uncreates as U
-use borrow.Author.Rules.{rules}
 use Rattle.undo_create.proofs.undo_create.Goals as goal
 use Rattle.undo_create.proofs.undo_create.Goals.{After-block_offset-at, After-blocks_of-blocks, After-is_fresh, After-word64, Else-last-ne0, Else-not-is_fresh, Else-place-blocks, Else-word64-last, Start}
 
@@ -109,7 +108,7 @@ passed : (c : Else-not-is_fresh) → undo_create (R (goal.at.Else-not-is_fresh c
 passed c = same-vip (goal.at.Else-not-is_fresh c).Else-word64-last ∙ unless_on 13 _ (is_new c)
 
 -- it comes to nothing, so a sum of 64 bits is carried on as it is
-sum_stays : (c : Else-not-is_fresh) → 
+sum_stays : (c : Else-not-is_fresh) →
     carried c.args.book.rates.rate (R (goal.at.Else-not-is_fresh c).Start) (up_to (R (goal.at.Else-not-is_fresh c).Start) (T (goal.at.Else-not-is_fresh c).Start).place) c.args.book.sum ≡ accepted c.args.book.sum
 sum_stays c =
     let here = goal.at.Else-not-is_fresh c in
@@ -117,12 +116,12 @@ sum_stays c =
     carried-to rates (R here.Start) (up_to (R here.Start) (T here.Start).place) _ _ (omega (arith, dropped_sum rates (R here.Start) (T here.Start).place (within here.Else-place-blocks) (last-place here.Else-place-blocks) (is_new c))) (sum_fits here.Start)
 
 -- The block, as what drops it asks for it
-ends_with : (c : Else-not-is_fresh) → 
+ends_with : (c : Else-not-is_fresh) →
     EndsWith c.args.image.now (R (goal.at.Else-not-is_fresh c).Start) c.blocks_of-blocks.result.start c.block_offset-at.result c.args.book.written (T (goal.at.Else-not-is_fresh c).Start).place
 ends_with c =
     let here = goal.at.Else-not-is_fresh c in
     record {
-      is = (sound here.Start).image-1;
+      is = (sound here.Start).image;
       start_is = begins here.After-blocks_of-blocks;
       at_is = placed here.After-block_offset-at;
       written_is = (sound here.Start).written;
