@@ -7,7 +7,6 @@ use Rattle.fields.proofs.Steps.{handed}
 use Rattle.routine.specs.Rising.{of_blocks, rising}
 use Rattle.routine.proofs.Notes.{blocks_noted}
 use Rattle.routine.proofs.Walk.{shared, alone, faulty, no-count}
-use borrow.Author.Rules.{rules}
 use Rattle.routine.proofs.blocks_noting.Goals as goal
 use Rattle.routine.proofs.blocks_noting.Goals.{In-Value}
 
@@ -24,12 +23,11 @@ returns-then-rising c =
     )
 
 pub returns-then-has_repeat : goal.returns-then-has_repeat
-returns-then-has_repeat c =
-    (
-      shared _ c.type_inv.s _ (count (goal.at.returns-then-has_repeat c).In-Value) _ (sym c.blocks_run-run.ensures.0 ∙ ap of_blocks c.in-Past.is)
-          c.has_repeat.ensures c.if-has_repeat.true,
-      tt,
-    )
+returns-then-has_repeat c = (
+  shared _ c.type_inv.s _ (count (goal.at.returns-then-has_repeat c).In-Value) _ (sym c.blocks_run-run.ensures.0 ∙ ap of_blocks c.in-Past.is)
+      c.has_repeat.ensures c.if-has_repeat.true,
+  tt,
+)
 
 pub returns-else-has_repeat : goal.returns-else-has_repeat
 returns-else-has_repeat c =
@@ -40,12 +38,11 @@ returns-else-has_repeat c =
     )
 
 pub returns-in_default-run : goal.returns-in_default-run
-returns-in_default-run c =
-    (
-      faulty _ c.type_inv.s _ (count (goal.at.returns-in_default-run c).In-Value)
-          (sym (handed (ap of_blocks c.in_default-run.is) c.blocks_run-run.ensures.0 c.blocks_refusal.ensures)),
-      tt,
-    )
+returns-in_default-run c = (
+  faulty _ c.type_inv.s _ (count (goal.at.returns-in_default-run c).In-Value)
+      (sym (handed (ap of_blocks c.in_default-run.is) c.blocks_run-run.ensures.0 c.blocks_refusal.ensures)),
+  tt,
+)
 
 pub returns-in_default : goal.returns-in_default
 returns-in_default c = (no-count _ _ (sym (handed (ap of_u32 c.in_default.is) c.u32_at-count.ensures c.u32_refusal.ensures)), tt)

@@ -1,22 +1,14 @@
-use mathlib.Core.Path.{◌≡◌, sym, ap, ◌∙◌}
-use native.Mathlib.Omega.{arith}
-use borrow.Author.Tests.{ltb-true}
+use mathlib.Core.Path.{◌≡◌}
 use Prim.Native.Nat.{◌<◌}
 use Rattle.fields.specs.Parse.{ok, many}
 use Rattle.fields.specs.Lists.{every}
 use Rattle.fields.specs.Sight.{sight}
-use Rattle.fields.specs.Answers.{of_walked}
-use Rattle.fields.proofs.Steps.{handed}
 use Rattle.pod.specs.Layout.{block}
 use Rattle.pod.specs.Sound.{block_sound}
 use Rattle.pod.specs.Written.{many_bytes, block_bytes, walked, both}
-use Rattle.laws.proofs.Layouts.{block_layout}
-use Rattle.laws.proofs.Walks.{Fills, fills, walked-past, walk_start, walk_end, walk_next, walk_stop}
 use Rattle.sorting.specs.Buffer.{TOP}
-use Rattle.sorting.proofs.Order.{false-true}
-use Rattle.routine.proofs.Notes.{Noting, noting_start, noting_more, noting_end}
-use Rattle.routine.proofs.Rising.{RisesFrom, rises-more, rises-end, all_different}
-use borrow.Author.Rules.{rules}
+use Rattle.routine.proofs.Notes.{Noting}
+use Rattle.routine.proofs.Rising.{RisesFrom}
 use Rattle.routine.proofs.blocks_run.Given as goal
 
 abbrev pub invariant-loop-left : goal.invariant-loop-left

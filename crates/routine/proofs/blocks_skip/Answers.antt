@@ -1,6 +1,5 @@
 -- The walk that notes, without the note.
 use mathlib.Core.Path.{◌∙◌}
-use borrow.Author.Rules.{rules}
 use Rattle.routine.proofs.blocks_skip.Goals as goal
 
 pub returns : goal.returns

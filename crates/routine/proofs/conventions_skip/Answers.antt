@@ -5,7 +5,6 @@ use Rattle.pod.specs.Sound.{convention_sound}
 use Rattle.pod.specs.Written.{convention_bytes}
 use Rattle.laws.proofs.Layouts.{convention_layout}
 use Rattle.laws.proofs.Walks.{fills, walked_counted}
-use borrow.Author.Rules.{rules}
 use Rattle.routine.proofs.conventions_skip.Goals as goal
 
 pub returns-in-Value : goal.returns-in-Value

@@ -1,6 +1,5 @@
 -- What stands before the blocks, walked over part by part: each call is given what the one before it answered.
 use Rattle.routine.specs.Head.{head_walked}
-use borrow.Author.Rules.{rules}
 use Rattle.routine.proofs.head_skip.Goals as goal
 
 pub returns : goal.returns

@@ -1,6 +1,5 @@
 -- The header passed over, part by part.
 use Rattle.routine.proofs.Walk.{header_skip}
-use borrow.Author.Rules.{rules}
 use Rattle.routine.proofs.header_past.Goals as goal
 
 pub returns : goal.returns

@@ -8,7 +8,6 @@ use Rattle.pod.specs.Layout.{header}
 use Rattle.pod.specs.Told.{no_register_in}
 use Rattle.pod.specs.Written.{header_bytes}
 use Rattle.laws.proofs.Walks.{header-within, header-walked, walked-no}
-use borrow.Author.Rules.{rules}
 use Rattle.routine.proofs.header_skip.Goals as goal
 use Rattle.routine.proofs.header_skip.Goals.{In-Past}
 

@@ -1,5 +1,4 @@
 -- What was seen before, and what of the blocks: both, unless they were refused.
-use borrow.Author.Rules.{rules}
 use Rattle.routine.proofs.noted_both.Goals as goal
 
 pub returns-in-Past : goal.returns-in-Past

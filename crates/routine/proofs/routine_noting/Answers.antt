@@ -6,12 +6,11 @@ use Rattle.fields.specs.Answers.{of_walked}
 use Rattle.fields.proofs.Steps.{handed}
 use Rattle.routine.specs.Head.{head_walked}
 use Rattle.routine.proofs.Notes.{routine_noted, routine_seen, routine_refused}
-use borrow.Author.Rules.{rules}
 use Rattle.routine.proofs.routine_noting.Goals as goal
 use Rattle.routine.proofs.routine_noting.Goals.{In-Past}
 
 -- the head that was walked over
-seen : (c : In-Past) → let a = c.args in let g = c.head-1.given.0 in ok (sight g.1.0 g.1.1.0) g.0 ≡ head_walked a.s.now a.at
+seen : (c : In-Past) → ok (sight c.in-Past.written c.in-Past.sound) c.in-Past.n ≡ head_walked c.args.s.now c.args.at
 seen c = sym (ap of_walked c.in-Past.is) ∙ c.head_skip-head.ensures
 
 pub returns-in-Past : goal.returns-in-Past

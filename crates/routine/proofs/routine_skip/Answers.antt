@@ -1,7 +1,6 @@
 -- The routine walked over part by part: each call is given what the one before it answered.
 use Rattle.routine.specs.Head.{head_walked}
 use Rattle.routine.proofs.Walk.{routine-walked}
-use borrow.Author.Rules.{rules}
 use Rattle.routine.proofs.routine_skip.Goals as goal
 
 pub returns : goal.returns

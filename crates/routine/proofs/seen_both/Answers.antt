@@ -1,7 +1,6 @@
 -- What was seen before, and what of the next part: both, unless that was refused.
 use mathlib.Core.Path.{refl}
 use Rattle.fields.proofs.Chain.{seen-past, seen-refused}
-use borrow.Author.Rules.{rules}
 use Rattle.routine.proofs.seen_both.Goals as goal
 
 pub returns-in-Past : goal.returns-in-Past

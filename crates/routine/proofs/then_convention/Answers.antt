@@ -1,7 +1,6 @@
 -- A convention walked over after what was walked over so far: what is seen is seen of both.
 use Rattle.fields.proofs.Chain.{seen-past, seen-refused}
 use Rattle.pod.specs.Written.{both}
-use borrow.Author.Rules.{rules}
 use Rattle.routine.proofs.then_convention.Goals as goal
 
 pub returns-in-Past : goal.returns-in-Past

@@ -5,7 +5,6 @@ use Rattle.fields.specs.Answers.{of_u64}
 use Rattle.fields.proofs.Chain.{seen-past, seen-refused}
 use Rattle.fields.proofs.Steps.{handed}
 use Rattle.pod.specs.Written.{passing}
-use borrow.Author.Rules.{rules}
 use Rattle.routine.proofs.then_entry.Goals as goal
 
 pub returns-in-Value : goal.returns-in-Value

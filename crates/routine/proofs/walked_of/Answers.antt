@@ -1,5 +1,4 @@
 -- Either answer says what it said before, without the note.
-use borrow.Author.Rules.{rules}
 use Rattle.routine.proofs.walked_of.Goals as goal
 
 pub returns-in-Past : goal.returns-in-Past
