@@ -46,6 +46,7 @@ fn bits64(v: i64) -> u64
 }
 
 // Whether the operand in a place has the fault with the refusal `e`: a register that no layout holds (5), or such a kind (6).
+#[tactic(auto, unfolding(fields::specs::Lists::choose))]
 fn is_faulty(d: OperandDesc, e: u8) -> bool
     ensures { result ≡ faulty e d }
 {

@@ -5,7 +5,6 @@ use Prim.Native.Nat.{◌+◌}
 use lib.ListN.{take, drop}
 use Rattle.op.specs.Packed.{Known}
 use Rattle.instruction.proofs.Pass.{found}
-use borrow.Author.Rules.{rules}
 use Rattle.instruction.proofs.fast_code.Goals as goal
 use Rattle.instruction.proofs.fast_code.Goals.{Else-code-gt255}
 

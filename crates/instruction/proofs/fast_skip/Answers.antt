@@ -2,7 +2,7 @@
 -- whole run does, with room for each and for the fields after them.
 use native.Mathlib.Omega.{arith}
 use mathlib.Core.Path.{◌≡◌, sym, ap, ◌∙◌}
-use Prim.Native.Nat.{ℕ, ◌+◌, ◌-◌, ◌*◌, ◌/◌, ◌≤◌}
+use Prim.Native.Nat.{ℕ, ◌+◌, ◌-◌, ◌/◌, ◌≤◌}
 use lib.ListN.{length, get_or, take, drop}
 use Rattle.fields.specs.Parse.{ok, many}
 use Rattle.fields.specs.Lists.{every}
@@ -11,11 +11,10 @@ use Rattle.op.specs.Packed.{Known}
 use Rattle.pod.specs.Layout.{operand, opcode}
 use Rattle.pod.specs.Sound.{operand_sound}
 use Rattle.pod.specs.Told.{judged}
-use Rattle.pod.proofs.Judged.{left, judge_start, judge_end, judge_skip}
+use Rattle.pod.proofs.Judged.{judge_start, judge_end, judge_skip}
 use Rattle.laws.proofs.Walks.{instruction-walked}
 use Rattle.instruction.specs.Answers.{Found}
 use Rattle.instruction.proofs.Pass.{found, fast_ok, fast_sound}
-use borrow.Author.Rules.{rules}
 use Rattle.instruction.proofs.fast_skip.Goals as goal
 use Rattle.instruction.proofs.fast_skip.Goals.{After-four-n, After-loop-left, After-shared_slice_known-1, Else-code-gt255, Else-count-code}
 

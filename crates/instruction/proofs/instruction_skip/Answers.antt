@@ -10,7 +10,6 @@ use Rattle.pod.specs.Written.{instruction_bytes}
 use Rattle.laws.proofs.Appended.{instruction_asked, asked-span, asked-told}
 use Rattle.laws.proofs.Walks.{instruction-within, instruction-walked, walked-no}
 use Rattle.instruction.specs.Answers.{of_asked, when_asked}
-use borrow.Author.Rules.{rules}
 use Rattle.instruction.proofs.instruction_skip.Goals as goal
 use Rattle.instruction.proofs.instruction_skip.Goals.{In-Past}
 

@@ -13,13 +13,13 @@ use Rattle.instruction.proofs.listed_op_at.Goals as goal
 use Rattle.instruction.proofs.listed_op_at.Goals.{After-part_skip-name, In-Past}
 
 -- the size is read, and the name decides the answer
-past-size : (c : After-part_skip-name) {x : Res ℕ} → ( 
+past-size : (c : After-part_skip-name) {x : Res ℕ} → (
     x ≡ bind (part c.in-Value.k c.args.s.now c.in-Value.a) (λ name n. named name c.args.s.now n) → x ≡ opcode c.args.s.now c.args.at)
 unfolding opcode
 past-size c h = on-u32 _ c.in-Value.is c.u32_at-size.ensures h
 
 -- the name ends within the file
-past : (c : In-Past) → ( let end = c.in-Value.a + c.in-Value.k in
+past : (c : In-Past) → (let end = c.in-Value.a + c.in-Value.k in
     (c.in-Past.b ≡ end) × (end ≤ length c.args.s.now))
 past c = part-past _ _ _ (sym (ap of_skip c.in-Past.is) ∙ c.part_skip-name.ensures)
 

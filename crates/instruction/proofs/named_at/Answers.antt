@@ -12,7 +12,6 @@ use Rattle.fields.proofs.Steps.{on-check, off_check, on-u32, off_u32}
 use Rattle.op.specs.Ops.{counts}
 use Rattle.op.specs.Text.{is_text}
 use Rattle.pod.specs.Layout.{named}
-use borrow.Author.Rules.{rules}
 use Rattle.instruction.proofs.named_at.Goals as goal
 use Rattle.instruction.proofs.named_at.Goals.{After-number_of-k, After-operand_count, After-u32_at-count, In-Value, Start}
 
@@ -40,13 +39,13 @@ unfolding named
 past-count c h =
     rw (← c.number_of-k.ensures) (on-check _ _ _ (text (goal.at.After-number_of-k c).After-u32_at-count) (on-u32 _ c.in-Value.is c.u32_at-count.ensures h))
 
-past-number : (c : After-operand_count) {x : Res ℕ} → ( 
+past-number : (c : After-operand_count) {x : Res ℕ} → (
     x ≡ fitting c.number_of-k.result c.in-Value.n c.args.s.now c.in-Value.a → x ≡ Named (goal.at.After-operand_count c).Start)
 past-number c h = past-count (goal.at.After-operand_count c).After-number_of-k (on-check _ _ _ (lt-ltb c.number_of-k.result 49 (omega (arith, c.if-k-lt49.true))) h)
 
 -- the operand count that was read, and the one of the operation
 abbrev told : After-operand_count → ℕ
-told c = (goal.at.After-operand_count c).In-Value.count.given.0.0
+told c = c.in-Value.n
 
 abbrev wanted : After-operand_count → ℕ
 wanted c = get_or counts c.number_of-k.result 0

@@ -2,7 +2,6 @@
 use mathlib.Core.Path.{sym}
 use native.Mathlib.Omega.{arith}
 use Rattle.instruction.specs.Answers.{Found}
-use borrow.Author.Rules.{rules}
 use Rattle.instruction.proofs.op_at.Goals as goal
 use Rattle.instruction.proofs.op_at.Goals.{Then-code-lt256}
 

@@ -2,7 +2,6 @@
 use mathlib.Core.Path.{sym, ap, ◌∙◌}
 use Rattle.instruction.specs.Answers.{of_op}
 use Rattle.instruction.proofs.Operation.{op-is, op-accepted}
-use borrow.Author.Rules.{rules}
 use Rattle.instruction.proofs.op_of.Goals as goal
 
 pub returns-then-code-lt256 : goal.returns-then-code-lt256

@@ -1,11 +1,8 @@
 -- A run of operands passed over. The loop keeps that what is left is read as the whole run is, and so where registers are asked: there a crooked one has
 -- decided it.
-use mathlib.Core.Path.{◌≡◌, refl, ◌∙◌, sym, ap}
-use Rattle.fields.specs.Parse.{many, span}
+use mathlib.Core.Path.{refl, ◌∙◌, sym, ap}
 use Rattle.fields.proofs.Many.{run_end, run_next, run-stop}
 use Rattle.pod.specs.Layout.{operand}
-use Rattle.pod.specs.Sound.{sound_operand}
-use Rattle.pod.specs.Told.{asked}
 use Rattle.pod.specs.Answers.{of_operand}
 use Rattle.pod.proofs.Steps.{operand-told}
 use Rattle.instruction.proofs.Asking.{asked-sound, ask_end, ask_next, ask_stop}

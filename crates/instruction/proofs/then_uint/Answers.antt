@@ -4,7 +4,6 @@ use lib.ListN.{length}
 use native.Mathlib.Omega.{arith}
 use borrow.Author.Tests.{leb-true, leb-false}
 use Rattle.instruction.proofs.Asking.{field_past, field-short, field_off}
-use borrow.Author.Rules.{rules}
 use Rattle.instruction.proofs.then_uint.Goals as goal
 use Rattle.instruction.proofs.then_uint.Goals.{Then-within}
 
