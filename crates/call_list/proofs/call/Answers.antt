@@ -1,7 +1,6 @@
 -- `call_list::call` meets its contract: each kind is its call, by what that call ensures; only next hands out a part. The tests before a call say the kind.
 use mathlib.Core.Path.{◌∙◌}
 use native.Mathlib.Omega.{arith}
-use borrow.Author.Rules.{rules}
 use Rattle.book.proofs.Answers.{hands_nothing}
 use Rattle.call_list.proofs.Runs as R
 use Rattle.call_list.proofs.call.Goals as goal

@@ -1,10 +1,9 @@
 -- `call_list::is_call_list` meets its contract. The loop's invariant: the words encode a list of calls exactly if those from `i` on are.
 use mathlib.Core.List.{List}
-use mathlib.Core.Path.{◌≡◌, refl, sym, ap, ◌∙◌}
-use Prim.Native.Nat.{ℕ, ◌≤◌, ◌+◌, ◌-◌}
+use mathlib.Core.Path.{refl, sym, ap, ◌∙◌}
+use Prim.Native.Nat.{ℕ, ◌≤◌, ◌+◌}
 use native.Mathlib.Omega.{arith}
 use lib.ListN.{length-drop, length, drop}
-use borrow.Author.Rules.{rules}
 use Rattle.machine.specs.CallList.{is_call_list}
 use Rattle.call_list.proofs.Words as W
 use Rattle.call_list.proofs.is_call_list.Goals as goal
@@ -23,68 +22,26 @@ whole c = omega (arith, c.if-n-i-lt4.false, c.loop-i-test.true)
 pub loop-i-init : goal.loop-i-init
 loop-i-init c = (omega arith, refl)
 
-pub overflow_sub-n : goal.overflow_sub-n
-overflow_sub-n c = search rules
-
 pub returns-then-n-i-lt4 : goal.returns-then-n-i-lt4
 returns-then-n-i-lt4 c = let here = goal.at.returns-then-n-i-lt4 c in let n = length-drop c.loop-i.i (words here.At-loop-i) in
     sym (c.loop-i.invariant.1 ∙ W.too_few (drop c.loop-i.i (words here.At-loop-i)) (bytes here.At-loop-i) (omega arith) (omega arith))
 
-pub offset_bounds-words-i : goal.offset_bounds-words-i
-offset_bounds-words-i c = search rules
-
-pub bounds-words-i : goal.bounds-words-i
-bounds-words-i c = search rules
-
 pub returns-then-words-i-gt6 : goal.returns-then-words-i-gt6
-returns-then-words-i-gt6 c = sym (c.loop-i.invariant.1 ∙ W.wrong_kind _ _ _ (whole (goal.at.returns-then-words-i-gt6 c).Else-n-i-lt4) c.if-words-i-gt6.true)
-
-pub overflow_add-i : goal.overflow_add-i
-overflow_add-i c = search rules
-
-pub offset_bounds-words-i-in-loop-i : goal.offset_bounds-words-i-in-loop-i
-offset_bounds-words-i-in-loop-i c = search rules
-
-pub bounds-words-i-in-loop-i : goal.bounds-words-i-in-loop-i
-bounds-words-i-in-loop-i c = search rules
-
-pub overflow_add-i-in-loop-i : goal.overflow_add-i-in-loop-i
-overflow_add-i-in-loop-i c = search rules
-
-pub offset_bounds-words-i-in-loop-i-2 : goal.offset_bounds-words-i-in-loop-i-2
-offset_bounds-words-i-in-loop-i-2 c = search rules
-
-pub bounds-words-i-in-loop-i-2 : goal.bounds-words-i-in-loop-i-2
-bounds-words-i-in-loop-i-2 c = search rules
+returns-then-words-i-gt6 c = sym (c.loop-i.invariant.1 ∙ W.wrong_kind _ _ _ (whole (goal.at.returns-then-words-i-gt6 c).Else-n-i-lt4) (omega arith))
 
 pub returns-then-words-i : goal.returns-then-words-i
-returns-then-words-i c = 
-    sym (c.loop-i.invariant.1 ∙ W.wrong_order _ _ _ (whole (goal.at.returns-then-words-i c).Else-n-i-lt4) c.if-words-i-gt6.false c.if-words-i.true)
-
-pub overflow_add-i-in-loop-i-2 : goal.overflow_add-i-in-loop-i-2
-overflow_add-i-in-loop-i-2 c = search rules
-
-pub offset_bounds-words-i-in-loop-i-3 : goal.offset_bounds-words-i-in-loop-i-3
-offset_bounds-words-i-in-loop-i-3 c = search rules
-
-pub bounds-words-i-in-loop-i-3 : goal.bounds-words-i-in-loop-i-3
-bounds-words-i-in-loop-i-3 c = search rules
+returns-then-words-i c =
+    sym (c.loop-i.invariant.1 ∙ W.wrong_order _ _ _ (whole (goal.at.returns-then-words-i c).Else-n-i-lt4) (omega arith) c.if-words-i.true)
 
 pub returns-then-most-words : goal.returns-then-most-words
-returns-then-most-words c = 
-    sym (c.loop-i.invariant.1 ∙ W.outside _ _ _ (whole (goal.at.returns-then-most-words c).Else-n-i-lt4) c.if-words-i-gt6.false c.if-words-i.false c.if-most-words.true)
-
-pub overflow_add-i-in-loop-i-3 : goal.overflow_add-i-in-loop-i-3
-overflow_add-i-in-loop-i-3 c = search rules
-
-pub loop-i-smaller : goal.loop-i-smaller
-loop-i-smaller c = search rules
+returns-then-most-words c =
+    sym (c.loop-i.invariant.1 ∙ W.outside _ _ _ (whole (goal.at.returns-then-most-words c).Else-n-i-lt4) (omega arith) c.if-words-i.false c.if-most-words.true)
 
 pub loop-i-preserved : goal.loop-i-preserved
-loop-i-preserved c = let here = goal.at.loop-i-preserved c in 
-    (whole here.Else-n-i-lt4, c.loop-i.invariant.1 ∙ W.well _ _ _ (whole here.Else-n-i-lt4) c.if-words-i-gt6.false c.if-words-i.false c.if-most-words.false)
+loop-i-preserved c = let here = goal.at.loop-i-preserved c in
+    (whole here.Else-n-i-lt4, c.loop-i.invariant.1 ∙ W.well _ _ _ (whole here.Else-n-i-lt4) (omega arith) c.if-words-i.false c.if-most-words.false)
 
 pub returns : goal.returns
 unfolding is_call_list
-returns c = let here = goal.at.returns c in 
+returns c = let here = goal.at.returns c in
     sym (c.loop-i.invariant.1 ∙ ap (λ l. is_call_list l (bytes here.At-loop-i)) (W.none_left (words here.At-loop-i) (bytes here.At-loop-i) c.loop-i.i (omega arith) (omega arith)))

@@ -1,11 +1,7 @@
-use mathlib.Core.List.{List}
-use mathlib.Core.Path.{◌≡◌, refl, sym, ap, ◌∙◌}
-use Prim.Native.Nat.{ℕ, ◌≤◌, ◌+◌, ◌-◌}
-use native.Mathlib.Omega.{arith}
-use lib.ListN.{length-drop, length, drop}
-use borrow.Author.Rules.{rules}
+use mathlib.Core.Path.{◌≡◌}
+use Prim.Native.Nat.{◌≤◌, ◌-◌}
+use lib.ListN.{drop}
 use Rattle.machine.specs.CallList.{is_call_list}
-use Rattle.call_list.proofs.Words as W
 use Rattle.call_list.proofs.is_call_list.Given as goal
 
 abbrev pub invariant-loop-i : goal.invariant-loop-i

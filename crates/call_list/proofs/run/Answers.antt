@@ -5,8 +5,6 @@ use mathlib.Core.Bool.{true}
 use mathlib.Core.List.{[]}
 use Prim.Native.Nat.{ℕ}
 use native.Mathlib.Omega.{arith}
-use borrow.Author.Tests.{not-true, not-false}
-use borrow.Author.Rules.{rules}
 use Rattle.machine.specs.Book.{State}
 use Rattle.machine.specs.CallList.{is_call_list, Told, open_and_run}
 use Rattle.call_list.specs.Says.{run_told}
@@ -21,10 +19,10 @@ start c = (goal.at.After-is_call_list c).Start
 
 -- what is promised, from what the definitions say
 Promised : After-is_call_list → ℕ × Told × State → Type 0
-Promised c x = let a = (start c).args in Runs a.file.now a.image-1.now a.journal-1.now a.words.now a.bytes.now a.rates.rate x
+Promised c x = let a = (start c).args in Runs a.file.now a.image.now a.journal.now a.words.now a.bytes.now a.rates.rate x
 
 promised : (c : After-is_call_list) (x : ℕ × Told × State)
-    → (let a = c.args in x ≡ run_told (open_and_run a.file.now a.image-1.now a.journal-1.now a.words.now a.bytes.now a.rates.rate)) → Promised c x
+    → (let a = c.args in x ≡ run_told (open_and_run a.file.now a.image.now a.journal.now a.words.now a.bytes.now a.rates.rate)) → Promised c x
 unfolding Promised
 promised c = R.replays _ _ _ _ _ _ (λ i. omega (arith, c.type_inv.words i)) (λ i. c.type_inv.bytes i)
 
@@ -46,7 +44,7 @@ returns-then-opened-ne0 c =
     let here = goal.at.returns-then-opened-ne0 c in
     promised here.After-is_call_list _
     (c.not_run-then-opened-ne0.ensures _ _
-    ∙ R.not_opened _ _ _ _ _ _ (encoded here.Else-not-is_call_list) _ c.«open».ensures (R.refused-is c.«open».result [] [] (λ z. omega (arith, z, c.if-opened-ne0.true))))
+    ∙ R.not_opened _ _ _ _ _ _ (encoded here.Else-not-is_call_list) _ c.open-opened.ensures (R.refused-is c.open-opened.result [] [] (λ z. omega (arith, z, c.if-opened-ne0.true))))
 
 pub run_calls-requires : goal.run_calls-requires
 run_calls-requires c = encoded (goal.at.run_calls-requires c).Else-not-is_call_list
@@ -57,4 +55,4 @@ returns c =
     let here = goal.at.returns c in
     promised here.After-is_call_list _
     (c.done.ensures _ _
-    ∙ R.opened-ran _ _ _ _ _ _ (encoded here.Else-not-is_call_list) _ c.«open».ensures (R.accepted-is c.«open».result [] [] (omega (arith, c.if-opened-ne0.false))) _ c.run_calls.ensures)
+    ∙ R.opened-ran _ _ _ _ _ _ (encoded here.Else-not-is_call_list) _ c.open-opened.ensures (R.accepted-is c.open-opened.result [] [] (omega (arith, c.if-opened-ne0.false))) _ c.run_calls.ensures)

@@ -1,14 +1,8 @@
-use mathlib.Core.Path.{◌≡◌, refl, ap, ◌∙◌}
+use mathlib.Core.Path.{◌≡◌}
 use Prim.Native.Nat.{◌-◌}
-use native.Mathlib.Omega.{arith}
 use lib.ListN.{length}
-use borrow.Author.Rules.{rules}
-use Rattle.machine.specs.Book.{State}
-use Rattle.machine.specs.CallList.{calls, Told, nothing_told, ran}
 use Rattle.book.specs.Says.{walk_outcome}
-use Rattle.call_list.proofs.Words as W
 use Rattle.call_list.proofs.Runs.{Reached}
-use Rattle.call_list.proofs.Runs as R
 use Rattle.call_list.proofs.run_calls.Given as goal
 
 abbrev pub invariant-loop-at : goal.invariant-loop-at

@@ -2,8 +2,6 @@
 use mathlib.Core.Path.{◌≡◌, sym, ◌∙◌}
 use mathlib.Core.Bool.{true}
 use native.Mathlib.Omega.{arith}
-use borrow.Author.Tests.{not-true, not-false}
-use borrow.Author.Rules.{rules}
 use Rattle.machine.specs.CallList.{is_call_list}
 use Rattle.call_list.proofs.Runs as R
 use Rattle.call_list.proofs.run_on.Goals as goal
