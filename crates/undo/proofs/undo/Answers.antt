@@ -10,7 +10,6 @@ use Rattle.book.specs.Says.{state}
 use Rattle.book.specs.Holding.{Sound}
 use Rattle.journal.specs.Says.{trailer_of}
 use Rattle.undo.proofs.Entry as K
-use borrow.Author.Rules.{rules}
 use Rattle.undo.proofs.undo.Goals as goal
 use Rattle.undo.proofs.undo.Goals.{After-read_trailer-last, Else-used-eq0, Else-used-lt-TRAILER_SIZE, Start}
 

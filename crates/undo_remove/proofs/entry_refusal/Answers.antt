@@ -4,7 +4,6 @@ use mathlib.Core.Bool.{true}
 use Prim.Native.Nat.{◌-◌, ◌≤◌}
 use native.Mathlib.Omega.{arith}
 use lib.ListN.{length}
-use borrow.Author.Tests.{not-true, not-false}
 use Rattle.pod.specs.Values.{Routine}
 use Rattle.machine.specs.Edits.{place}
 use Rattle.machine.specs.Journal.{last_bytes}
@@ -14,7 +13,6 @@ use Rattle.image.specs.Places.{Finds}
 use Rattle.journal.specs.Says.{trailer_of}
 use Rattle.undo_remove.specs.Blocks.{is_block}
 use Rattle.undo_remove.proofs.Entries as K
-use borrow.Author.Rules.{rules}
 use Rattle.undo_remove.proofs.entry_refusal.Goals as goal
 use Rattle.undo_remove.proofs.entry_refusal.Goals.{After-find-found, After-is_block, Else-entries-size, Else-found-count, Start}
 
@@ -29,15 +27,15 @@ long : (c : Else-entries-size) → (T (goal.at.Else-entries-size c).Start).len �
 long c = omega (arith, c.if-entries-size.false)
 
 tested : (c : After-is_block)
-    → ( c.is_block.result ≡ is_block (T (goal.at.After-is_block c).Start).vip-1 (last_bytes (T (goal.at.After-is_block c).Start).len c.args.entries.now))
+    → (c.is_block.result ≡ is_block (T (goal.at.After-is_block c).Start).vip (last_bytes (T (goal.at.After-is_block c).Start).len c.args.entries.now))
 tested c =
     let here = goal.at.After-is_block c in
-    c.is_block.ensures ∙ ap (is_block (T here.Start).vip-1) (K.cut-end (length c.args.entries.now - (T here.Start).len) c.args.entries.now)
+    c.is_block.ensures ∙ ap (is_block (T here.Start).vip) (K.cut-end (length c.args.entries.now - (T here.Start).len) c.args.entries.now)
 
 abbrev at_find : After-find-found → Start
 at_find c = (goal.at.After-find-found c).Start
 
-whole : (c : After-find-found) → ( is_block (T (goal.at.After-find-found c).Start).vip-1 (last_bytes (T (goal.at.After-find-found c).Start).len c.args.entries.now) ≡ true)
+whole : (c : After-find-found) → (is_block (T (goal.at.After-find-found c).Start).vip (last_bytes (T (goal.at.After-find-found c).Start).len c.args.entries.now) ≡ true)
 whole c = sym (tested (goal.at.After-find-found c).After-is_block) ∙ c.if-not-is_block.false
 
 -- the routine that the image holds
@@ -57,16 +55,16 @@ returns-then-not-is_block c = let here = goal.at.returns-then-not-is_block c in 
 
 pub returns-then-found-count : goal.returns-then-found-count
 returns-then-found-count c = let here = goal.at.returns-then-found-count c in λ r h w.
-    K.vip-there _ r _ _ (long here.Else-entries-size) (whole here.After-find-found) (omega (arith, c.if-found-count.true, (finds r c h).place, (finds r c h).count))
+    K.vip-there _ r _ _ (long here.Else-entries-size) (whole here.After-find-found) (omega (arith, c.if-found-count.true, (finds r here.After-find-found h).place, (finds r here.After-find-found h).count))
 
 pub returns-then-count-place : goal.returns-then-count-place
 returns-then-count-place c = let here = goal.at.returns-then-count-place c in λ r h w.
-    K.no_place _ r _ _ (long here.Else-entries-size) (whole here.After-find-found) (gone r c h) (omega (arith, c.if-count-place.true, (finds r c h).count))
+    K.no_place _ r _ _ (long here.Else-entries-size) (whole here.After-find-found) (gone r here.Else-found-count h) (omega (arith, c.if-count-place.true, (finds r here.After-find-found h).count))
 
 pub returns-then-image-written : goal.returns-then-image-written
 returns-then-image-written c = let here = goal.at.returns-then-image-written c in λ r h w.
-    K.no_room _ r _ _ (long here.Else-entries-size) (whole here.After-find-found) (gone r here.Else-found-count h) (omega (arith, c.if-count-place.false, (finds r c h).count)) (omega (arith, c.if-image-written.true, c.requires, w))
+    K.no_room _ r _ _ (long here.Else-entries-size) (whole here.After-find-found) (gone r here.Else-found-count h) (omega (arith, c.if-count-place.false, (finds r here.After-find-found h).count)) (omega (arith, c.if-image-written.true, c.requires, w))
 
 pub returns : goal.returns
 returns c = let here = goal.at.returns c in λ r h w.
-    K.fits _ r _ _ (long here.Else-entries-size) (whole here.After-find-found) (gone r here.Else-found-count h) (omega (arith, c.if-count-place.false, (finds r c h).count)) (omega (arith, c.if-image-written.false, c.requires, w))
+    K.fits _ r _ _ (long here.Else-entries-size) (whole here.After-find-found) (gone r here.Else-found-count h) (omega (arith, c.if-count-place.false, (finds r here.After-find-found h).count)) (omega (arith, c.if-image-written.false, c.requires, w))

@@ -11,7 +11,6 @@ use Rattle.book.specs.Holding.{blocks_start, block_start}
 use Rattle.image.proofs.Here as B
 use Rattle.undo_remove.specs.Insertable.{Insertable}
 use Rattle.undo_remove.proofs.Entered as E
-use borrow.Author.Rules.{rules}
 use Rattle.undo_remove.proofs.swap_insert.Goals as goal
 use Rattle.undo_remove.proofs.swap_insert.Goals.{After-block_end-next, After-block_offset-at, After-blocks_of-blocks, Start}
 
@@ -66,14 +65,17 @@ returns-then-count-place c = λ r b l e.
 
 pub exchange-requires : goal.exchange-requires
 exchange-requires c =
+    let here = goal.at.exchange-requires c in
+    let o = here.After-block_end-next in
     let p = c.requires in
-    (omega (arith, next-is c p.r p.insertable), (before-end c p.r p.insertable, (omega arith, omega (arith, room (goal.at.exchange-requires c).Start))))
+    (omega (arith, next-is o p.r p.insertable), (before-end o p.r p.insertable, (omega arith, omega (arith, room here.Start))))
 
 -- it goes to the place of another, which goes last
 pub returns : goal.returns
-returns c = λ r b l e.
-    let n = counted (goal.at.returns c).After-blocks_of-blocks r l in
-    E.in_mid r _ _ _ _ l b e _ _ n.0 n.1 (there c r l) _ _ (at_is c r l) (next-is c r l) _ _ _ c.copy_at-2.ensures c.exchange.ensures c.put_u32-2.ensures
+returns c = let here = goal.at.returns c in λ r b l e.
+    let n = counted here.After-blocks_of-blocks r l in
+    let o = here.After-block_end-next in
+    E.in_mid r _ _ _ _ l b e _ _ n.0 n.1 (there o r l) _ _ (at_is o r l) (next-is o r l) _ _ _ c.copy_at-2.ensures c.exchange.ensures c.put_u32-2.ensures
 
 pub overflow_sub-count_at : goal.overflow_sub-count_at
 overflow_sub-count_at c = omega (arith, sure (goal.at.overflow_sub-count_at c).After-blocks_of-blocks)

@@ -6,7 +6,7 @@ use mathlib.Core.List.{List}
 use Prim.Native.Nat.{ℕ, ◌+◌, ◌-◌, ◌≤◌, ◌<◌, ◌^◌}
 use native.Mathlib.Omega.{arith}
 use lib.ListN.{length, take}
-use borrow.Author.Tests.{ltb-true, ltb-false, not-true, not-false}
+use borrow.Author.Tests.{ltb-true, ltb-false}
 use Rattle.fields.specs.Outcome.{Outcome, accepted}
 use Rattle.pod.specs.Values.{Routine}
 use Rattle.machine.specs.Machine.{Answer}
@@ -22,7 +22,6 @@ use Rattle.image.proofs.Inspects.{of_held, sound-holding}
 use Rattle.journal.specs.Says.{trailer_of}
 use Rattle.undo_remove.specs.Insertable.{Insertable}
 use Rattle.undo_remove.proofs.Entries as K
-use borrow.Author.Rules.{rules}
 use Rattle.undo_remove.proofs.undo_remove.Goals as goal
 use Rattle.undo_remove.proofs.undo_remove.Goals.{After-can_add, After-entry_refusal-refusal, Else-refusal-ne0, Start}
 
@@ -74,7 +73,7 @@ module _ (c : Else-refusal-ne0) where
       let g = sound s in
       record {
         holds = g.holds;
-        is = g.image-1;
+        is = g.image;
         whole = g.written;
         room = omega (arith, fitting.room, K.entry-size (S s) (R s) g (T s) s.requires.1 fitting);
         lent = g.image_lent;
