@@ -18,12 +18,11 @@ pub overflow_mul-kind : goal.overflow_mul-kind
 overflow_mul-kind c = record { fits = small _ _ (omega arith) (rw c.wide-top.ensures (c.type_inv.s _).fits) }
 
 pub returns : goal.returns
-returns c = λ h.
-    (
-      fast _ _ c.type_inv.s c.requires _ _ _ _ c.four-kind.ensures c.wide-top.ensures c.four-width.ensures c.four-offset.ensures
-          (omega arith) (omega arith),
-      omega arith,
-    )
+returns c = λ h. (
+  fast _ _ c.type_inv.s c.requires _ _ _ _ c.four-kind.ensures c.wide-top.ensures c.four-width.ensures c.four-offset.ensures
+      (omega arith) (omega arith),
+  omega arith,
+)
 
 pub overflow_add-reach : goal.overflow_add-reach
 overflow_add-reach c = record { fits = omega (arith, width_fits c, offset-fits c) }
