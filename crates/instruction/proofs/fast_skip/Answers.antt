@@ -16,10 +16,7 @@ use Rattle.laws.proofs.Walks.{instruction-walked}
 use Rattle.instruction.specs.Answers.{Found}
 use Rattle.instruction.proofs.Pass.{found, fast_ok, fast_sound}
 use Rattle.instruction.proofs.fast_skip.Goals as goal
-use Rattle.instruction.proofs.fast_skip.Goals.{After-four-n, After-loop-left, After-shared_slice_known-1, Else-code-gt255, Else-count-code}
-
-abbrev lent : After-four-n → After-shared_slice_known-1
-lent c = (goal.at.After-four-n c).After-shared_slice_known-1
+use Rattle.instruction.proofs.fast_skip.Goals.{After-loop-left, Else-code-gt255, Else-count-code}
 
 -- the table knows the name, and so what stands at the instruction's start is found
 known : (c : Else-code-gt255)
@@ -62,7 +59,7 @@ returns c h =
     let room : o + 21 ≤ length s = omega (arith, c.loop-left.invariant.0) in
     let last : o + 21 - 1 ≡ o + 20 = omega arith in
     let past = fast_ok s _ _ o _ _ room (opcode-read here.After-loop-left) (operands_read here.After-loop-left) in
-    let seen = instruction-walked s (lent here.After-four-n).type_inv.s _ past (fast_sound s _ _ o _ _ room (opcode-read here.After-loop-left) (operands_read here.After-loop-left)) in
+    let seen = instruction-walked s c.type_inv.s _ past (fast_sound s _ _ o _ _ room (opcode-read here.After-loop-left) (operands_read here.After-loop-left)) in
     sym (rw last at seen)
 
 pub returns-then-s-at : goal.returns-then-s-at

@@ -7,11 +7,7 @@ use Rattle.pod.specs.Answers.{of_operand}
 use Rattle.pod.proofs.Steps.{operand-told}
 use Rattle.instruction.proofs.Asking.{asked-sound, ask_end, ask_next, ask_stop}
 use Rattle.fields.proofs.Steps.{handed}
-use borrow.Author.Rules.{rules}
 use Rattle.instruction.proofs.operands_run.Goals as goal
-
-pub enum_told-1 : goal.enum_told-1
-enum_told-1 c = search rules
 
 pub loop-left-init : goal.loop-left-init
 loop-left-init c = (refl, asked-sound _ refl)

@@ -5,7 +5,6 @@ use native.Mathlib.Omega.{arith}
 use Rattle.fields.specs.Lists.{choose}
 use Rattle.fields.specs.Parse.{le}
 use Rattle.value.proofs.Fast.{kept-fits, immediate-kept}
-use borrow.Author.Rules.{rules}
 use Rattle.value.proofs.fast_immediate.Goals as goal
 use Rattle.value.proofs.fast_immediate.Goals.{After-kept-width}
 
@@ -18,4 +17,4 @@ overflow_cast-result c = let a = c.args in omega (arith, width c, kept-fits a.th
 pub returns : goal.returns
 returns c =
     let a = c.args in
-    immediate-kept a.s.now a.at a.there (c.auto.ensures ∙ ap (λ v. choose a.there v 0) c.eight.ensures) (width c)
+    immediate-kept a.s.now a.at a.there (c.kept-value.ensures ∙ ap (λ v. choose a.there v 0) c.eight.ensures) (width c)

@@ -7,7 +7,6 @@ use Rattle.fields.specs.Lists.{choose}
 use Rattle.fields.specs.Parse.{le}
 use Rattle.fields.proofs.Le.{le_lt}
 use Rattle.value.proofs.Fast.{fills}
-use borrow.Author.Rules.{rules}
 use Rattle.value.proofs.fast_place.Goals as goal
 use Rattle.value.proofs.fast_place.Goals.{After-kept-mark}
 
@@ -16,8 +15,8 @@ overflow_add-four c =
     let a = c.args in
     omega (arith, c.four.ensures, le_lt 4 a.s.now a.at c.type_inv.s)
 
-mark : (c : After-kept-mark) → let a = c.args in c.auto.result ≡ choose a.used (le 4 a.s.now a.at + 1) 0
-mark c = c.auto.ensures ∙ ap (λ v. choose c.args.used (v + 1) 0) c.four.ensures
+mark : (c : After-kept-mark) → let a = c.args in c.kept-mark.result ≡ choose a.used (le 4 a.s.now a.at + 1) 0
+mark c = c.kept-mark.ensures ∙ ap (λ v. choose c.args.used (v + 1) 0) c.four.ensures
 
 -- what is kept of a number is at most that
 most : (t : Bool) (v : ℕ) {r : ℕ} → r ≡ choose t v 0 → r ≤ v
@@ -28,7 +27,7 @@ most false v e = omega arith
 pub returns : goal.returns
 returns c h =
     let a = c.args in
-    fills a.s.now a.at c.requires a.used c.auto.result (mark (goal.at.returns c).After-kept-mark) (omega (arith, c.if-mark-gt2.false)) c.fast_register-register.ensures (omega (arith, c.if-register-gt2.false))
+    fills a.s.now a.at c.requires a.used c.kept-mark.result (mark (goal.at.returns c).After-kept-mark) (omega (arith, c.if-mark-gt2.false)) c.fast_register-register.ensures (omega (arith, c.if-register-gt2.false))
     c.fast_immediate-immediate.ensures c.kept.ensures c.kept-2.ensures c.kept-kind.ensures
 
 pub returns-then-mark-gt2 : goal.returns-then-mark-gt2

@@ -31,6 +31,6 @@ pub returns : goal.returns
 returns c =
     let here = goal.at.returns c in
     let a = c.args in
-    register-kept a.s.now a.at a.there (c.auto.ensures ∙ ap (λ v. choose a.there v 0) c.eight.ensures)
+    register-kept a.s.now a.at a.there (c.kept-flags.ensures ∙ ap (λ v. choose a.there v 0) c.eight.ensures)
     (c.kept-id.ensures ∙ ap (λ v. choose a.there v 0) c.eight-2.ensures)
     (c.signed32.ensures ∙ ap (int w32) (width here.After-kept-width)) (c.signed32-2.ensures ∙ ap (int w32) (offset here.After-kept-offset)) (search rules) (search rules)

@@ -1,7 +1,6 @@
 -- `value::operand_desc` meets its contract: each arm makes the definition's record.
 use mathlib.Core.Path.{sym, ap}
 use Rattle.pod.specs.Descs.{operand_desc}
-use borrow.Author.Rules.{rules}
 use Rattle.value.proofs.operand_desc.Goals as goal
 
 pub returns-in-Imm : goal.returns-in-Imm

@@ -1,7 +1,6 @@
 -- `value::refused` meets its contract: zeros, and three unused places.
 use Rattle.value.proofs.Places.{places-none}
 use Rattle.value.specs.Answers.{instruction_read}
-use borrow.Author.Rules.{rules}
 use Rattle.value.proofs.refused.Goals as goal
 
 pub returns : goal.returns
