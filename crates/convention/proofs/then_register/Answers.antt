@@ -14,7 +14,7 @@ use Rattle.convention.proofs.then_register.Goals as goal
 use Rattle.convention.proofs.then_register.Goals.{After-register_at-register}
 
 -- what was passed over so far has an end, and the register at it decides the answer
-past : (c : After-register_at-register) {x : Res Bool} → ( 
+past : (c : After-register_at-register) {x : Res Bool} → (
     x ≡ bind (judged register is_sound c.args.s.now c.in-Past.at) (λ u m. ok (c.in-Past.sound && u) m)
     → x ≡ judged_both (of_passed c.args.far) (judged register is_sound c.args.s.now))
 unfolding judged_both

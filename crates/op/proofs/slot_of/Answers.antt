@@ -10,55 +10,55 @@ pub returns : goal.returns
 unfolding names counts key bits le
 returns c =
     elim c.match-h.branch [
-      in-70 w ↦ named_arm w.in-70.is w.e-is tt
-    | in-71 w ↦ named_arm w.in-71.is w.e-is tt
-    | in-80 w ↦ named_arm w.in-80.is w.e-is tt
-    | in-90 w ↦ named_arm w.in-90.is w.e-is tt
-    | in-91 w ↦ named_arm w.in-91.is w.e-is tt
-    | in-96 w ↦ named_arm w.in-96.is w.e-is tt
-    | in-97 w ↦ named_arm w.in-97.is w.e-is tt
-    | in-98 w ↦ named_arm w.in-98.is w.e-is tt
-    | in-99 w ↦ named_arm w.in-99.is w.e-is tt
-    | in-100 w ↦ named_arm w.in-100.is w.e-is tt
-    | in-101 w ↦ named_arm w.in-101.is w.e-is tt
-    | in-102 w ↦ named_arm w.in-102.is w.e-is tt
-    | in-103 w ↦ named_arm w.in-103.is w.e-is tt
-    | in-107 w ↦ named_arm w.in-107.is w.e-is tt
-    | in-109 w ↦ named_arm w.in-109.is w.e-is tt
-    | in-110 w ↦ named_arm w.in-110.is w.e-is tt
-    | in-111 w ↦ named_arm w.in-111.is w.e-is tt
-    | in-112 w ↦ named_arm w.in-112.is w.e-is tt
-    | in-113 w ↦ named_arm w.in-113.is w.e-is tt
-    | in-114 w ↦ named_arm w.in-114.is w.e-is tt
-    | in-115 w ↦ named_arm w.in-115.is w.e-is tt
-    | in-116 w ↦ named_arm w.in-116.is w.e-is tt
-    | in-117 w ↦ named_arm w.in-117.is w.e-is tt
-    | in-118 w ↦ named_arm w.in-118.is w.e-is tt
-    | in-119 w ↦ named_arm w.in-119.is w.e-is tt
-    | in-120 w ↦ named_arm w.in-120.is w.e-is tt
-    | in-121 w ↦ named_arm w.in-121.is w.e-is tt
-    | in-122 w ↦ named_arm w.in-122.is w.e-is tt
-    | in-124 w ↦ named_arm w.in-124.is w.e-is tt
-    | in-125 w ↦ named_arm w.in-125.is w.e-is tt
-    | in-126 w ↦ named_arm w.in-126.is w.e-is tt
-    | in-128 w ↦ named_arm w.in-128.is w.e-is tt
-    | in-132 w ↦ named_arm w.in-132.is w.e-is tt
-    | in-148 w ↦ named_arm w.in-148.is w.e-is tt
-    | in-149 w ↦ named_arm w.in-149.is w.e-is tt
-    | in-158 w ↦ named_arm w.in-158.is w.e-is tt
-    | in-161 w ↦ named_arm w.in-161.is w.e-is tt
-    | in-163 w ↦ named_arm w.in-163.is w.e-is tt
-    | in-165 w ↦ named_arm w.in-165.is w.e-is tt
-    | in-177 w ↦ named_arm w.in-177.is w.e-is tt
-    | in-182 w ↦ named_arm w.in-182.is w.e-is tt
-    | in-188 w ↦ named_arm w.in-188.is w.e-is tt
-    | in-193 w ↦ named_arm w.in-193.is w.e-is tt
-    | in-196 w ↦ named_arm w.in-196.is w.e-is tt
-    | in-200 w ↦ named_arm w.in-200.is w.e-is tt
-    | in-211 w ↦ named_arm w.in-211.is w.e-is tt
-    | in-215 w ↦ named_arm w.in-215.is w.e-is tt
-    | in-216 w ↦ named_arm w.in-216.is w.e-is tt
-    | in-219 w ↦ named_arm w.in-219.is w.e-is tt
-    | in-65 w ↦ unnamed_arm w.e-is tt
-    | in_default w ↦ unnamed_arm w.e-is tt
+      | in-70 w ↦ named_arm w.in-70.is w.e-is tt
+      | in-71 w ↦ named_arm w.in-71.is w.e-is tt
+      | in-80 w ↦ named_arm w.in-80.is w.e-is tt
+      | in-90 w ↦ named_arm w.in-90.is w.e-is tt
+      | in-91 w ↦ named_arm w.in-91.is w.e-is tt
+      | in-96 w ↦ named_arm w.in-96.is w.e-is tt
+      | in-97 w ↦ named_arm w.in-97.is w.e-is tt
+      | in-98 w ↦ named_arm w.in-98.is w.e-is tt
+      | in-99 w ↦ named_arm w.in-99.is w.e-is tt
+      | in-100 w ↦ named_arm w.in-100.is w.e-is tt
+      | in-101 w ↦ named_arm w.in-101.is w.e-is tt
+      | in-102 w ↦ named_arm w.in-102.is w.e-is tt
+      | in-103 w ↦ named_arm w.in-103.is w.e-is tt
+      | in-107 w ↦ named_arm w.in-107.is w.e-is tt
+      | in-109 w ↦ named_arm w.in-109.is w.e-is tt
+      | in-110 w ↦ named_arm w.in-110.is w.e-is tt
+      | in-111 w ↦ named_arm w.in-111.is w.e-is tt
+      | in-112 w ↦ named_arm w.in-112.is w.e-is tt
+      | in-113 w ↦ named_arm w.in-113.is w.e-is tt
+      | in-114 w ↦ named_arm w.in-114.is w.e-is tt
+      | in-115 w ↦ named_arm w.in-115.is w.e-is tt
+      | in-116 w ↦ named_arm w.in-116.is w.e-is tt
+      | in-117 w ↦ named_arm w.in-117.is w.e-is tt
+      | in-118 w ↦ named_arm w.in-118.is w.e-is tt
+      | in-119 w ↦ named_arm w.in-119.is w.e-is tt
+      | in-120 w ↦ named_arm w.in-120.is w.e-is tt
+      | in-121 w ↦ named_arm w.in-121.is w.e-is tt
+      | in-122 w ↦ named_arm w.in-122.is w.e-is tt
+      | in-124 w ↦ named_arm w.in-124.is w.e-is tt
+      | in-125 w ↦ named_arm w.in-125.is w.e-is tt
+      | in-126 w ↦ named_arm w.in-126.is w.e-is tt
+      | in-128 w ↦ named_arm w.in-128.is w.e-is tt
+      | in-132 w ↦ named_arm w.in-132.is w.e-is tt
+      | in-148 w ↦ named_arm w.in-148.is w.e-is tt
+      | in-149 w ↦ named_arm w.in-149.is w.e-is tt
+      | in-158 w ↦ named_arm w.in-158.is w.e-is tt
+      | in-161 w ↦ named_arm w.in-161.is w.e-is tt
+      | in-163 w ↦ named_arm w.in-163.is w.e-is tt
+      | in-165 w ↦ named_arm w.in-165.is w.e-is tt
+      | in-177 w ↦ named_arm w.in-177.is w.e-is tt
+      | in-182 w ↦ named_arm w.in-182.is w.e-is tt
+      | in-188 w ↦ named_arm w.in-188.is w.e-is tt
+      | in-193 w ↦ named_arm w.in-193.is w.e-is tt
+      | in-196 w ↦ named_arm w.in-196.is w.e-is tt
+      | in-200 w ↦ named_arm w.in-200.is w.e-is tt
+      | in-211 w ↦ named_arm w.in-211.is w.e-is tt
+      | in-215 w ↦ named_arm w.in-215.is w.e-is tt
+      | in-216 w ↦ named_arm w.in-216.is w.e-is tt
+      | in-219 w ↦ named_arm w.in-219.is w.e-is tt
+      | in-65 w ↦ unnamed_arm w.e-is tt
+      | in_default w ↦ unnamed_arm w.e-is tt
     ]

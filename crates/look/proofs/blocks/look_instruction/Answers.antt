@@ -17,7 +17,7 @@ use Rattle.look.proofs.blocks.look_instruction.Goals as goal
 use Rattle.look.proofs.blocks.look_instruction.Goals.{After-word32-count, Else-b-ne0}
 
 there : (c : Else-b-ne0)
-    → 
+    →
     let a = c.args in
     Standing block a.image.now (look_block a.block (state a.image.now a.journal.now a.book)) c.reach_block-b.result.at
 there c = c.reach_block-b.ensures.there (omega (arith, c.if-b-ne0.false))

@@ -20,7 +20,7 @@ abbrev place : After-vips_of-vips → ℕ
 place c = c.args.place
 
 there : (c : Else-b-ne0)
-    → 
+    →
     let a = c.args in
     Standing block a.image.now (look_block a.block (state a.image.now a.journal.now a.book)) c.reach_block-b.result.at
 there c = c.reach_block-b.ensures.there (omega (arith, c.if-b-ne0.false))

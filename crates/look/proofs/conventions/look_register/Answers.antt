@@ -21,7 +21,7 @@ abbrev place : After-registers_of-registers → ℕ
 place c = c.args.place
 
 there : (c : Else-c-ne0)
-    → 
+    →
     let a = c.args in
     Standing convention a.image.now (look_convention a.convention (state a.image.now a.journal.now a.book)) c.reach_convention-c.result.at
 there c = c.reach_convention-c.ensures.there (omega (arith, c.if-c-ne0.false))
