@@ -87,6 +87,7 @@ fn passes(s: &[u8], start: usize, count: usize, b: &mut [u64]) -> bool
 }
 
 // The search with a buffer of the caller's, whose content is lost.
+#[tactic(auto, using(crate::proofs::Rounds::few))]
 fn has_repeat_in(s: &[u8], start: usize, count: usize, b: &mut [u64]) -> bool
     requires { 0 < length b.old }
     ensures { result ≡ repeats (vipsFrom s.now start count) }
