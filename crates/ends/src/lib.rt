@@ -99,6 +99,7 @@ pub fn word64(s: &[u8], at: usize) -> u64
 }
 
 // The end of the operand at `at`: its kind, then an immediate or a register.
+#[tactic(auto, unfolding(crate::specs::Ends::operandEnd, fields::specs::Lists::choose))]
 fn operand_end(s: &[u8], at: usize) -> usize
     ensures { result ≡ operandEnd s.now at }
 {

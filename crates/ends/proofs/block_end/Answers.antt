@@ -1,6 +1,5 @@
 -- Where the fast way tells, it is `blockEnd`; else straight code, whose calls put together are `blockEnd`.
 use Rattle.ends.proofs.Steps.{block_made}
-use borrow.Author.Rules.{rules}
 use Rattle.ends.proofs.block_end.Goals as goal
 
 pub returns-then-end-gt0 : goal.returns-then-end-gt0

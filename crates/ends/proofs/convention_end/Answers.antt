@@ -1,6 +1,5 @@
 -- Straight code: the calls put together are `conventionEnd`.
 use Rattle.ends.proofs.Steps.{convention_made}
-use borrow.Author.Rules.{rules}
 use Rattle.ends.proofs.convention_end.Goals as goal
 
 pub returns : goal.returns

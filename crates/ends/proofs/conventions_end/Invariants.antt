@@ -1,7 +1,5 @@
 use mathlib.Core.Path.{◌≡◌}
 use Rattle.ends.specs.Ends.{times, conventionEnd}
-use Rattle.ends.proofs.Steps.{times-next, times-end}
-use borrow.Author.Rules.{rules}
 use Rattle.ends.proofs.conventions_end.Given as goal
 
 abbrev pub invariant-loop-left : goal.invariant-loop-left

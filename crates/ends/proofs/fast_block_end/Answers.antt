@@ -2,7 +2,6 @@
 use native.Mathlib.Omega.{arith}
 use mathlib.Core.Path.{sym, ◌∙◌}
 use Rattle.ends.proofs.Steps.{empty_block}
-use borrow.Author.Rules.{rules}
 use Rattle.ends.proofs.fast_block_end.Goals as goal
 
 pub returns-then-s-at : goal.returns-then-s-at

@@ -1,11 +1,7 @@
 -- The loop keeps that the operands that are left lead to where all lead, with room for each and for the fields after them.
 use native.Mathlib.Omega.{arith}
-use mathlib.Core.Path.{◌≡◌, refl}
-use Prim.Native.Nat.{◌+◌, ◌*◌, ◌≤◌}
-use lib.ListN.{length}
-use Rattle.ends.specs.Ends.{times, operandEnd}
+use mathlib.Core.Path.{refl}
 use Rattle.ends.proofs.Steps.{times-next, times-end, instruction-within}
-use borrow.Author.Rules.{rules}
 use Rattle.ends.proofs.fast_instruction_end.Goals as goal
 
 pub returns-then-s-at : goal.returns-then-s-at

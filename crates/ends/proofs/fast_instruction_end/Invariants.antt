@@ -1,10 +1,7 @@
-use native.Mathlib.Omega.{arith}
-use mathlib.Core.Path.{◌≡◌, refl}
+use mathlib.Core.Path.{◌≡◌}
 use Prim.Native.Nat.{◌+◌, ◌*◌, ◌≤◌}
 use lib.ListN.{length}
 use Rattle.ends.specs.Ends.{times, operandEnd}
-use Rattle.ends.proofs.Steps.{times-next, times-end, instruction-within}
-use borrow.Author.Rules.{rules}
 use Rattle.ends.proofs.fast_instruction_end.Given as goal
 
 abbrev pub invariant-loop-left : goal.invariant-loop-left

@@ -2,7 +2,6 @@
 use native.Mathlib.Omega.{arith}
 use mathlib.Core.Path.{sym, ◌∙◌}
 use Rattle.ends.proofs.Steps.{imm-within, reg_within}
-use borrow.Author.Rules.{rules}
 use Rattle.ends.proofs.fast_operand_end.Goals as goal
 
 pub returns-then-four-eq0 : goal.returns-then-four-eq0

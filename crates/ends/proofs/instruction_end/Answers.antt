@@ -1,6 +1,5 @@
 -- Where the fast way tells, it is `instructionEnd`; else straight code, whose calls put together are `instructionEnd`.
 use Rattle.ends.proofs.Steps.{instruction-made}
-use borrow.Author.Rules.{rules}
 use Rattle.ends.proofs.instruction_end.Goals as goal
 
 pub returns-then-end-gt0 : goal.returns-then-end-gt0

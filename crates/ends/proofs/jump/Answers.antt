@@ -2,7 +2,6 @@
 use native.Mathlib.Omega.{arith}
 use mathlib.Core.Path.{sym}
 use Rattle.ends.proofs.Steps.{jump_in, jump_out}
-use borrow.Author.Rules.{rules}
 use Rattle.ends.proofs.jump.Goals as goal
 
 pub returns-then-len-at : goal.returns-then-len-at

@@ -1,6 +1,4 @@
 -- The operands left lead to the same end as all of them from the start. The measure is how many are left.
-use mathlib.Core.Path.{◌≡◌}
-use Rattle.ends.specs.Ends.{times, operandEnd}
 use Rattle.ends.proofs.Steps.{times-next, times-end}
 use borrow.Author.Rules.{rules}
 use Rattle.ends.proofs.operands_end.Goals as goal

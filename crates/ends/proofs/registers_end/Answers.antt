@@ -1,6 +1,5 @@
 -- Straight code: the calls put together are `registersEnd`. 24 times a u32 does not wrap.
 use Rattle.ends.proofs.Steps.{registers_made}
-use borrow.Author.Rules.{rules}
 use Rattle.ends.proofs.registers_end.Goals as goal
 
 pub returns : goal.returns

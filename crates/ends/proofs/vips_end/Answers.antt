@@ -1,6 +1,5 @@
 -- Straight code: the calls put together are `vipsEnd`. 8 times a u32 does not wrap.
 use Rattle.ends.proofs.Steps.{vips-made}
-use borrow.Author.Rules.{rules}
 use Rattle.ends.proofs.vips_end.Goals as goal
 
 pub returns : goal.returns
