@@ -2,7 +2,6 @@
 use mathlib.Core.Path.{sym}
 use native.Mathlib.Omega.{arith}
 use Rattle.block.proofs.Walk.{block_walked}
-use borrow.Author.Rules.{rules}
 use Rattle.block.proofs.block_skip.Goals as goal
 
 pub returns-then-is_bare : goal.returns-then-is_bare

@@ -1,14 +1,10 @@
-use mathlib.Core.Path.{◌≡◌, sym, ap, ◌∙◌}
+use mathlib.Core.Path.{◌≡◌}
 use Rattle.fields.specs.Parse.{ok, many}
 use Rattle.fields.specs.Lists.{every}
 use Rattle.fields.specs.Sight.{sight}
-use Rattle.fields.specs.Answers.{of_walked}
 use Rattle.pod.specs.Layout.{instruction}
 use Rattle.pod.specs.Sound.{instruction_sound}
 use Rattle.pod.specs.Written.{many_bytes, instruction_bytes, walked, both}
-use Rattle.laws.proofs.Layouts.{instruction_layout}
-use Rattle.laws.proofs.Walks.{Fills, fills, walk_start, walk_end, walk_next, walk_stop}
-use borrow.Author.Rules.{rules}
 use Rattle.block.proofs.instructions_run.Given as goal
 
 abbrev pub invariant-loop-left : goal.invariant-loop-left

@@ -1,5 +1,4 @@
 -- A block's numbers passed over at once, and then its instructions: the two calls, one after the other.
-use borrow.Author.Rules.{rules}
 use Rattle.block.proofs.instructions_skip.Goals as goal
 
 pub returns : goal.returns

@@ -5,7 +5,6 @@ use lib.ListN.{length}
 use native.Mathlib.Omega.{arith}
 use borrow.Author.Tests.{leb-true, eqb-true}
 use Rattle.block.proofs.Walk.{bare}
-use borrow.Author.Rules.{rules}
 use Rattle.block.proofs.is_bare.Goals as goal
 use Rattle.block.proofs.is_bare.Goals.{Then-within}
 

@@ -1,7 +1,6 @@
 -- One instruction walked over: what the fast way tells, or else what the walk field by field does.
 use mathlib.Core.Path.{sym}
 use native.Mathlib.Omega.{arith}
-use borrow.Author.Rules.{rules}
 use Rattle.block.proofs.one_skip.Goals as goal
 
 pub returns-then-fast-gt0 : goal.returns-then-fast-gt0

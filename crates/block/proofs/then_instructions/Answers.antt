@@ -8,7 +8,6 @@ use Rattle.pod.specs.Sound.{instruction_sound}
 use Rattle.pod.specs.Written.{instruction_bytes}
 use Rattle.laws.proofs.Layouts.{instruction_layout}
 use Rattle.laws.proofs.Walks.{fills, walked_counted}
-use borrow.Author.Rules.{rules}
 use Rattle.block.proofs.then_instructions.Goals as goal
 
 pub returns-in-Value : goal.returns-in-Value

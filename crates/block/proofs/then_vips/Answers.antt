@@ -4,7 +4,6 @@ use Rattle.fields.specs.Answers.{of_skip}
 use Rattle.fields.proofs.Chain.{seen-past, seen-refused}
 use Rattle.fields.proofs.Steps.{on, off}
 use Rattle.pod.specs.Written.{passing}
-use borrow.Author.Rules.{rules}
 use Rattle.block.proofs.then_vips.Goals as goal
 
 pub returns-in-Past-list : goal.returns-in-Past-list

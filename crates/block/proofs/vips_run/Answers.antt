@@ -7,7 +7,6 @@ use borrow.Author.Tests.{leb-true, leb-false}
 use Rattle.fields.specs.Parse.{u64}
 use Rattle.fields.proofs.Many.{run_end}
 use Rattle.block.proofs.Fixed.{run-within, run_short}
-use borrow.Author.Rules.{rules}
 use Rattle.block.proofs.vips_run.Goals as goal
 use Rattle.block.proofs.vips_run.Goals.{Then-within}
 
