@@ -1,7 +1,7 @@
 -- What stands where in a part that was accepted: its numbers, and its lists and smaller parts, each where the one before it ends. Each layout's equation is
 -- taken apart field by field; a field ends as many bytes further as it has, and a list as many as its written form has.
 -- Assumes nothing.
-use mathlib.Core.Path.{◌≡◌, refl, sym, ap, ◌∙◌}
+use mathlib.Core.Path.{◌≡◌, sym, ap, ◌∙◌}
 use mathlib.Core.List.{List}
 use mathlib.Core.Bool.{Bool, not}
 use Prim.Native.Nat.{ℕ, ◌+◌, ◌-◌, ◌*◌, ◌≤◌}
@@ -9,7 +9,7 @@ use native.Mathlib.Omega.{arith}
 use lib.Dec.{eqb}
 use lib.IntN.{ℤ}
 use lib.ListN.{length, get_or}
-use mir.Syntax.{w32, w64}
+use mir.Syntax.{w64}
 use Rattle.fields.specs.Parse.{ok, Reader, le, uint, int, many, counted, flag, pad, u64, i64}
 use Rattle.fields.specs.Bytes.{Bytes}
 use Rattle.fields.proofs.Le.{uint-is}
@@ -20,13 +20,13 @@ use Rattle.pod.specs.Written.{bytes, counted_bytes, block_head_bytes, register_b
 use Rattle.pod.specs.declared.RegisterDesc.{RegisterDesc}
 use Rattle.laws.proofs.Took.{uint-took, counted-spans}
 use Rattle.laws.proofs.Consumed.{register-took}
-use Rattle.laws.proofs.Layouts.{Layout, read-to, instruction_layout, convention_layout, block_layout}
+use Rattle.laws.proofs.Layouts.{read-to, instruction_layout, convention_layout}
 use Rattle.laws.proofs.Place.{counted_is}
 use Rattle.laws.proofs.Sizes.{register-size, routine-head-size, counted-size}
 use Rattle.laws.proofs.Walks.{fills, counted_fills}
 use Rattle.ends.specs.Ends.{word}
 use Rattle.ends.proofs.Steps.{value, word-is}
-use Rattle.pread.specs.Answers.{param_list, retval_list, instruction_list, prev_list, next_list, first_convention, block_list}
+use Rattle.pread.specs.Answers.{param_list, retval_list, prev_list, next_list, block_list}
 
 -- what holds of an answer, by its other name
 carried : {A : Type 0} (P : A → ℕ → Type 0) {a b : A} {m n : ℕ} → ok a m ≡ ok b n → P a m → P b n

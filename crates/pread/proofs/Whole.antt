@@ -2,7 +2,7 @@
 -- the refusal. A part that was accepted is taken apart (Parts.antt): its lists stand where the answer says, so the calls read their elements one after the
 -- other; and an instruction's value tells its operands, of which there are at most three.
 -- Assumes nothing.
-use mathlib.Core.Path.{◌≡◌, refl, sym, ap, ◌∙◌}
+use mathlib.Core.Path.{◌≡◌, refl, ap, ◌∙◌}
 use mathlib.Core.Bool.{Bool, true, false, not}
 use mathlib.Core.List.{List, [], ◌∷◌, map}
 use Prim.Native.Nat.{ℕ, zero, suc, ◌+◌, ◌≤◌, ◌<◌}
@@ -18,8 +18,8 @@ use Rattle.fields.proofs.Invert.{inv, inv_ok}
 use Rattle.fields.proofs.Outcomes.{unless_off}
 use Rattle.pod.specs.Values.{Instruction, RoutineConvention, BasicBlock, Routine}
 use Rattle.pod.specs.Layout.{register, instruction, convention, block, routine}
-use Rattle.pod.specs.Written.{bytes, bit, header_bytes, block_head_bytes}
-use Rattle.pod.specs.Descs.{operand_desc, desc_operand, places, instruction_desc, desc_instruction, used_operands}
+use Rattle.pod.specs.Written.{bytes, bit, header_bytes}
+use Rattle.pod.specs.Descs.{operand_desc, desc_operand, places, instruction_desc, desc_instruction}
 use Rattle.pod.specs.declared.RegisterDesc.{RegisterDesc}
 use Rattle.pod.specs.declared.Operand.{Operand}
 use Rattle.pod.specs.declared.Operand.TheVariants.{Imm, Reg}

@@ -1,6 +1,5 @@
 -- The fast way to an operation: where the table knows the name, and the operand count after it is the one that it has.
 use native.Mathlib.Omega.{arith}
-use mathlib.Core.Path.{◌∙◌, sym}
 use Prim.Native.Nat.{◌+◌}
 use lib.ListN.{take, drop}
 use Rattle.op.specs.Packed.{Known}
@@ -14,7 +13,7 @@ known c = c.fast_lookup-code.ensures (omega (arith, c.if-code-gt255.false)) _ _ 
 
 pub returns : goal.returns
 returns c h =
-    found _ _ _ _ (omega arith) c.four-n.ensures (known (goal.at.returns c).Else-code-gt255) (sym c.four.ensures ∙ c.if-four-code.false)
+    found _ _ _ _ (omega arith) c.four-n.ensures (known (goal.at.returns c).Else-code-gt255) (omega (arith, c.four.ensures))
 
 pub returns-then-s-at : goal.returns-then-s-at
 returns-then-s-at c h = absurd (omega arith)
@@ -30,6 +29,3 @@ overflow_add-a-2 c = omega (arith, (known c).short)
 
 pub four-requires : goal.four-requires
 four-requires c = omega (arith, (known c).short)
-
-pub returns-then-four-code : goal.returns-then-four-code
-returns-then-four-code c h = absurd (omega arith)

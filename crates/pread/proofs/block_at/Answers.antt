@@ -11,7 +11,6 @@ use Rattle.pod.specs.Written.{block_bytes, walked}
 use Rattle.block.proofs.Walk.{block_walked}
 use Rattle.pread.specs.Answers.{block_read, prev_list, next_list, end_of}
 use Rattle.pread.proofs.Found.{accepts, refuses, block_room, instructions-end, prevs-end}
-use borrow.Author.Rules.{rules}
 use Rattle.pread.proofs.block_at.Goals as goal
 use Rattle.pread.proofs.block_at.Goals.{After-then_vips-nexts, In-Past}
 

@@ -2,7 +2,6 @@
 use mir.Syntax.{w64}
 use mir.ValLaws.{to_z-of_z}
 use Rattle.pread.proofs.Found.{block-found}
-use borrow.Author.Rules.{rules}
 use Rattle.pread.proofs.block_there.Goals as goal
 
 pub returns : goal.returns

@@ -9,7 +9,6 @@ use Rattle.pod.specs.Written.{convention_bytes}
 use Rattle.laws.proofs.Walks.{convention-within, walked-past}
 use Rattle.pread.specs.Answers.{convention_read}
 use Rattle.pread.proofs.Found.{accepts, refuses}
-use borrow.Author.Rules.{rules}
 use Rattle.pread.proofs.convention_at.Goals as goal
 use Rattle.pread.proofs.convention_at.Goals.{In-Past}
 

@@ -1,6 +1,5 @@
 -- Each number is what stands in the convention, and each list ends where its count says.
 use Rattle.pread.proofs.Found.{convention-found}
-use borrow.Author.Rules.{rules}
 use Rattle.pread.proofs.convention_there.Goals as goal
 
 pub returns : goal.returns

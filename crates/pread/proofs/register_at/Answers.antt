@@ -3,7 +3,6 @@ use mathlib.Core.Path.{sym, ap, ◌∙◌}
 use Rattle.fields.proofs.Steps.{handed}
 use Rattle.pod.specs.Answers.{of_register}
 use Rattle.pread.specs.Answers.{register_read}
-use borrow.Author.Rules.{rules}
 use Rattle.pread.proofs.register_at.Goals as goal
 
 pub returns-in-Value : goal.returns-in-Value

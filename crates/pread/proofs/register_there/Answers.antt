@@ -4,7 +4,6 @@ use Rattle.fields.specs.Parse.{Res, ok, no}
 use Rattle.pod.specs.Answers.{of_register}
 use Rattle.pod.specs.Descs.{no_register}
 use Rattle.pod.specs.declared.RegisterDesc.{RegisterDesc}
-use borrow.Author.Rules.{rules}
 use Rattle.pread.proofs.register_there.Goals as goal
 
 abbrev value : Res RegisterDesc → RegisterDesc

@@ -12,7 +12,6 @@ use Rattle.routine.specs.Head.{head_walked}
 use Rattle.routine.proofs.Walk.{routine-walked}
 use Rattle.pread.specs.Answers.{routine_read, block_list, end_of}
 use Rattle.pread.proofs.Found.{accepts, refuses, routine-room, head-end}
-use borrow.Author.Rules.{rules}
 use Rattle.pread.proofs.routine_at.Goals as goal
 use Rattle.pread.proofs.routine_at.Goals.{After-then_blocks-whole, In-Past}
 

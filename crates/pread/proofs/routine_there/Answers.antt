@@ -2,7 +2,6 @@
 use Prim.Native.Nat.{◌+◌}
 use native.Mathlib.Omega.{arith}
 use Rattle.pread.proofs.Found.{routine-found}
-use borrow.Author.Rules.{rules}
 use Rattle.pread.proofs.routine_there.Goals as goal
 
 pub returns : goal.returns

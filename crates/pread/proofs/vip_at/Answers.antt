@@ -3,7 +3,6 @@ use mathlib.Core.Path.{sym, ap, ◌∙◌}
 use Rattle.fields.specs.Answers.{of_u64}
 use Rattle.fields.proofs.Steps.{handed}
 use Rattle.pread.specs.Answers.{vip_read}
-use borrow.Author.Rules.{rules}
 use Rattle.pread.proofs.vip_at.Goals as goal
 
 pub returns-in-Value : goal.returns-in-Value

@@ -27,14 +27,8 @@ most false v e = omega arith
 pub returns : goal.returns
 returns c h =
     let a = c.args in
-    fills a.s.now a.at c.requires a.used c.kept-mark.result (mark (goal.at.returns c).After-kept-mark) (omega (arith, c.if-mark-gt2.false)) c.fast_register-register.ensures (omega (arith, c.if-register-gt2.false))
+    fills a.s.now a.at c.requires a.used c.kept-mark.result (mark (goal.at.returns c).After-kept-mark) (omega arith) c.fast_register-register.ensures (omega arith)
     c.fast_immediate-immediate.ensures c.kept.ensures c.kept-2.ensures c.kept-kind.ensures
-
-pub returns-then-mark-gt2 : goal.returns-then-mark-gt2
-returns-then-mark-gt2 c h = absurd (omega (arith, c.unfilled.ensures))
-
-pub returns-then-register-gt2 : goal.returns-then-register-gt2
-returns-then-register-gt2 c h = absurd (omega (arith, c.unfilled-then-register-gt2.ensures))
 
 pub overflow_add-size : goal.overflow_add-size
 overflow_add-size c = omega (arith, most _ _ c.kept.ensures, most _ _ c.kept-2.ensures)
