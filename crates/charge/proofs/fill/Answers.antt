@@ -28,7 +28,7 @@ pub offset_bounds-rate-group_of : goal.offset_bounds-rate-group_of
 offset_bounds-rate-group_of c = record { fits = omega (arith, grouped c) }
 
 pub bounds-rate-group_of : goal.bounds-rate-group_of
-bounds-rate-group_of c = grouped c
+bounds-rate-group_of c = omega (arith, grouped c)
 
 pub loop-op-smaller : goal.loop-op-smaller
 loop-op-smaller c = simp length-set (omega arith)

@@ -8,7 +8,7 @@ pub returns-then-room-n : goal.returns-then-room-n
 returns-then-room-n c =
     let a = c.args in
     λ x e. c.refuse_opening.ensures _ _ (omega arith)
-    ∙ no_room a.file.now c.type_inv.file a.n x e a.image.now a.journal.now a.rates.rate (omega (arith, c.if-room-n.true))
+    ∙ no_room a.file.now c.type_inv.file a.n x e a.image.now a.journal.now a.rates.rate (omega arith)
 
 pub returns : goal.returns
 returns c =
@@ -16,5 +16,5 @@ returns c =
     λ x e.
     let p = c.put_written-sum.ensures x e in
     c.accept.ensures _ _
-    ∙ in_place a.file.now c.type_inv.file a.n x e a.image.now a.journal.now a.rates.rate (omega (arith, c.if-room-n.false)) _ _ _
+    ∙ in_place a.file.now c.type_inv.file a.n x e a.image.now a.journal.now a.rates.rate (omega arith) _ _ _
     p.0 c.clear.ensures c.clear-2.ensures p.1
