@@ -48,6 +48,7 @@ fn then_mark(s: &[u8], far: Skip, k: usize, mark: u64) -> Skip
 }
 
 // The machine byte, after what was passed over so far.
+#[tactic(auto, unfolding(crate::specs::Header::arch_id_byte, fields::specs::Parse::bind, fields::specs::Lists::choose))]
 fn then_arch_id(s: &[u8], far: Skip) -> Skip
     ensures { of_skip result ≡ bind (of_skip far) (λ _ n. arch_id_byte s.now n) }
 {
