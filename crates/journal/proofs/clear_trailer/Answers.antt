@@ -3,7 +3,6 @@ use mathlib.Core.Path.{◌≡◌, refl, ap, ◌∙◌}
 use Prim.Native.Nat.{◌-◌}
 use native.Mathlib.Omega.{arith}
 use Rattle.fields.specs.Bytes.{put, zeros}
-use borrow.Author.Rules.{rules}
 use Rattle.journal.proofs.clear_trailer.Goals as goal
 
 pub returns : goal.returns

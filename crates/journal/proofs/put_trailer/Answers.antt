@@ -1,6 +1,5 @@
 -- `journal::put_trailer` meets its contract: the four stores side by side are one.
 use Rattle.journal.proofs.Trailers.{put_fields}
-use borrow.Author.Rules.{rules}
 use Rattle.journal.proofs.put_trailer.Goals as goal
 
 pub returns : goal.returns

@@ -2,7 +2,6 @@
 use Rattle.fields.specs.Bytes.{Bytes}
 use Rattle.fields.proofs.Le.{le_lt}
 use Rattle.journal.proofs.Trailers.{trailer-at}
-use borrow.Author.Rules.{rules}
 use Rattle.journal.proofs.read_trailer.Goals as goal
 use Rattle.journal.proofs.read_trailer.Goals.{After-eight}
 
