@@ -1,6 +1,5 @@
 -- `book::accept_walk` meets its contract: by what the struct says.
 use mathlib.Core.Path.{ap, ◌∙◌}
-use borrow.Author.Rules.{rules}
 use Rattle.book.specs.Says.{leaving}
 use Rattle.book.proofs.Answers.{accepts}
 use Rattle.book.proofs.accept_walk.Goals as goal

@@ -5,7 +5,6 @@ use Prim.Native.Nat.{ℕ, ◌+◌, ◌-◌, ◌≤◌, ◌^◌}
 use native.Mathlib.Omega.{arith}
 use lib.Dec.{leb, ltb}
 use borrow.Author.Tests.{leb-true, leb-false, lt-ltb, le-ltb}
-use borrow.Author.Rules.{rules}
 use Rattle.book.proofs.can_add.Goals as goal
 
 enough : (sum more : ℕ) → sum ≤ 0xffffffffffffffff → leb more (0xffffffffffffffff - sum) ≡ ltb (sum + more) (2 ^ 64)

@@ -1,6 +1,5 @@
 -- `book::hand_out` meets its contract: by what the struct says.
 use mathlib.Core.Path.{ap}
-use borrow.Author.Rules.{rules}
 use Rattle.book.specs.Says.{handing}
 use Rattle.book.proofs.hand_out.Goals as goal
 
