@@ -13,7 +13,6 @@ use Rattle.ends.specs.Ends.{word}
 use Rattle.image.proofs.Inspects.{Ready, ready, refused-by}
 use Rattle.image.proofs.Stands.{word_at, machine-at, entry_at}
 use Rattle.look.specs.Answers.{routine_look}
-use borrow.Author.Rules.{rules}
 use Rattle.look.proofs.look_routine.Goals as goal
 use Rattle.look.proofs.look_routine.Goals.{Else-refusal-ne0}
 

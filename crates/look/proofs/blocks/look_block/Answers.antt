@@ -6,7 +6,6 @@ use mir.ValLaws.{to_z-of_z}
 use Rattle.laws.proofs.Layouts.{read-holds, block_layout}
 use Rattle.pread.specs.Answers.{block_read}
 use Rattle.look.specs.Answers.{block_look}
-use borrow.Author.Rules.{rules}
 use Rattle.look.proofs.blocks.look_block.Goals as goal
 
 pub returns-then-b-ne0 : goal.returns-then-b-ne0

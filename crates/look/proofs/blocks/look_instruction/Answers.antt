@@ -12,7 +12,6 @@ use Rattle.look.specs.Answers.{instruction_look}
 use Rattle.look.specs.Reached.{Standing}
 use Rattle.look.proofs.Reaches.{element-no, refused_on, goes_on}
 use Rattle.look.proofs.InBlock.{instructions-listed, instruction-stands}
-use borrow.Author.Rules.{rules}
 use Rattle.look.proofs.blocks.look_instruction.Goals as goal
 use Rattle.look.proofs.blocks.look_instruction.Goals.{After-word32-count, Else-b-ne0}
 

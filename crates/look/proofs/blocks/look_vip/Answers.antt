@@ -12,7 +12,6 @@ use Rattle.look.specs.Answers.{vip_look}
 use Rattle.look.specs.Reached.{Standing, Lists}
 use Rattle.look.proofs.Reaches.{refused_on, goes_on}
 use Rattle.look.proofs.Listing.{vip-sized, element-past, element-there, element-room}
-use borrow.Author.Rules.{rules}
 use Rattle.look.proofs.blocks.look_vip.Goals as goal
 use Rattle.look.proofs.blocks.look_vip.Goals.{After-vips_of-vips, Else-b-ne0, Else-vips-place}
 

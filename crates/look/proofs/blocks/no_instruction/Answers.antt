@@ -1,6 +1,5 @@
 -- The zeros are those of a refused reading.
 use Rattle.value.specs.Answers.{instruction_read}
-use borrow.Author.Rules.{rules}
 use Rattle.look.proofs.blocks.no_instruction.Goals as goal
 
 pub returns : goal.returns

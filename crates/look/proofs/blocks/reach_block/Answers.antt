@@ -13,7 +13,6 @@ use Rattle.image.proofs.Inspects.{Ready, ready}
 use Rattle.image.proofs.Stands.{blocks_at}
 use Rattle.ends.proofs.Same.{block_ends}
 use Rattle.look.proofs.Reaches.{element-no, element-read, hands_on, finds_none, comes_to}
-use borrow.Author.Rules.{rules}
 use Rattle.look.proofs.blocks.reach_block.Goals as goal
 use Rattle.look.proofs.blocks.reach_block.Goals.{Else-refusal-ne0}
 

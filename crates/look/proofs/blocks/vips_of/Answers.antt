@@ -6,7 +6,6 @@ use Rattle.fields.specs.Lists.{choose}
 use Rattle.fields.specs.Parse.{u64}
 use Rattle.look.proofs.Listing.{list-none}
 use Rattle.look.proofs.InBlock.{prev-listed, next-listed}
-use borrow.Author.Rules.{rules}
 use Rattle.look.proofs.blocks.vips_of.Goals as goal
 use Rattle.look.proofs.blocks.vips_of.Goals.{After-block_at-block}
 

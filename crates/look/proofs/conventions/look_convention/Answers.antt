@@ -3,7 +3,6 @@ use mathlib.Core.Path.{sym, ap, ◌∙◌}
 use native.Mathlib.Omega.{arith}
 use Rattle.pread.specs.Answers.{convention_read}
 use Rattle.look.specs.Answers.{convention_look}
-use borrow.Author.Rules.{rules}
 use Rattle.look.proofs.conventions.look_convention.Goals as goal
 
 pub returns-then-c-ne0 : goal.returns-then-c-ne0

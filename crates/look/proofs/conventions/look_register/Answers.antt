@@ -13,7 +13,6 @@ use Rattle.look.specs.Answers.{register_look}
 use Rattle.look.specs.Reached.{Standing, Lists}
 use Rattle.look.proofs.Reaches.{refused_on, goes_on}
 use Rattle.look.proofs.Listing.{register-sized, element-past, element-there, element-room}
-use borrow.Author.Rules.{rules}
 use Rattle.look.proofs.conventions.look_register.Goals as goal
 use Rattle.look.proofs.conventions.look_register.Goals.{After-registers_of-registers, Else-c-ne0, Else-registers-place}
 

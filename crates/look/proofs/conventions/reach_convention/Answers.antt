@@ -7,7 +7,6 @@ use Rattle.book.specs.Says.{state}
 use Rattle.image.proofs.Inspects.{Ready, ready}
 use Rattle.look.proofs.Reaches.{element-no, hands_on, finds_none, comes_to}
 use Rattle.look.proofs.InConvention.{convention-stands}
-use borrow.Author.Rules.{rules}
 use Rattle.look.proofs.conventions.reach_convention.Goals as goal
 use Rattle.look.proofs.conventions.reach_convention.Goals.{Else-refusal-ne0}
 

@@ -6,7 +6,6 @@ use Rattle.fields.specs.Lists.{choose}
 use Rattle.pod.specs.Layout.{register}
 use Rattle.look.proofs.Listing.{list-none}
 use Rattle.look.proofs.InConvention.{volatile-listed, param-listed, retval-listed}
-use borrow.Author.Rules.{rules}
 use Rattle.look.proofs.conventions.registers_of.Goals as goal
 use Rattle.look.proofs.conventions.registers_of.Goals.{After-convention_at-convention}
 
