@@ -1,7 +1,6 @@
 -- `walk::abandon` meets its contract: where the inspection refuses, or no walk is open, so does the step, and else the walk is closed.
 use mathlib.Core.Path.{◌∙◌}
 use native.Mathlib.Omega.{arith}
-use borrow.Author.Rules.{rules}
 use Rattle.walk.proofs.Walked.{spoiled, not_abandoned, abandoned}
 use Rattle.walk.proofs.abandon.Goals as goal
 

@@ -3,7 +3,6 @@
 use mathlib.Core.Path.{◌≡◌, ◌∙◌}
 use native.Mathlib.Omega.{arith}
 use Rattle.fields.specs.Bytes.{Bytes}
-use borrow.Author.Rules.{rules}
 use Rattle.book.proofs.Answers.{hands_nothing}
 use Rattle.walk.proofs.Walked.{spoiled, no-next, ended, handed, small, ordered}
 use Rattle.walk.proofs.next.Goals as goal

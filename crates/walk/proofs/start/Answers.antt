@@ -1,7 +1,6 @@
 -- `walk::start` meets its contract: where the inspection refuses, for an open walk too, so does the step, and else a walk begins.
 use mathlib.Core.Path.{◌∙◌}
 use native.Mathlib.Omega.{arith}
-use borrow.Author.Rules.{rules}
 use Rattle.walk.proofs.Walked.{not_started, started}
 use Rattle.walk.proofs.start.Goals as goal
 
