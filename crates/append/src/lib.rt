@@ -66,6 +66,7 @@ fn insert_instruction(image: &mut [u8], at: usize, end: usize, written: usize, i
 }
 
 // Whether the engine leaves a block at the operation: js, jmp, vexit and vxcall.
+#[tactic(auto, using(crate::proofs::Closed::leaving, crate::proofs::Closed::before_them, crate::proofs::Closed::behind_them))]
 fn leaves_block(op: usize) -> bool
     ensures { result ≡ leaves_block op }
 {

@@ -210,7 +210,7 @@ put_trailer-requires c = (room (goal.at.put_trailer-requires c).Else-refusal-ne0
 -- the sum with the instruction fits
 pub overflow_add-sum : goal.overflow_add-sum
 overflow_add-sum c =
-    record { fits = ltb-true (c.args.book.sum + more (goal.at.overflow_add-sum c).After-can_add) (2 ^ 64) (sym c.can_add.ensures ∙ c.if-not-can_add.false) }
+    let l = ltb-true (c.args.book.sum + more (goal.at.overflow_add-sum c).After-can_add) (2 ^ 64) (sym c.can_add.ensures ∙ c.if-not-can_add.false) in omega (arith, l)
 
 pub returns : goal.returns
 returns c =

@@ -116,7 +116,7 @@ pub swap_insert-requires : goal.swap_insert-requires
 swap_insert-requires c = let here = goal.at.swap_insert-requires c in record { r = R here.Start; insertable = insertable here.Else-refusal-ne0 }
 
 pub overflow_add-sum : goal.overflow_add-sum
-overflow_add-sum c = record { fits = within_64 (goal.at.overflow_add-sum c).After-can_add (c.if-not-can_add.false) }
+overflow_add-sum c = omega (arith, within_64 (goal.at.overflow_add-sum c).After-can_add c.if-not-can_add.false)
 
 pub returns : goal.returns
 returns c =
