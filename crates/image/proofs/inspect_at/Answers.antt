@@ -14,7 +14,7 @@ use Rattle.image.specs.Inspected.{FindsBlock}
 use Rattle.image.proofs.Inspects.{Within, part, rest_is_zero, too_large_image, too_large_journal, past-image, past-journal, spoiled, not_zero, stands, astray, sound, found, none_found}
 use borrow.Author.Tests.{leb-true, leb-false, not-true, not-false}
 use Rattle.image.proofs.inspect_at.Goals as goal
-use Rattle.image.proofs.inspect_at.Goals.{After-is_lent, Else-image-written, Else-journal-used, Else-not-is_lent, Else-not-is_lent-2, Else-not-is_zero, Else-not-passed}
+use Rattle.image.proofs.inspect_at.Goals.{After-is_lent, Else-image-written, After-place_of, Else-not-is_lent, Else-not-is_lent-2, Else-not-is_zero, Else-not-passed}
 
 abbrev lent : After-is_lent → State
 lent c = let args = c.args in state args.image.now args.journal.now args.book
@@ -33,17 +33,17 @@ journal_lent c = leb-true _ _ (sym c.is_lent-2.ensures ∙ c.if-not-is_lent-2.fa
 written : (c : Else-image-written) → (S (goal.at.Else-image-written c).Else-not-is_lent-2).book.written ≤ length (S (goal.at.Else-image-written c).Else-not-is_lent-2).image
 written c = omega (arith, c.if-image-written.false)
 
-within : (c : Else-journal-used) → Within (S (goal.at.Else-journal-used c).Else-not-is_lent-2)
+within : (c : After-place_of) → Within (S (goal.at.After-place_of c).Else-not-is_lent-2)
 within c =
-    let here = goal.at.Else-journal-used c in
+    let here = goal.at.After-place_of c in
     record {
       image_lent = image_lent here.Else-not-is_lent;
       journal_lent = journal_lent here.Else-not-is_lent-2;
       written = written here.Else-image-written;
-      used = omega (arith, c.if-journal-used.false);
+      used = omega arith;
     }
 
-bytes : (c : Else-journal-used) → Bytes (S (goal.at.Else-journal-used c).Else-not-is_lent-2).image
+bytes : (c : After-place_of) → Bytes (S (goal.at.After-place_of c).Else-not-is_lent-2).image
 bytes c = c.type_inv.image
 
 one : (c : Else-not-passed) → is_routine (part (S (goal.at.Else-not-passed c).Else-not-is_lent-2)) ≡ true
@@ -72,7 +72,7 @@ returns-then-image-written c =
 pub returns-then-journal-used : goal.returns-then-journal-used
 returns-then-journal-used c =
     let here = goal.at.returns-then-journal-used c in
-    refuses _ c.refuse-then-journal-used.ensures (past-journal (S here.Else-not-is_lent-2) (image_lent here.Else-not-is_lent) (journal_lent here.Else-not-is_lent-2) (written here.Else-image-written) (omega (arith, c.if-journal-used.true))) (λ z. omega arith)
+    refuses _ c.refuse-then-journal-used.ensures (past-journal (S here.Else-not-is_lent-2) (image_lent here.Else-not-is_lent) (journal_lent here.Else-not-is_lent-2) (written here.Else-image-written) (omega arith)) (λ z. omega arith)
 
 pub slice_bounds-pass_image-end : goal.slice_bounds-pass_image-end
 slice_bounds-pass_image-end c = let here = goal.at.slice_bounds-pass_image-end c in let s = S here.Else-not-is_lent-2 in omega (arith, length-take s.book.written s.image, written here.Else-image-written)
@@ -80,25 +80,25 @@ slice_bounds-pass_image-end c = let here = goal.at.slice_bounds-pass_image-end c
 pub returns-then-not-passed : goal.returns-then-not-passed
 returns-then-not-passed c =
     let here = goal.at.returns-then-not-passed c in
-    refuses _ c.refuse-then-not-passed.ensures (spoiled (S here.Else-not-is_lent-2) (bytes here.Else-journal-used) (within here.Else-journal-used) (sym c.pass_image-passed.ensures.0 ∙ not-true _ c.if-not-passed.true)) (λ z. omega arith)
+    refuses _ c.refuse-then-not-passed.ensures (spoiled (S here.Else-not-is_lent-2) (bytes here.After-place_of) (within here.After-place_of) (sym c.pass_image-passed.ensures.0 ∙ not-true _ c.if-not-passed.true)) (λ z. omega arith)
 
 pub returns-then-not-is_zero : goal.returns-then-not-is_zero
 returns-then-not-is_zero c =
     let here = goal.at.returns-then-not-is_zero c in
-    refuses _ c.refuse-then-not-is_zero.ensures (not_zero (S here.Else-not-is_lent-2) (bytes here.Else-journal-used) (within here.Else-journal-used) (one here.Else-not-passed) (sym c.is_zero.ensures ∙ c.if-not-is_zero.true)) (λ z. omega arith)
+    refuses _ c.refuse-then-not-is_zero.ensures (not_zero (S here.Else-not-is_lent-2) (bytes here.After-place_of) (within here.After-place_of) (one here.Else-not-passed) (sym c.is_zero.ensures ∙ c.if-not-is_zero.true)) (λ z. omega arith)
 
 pub returns-then-not-walk_fits : goal.returns-then-not-walk_fits
 returns-then-not-walk_fits c =
     let here = goal.at.returns-then-not-walk_fits c in
     let s = S here.Else-not-is_lent-2 in
     refuses _ c.refuse-then-not-walk_fits.ensures
-    (astray s (bytes here.Else-journal-used) (within here.Else-journal-used) (one here.Else-not-passed) (zero-after here.Else-not-is_zero) (sym (c.walk_fits.ensures _ (stands s (bytes here.Else-journal-used) (within here.Else-journal-used) (one here.Else-not-passed))) ∙ c.if-not-walk_fits.true)) (λ z. omega arith)
+    (astray s (bytes here.After-place_of) (within here.After-place_of) (one here.Else-not-passed) (zero-after here.Else-not-is_zero) (sym (c.walk_fits.ensures _ (stands s (bytes here.After-place_of) (within here.After-place_of) (one here.Else-not-passed))) ∙ c.if-not-walk_fits.true)) (λ z. omega arith)
 
 pub returns : goal.returns
 returns c =
     let here = goal.at.returns c in
     let s = S here.Else-not-is_lent-2 in
-    let fits = sym (c.walk_fits.ensures _ (stands s (bytes here.Else-journal-used) (within here.Else-journal-used) (one here.Else-not-passed))) ∙ c.if-not-walk_fits.false in (
-      sound s (bytes here.Else-journal-used) (within here.Else-journal-used) (one here.Else-not-passed) (zero-after here.Else-not-is_zero) fits,
-      found s (bytes here.Else-journal-used) (within here.Else-journal-used) (one here.Else-not-passed) (zero-after here.Else-not-is_zero) fits c.place_of.ensures c.pass_image-passed.ensures.1,
+    let fits = sym (c.walk_fits.ensures _ (stands s (bytes here.After-place_of) (within here.After-place_of) (one here.Else-not-passed))) ∙ c.if-not-walk_fits.false in (
+      sound s (bytes here.After-place_of) (within here.After-place_of) (one here.Else-not-passed) (zero-after here.Else-not-is_zero) fits,
+      found s (bytes here.After-place_of) (within here.After-place_of) (one here.Else-not-passed) (zero-after here.Else-not-is_zero) fits c.place_of.ensures c.pass_image-passed.ensures.1,
     )
