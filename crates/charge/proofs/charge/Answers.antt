@@ -1,4 +1,5 @@
 -- 10 and 13 by the inspection; then the sum over the blocks that the image holds, which fits, rounded up.
+use mathlib.Core.Path.{◌≡◌}
 use Prim.Native.Nat.{ℕ, ◌≤◌}
 use native.Mathlib.Omega.{arith}
 use lib.ListN.{get_or}
@@ -8,27 +9,27 @@ use Rattle.machine.proofs.Sums.{most_rate}
 use Rattle.charge.proofs.Rated.{rates-small}
 use Rattle.charge.proofs.Charged.{refused_charge, blocks-read, summable, accepted_charge}
 use Rattle.charge.proofs.charge.Goals as goal
-use Rattle.charge.proofs.charge.Goals.{Else-refusal-ne0, Start}
+use Rattle.charge.proofs.charge.Goals.{After-inspect-refusal, Start}
 
-inspected : (c : Else-refusal-ne0) → let a = c.args in Ready (state a.image.now a.journal.now a.book)
-inspected c = ready _ c.type_inv.image c.inspect-refusal.ensures (omega (arith, c.if-refusal-ne0.false))
+inspected : (c : After-inspect-refusal) → c.inspect-refusal.result ≡ 0 → let a = c.args in Ready (state a.image.now a.journal.now a.book)
+inspected c z = ready _ c.type_inv.image c.inspect-refusal.ensures z
 
 -- a rate has 32 bits: what the type of the fourth argument says of its one field, an array
 small : (c : Start) (g : ℕ) → get_or c.args.rates.rate g 0 ≤ most_rate
 small c = let t = c.well_formed.1.1.1.0.1.1.0 in rates-small c.args.rates.rate t.0 t.1.1
 
 pub returns-then-refusal-ne0 : goal.returns-then-refusal-ne0
-returns-then-refusal-ne0 c = refused_charge c.args.rates.rate _ (refused-by _ c.inspect-refusal.ensures (λ z. omega (arith, c.if-refusal-ne0.true)))
+returns-then-refusal-ne0 c = refused_charge c.args.rates.rate _ (refused-by _ c.inspect-refusal.ensures (λ z. omega arith))
 
 pub blocks_sum-all-requires : goal.blocks_sum-all-requires
 blocks_sum-all-requires c =
     let here = goal.at.blocks_sum-all-requires c in
-    let r = inspected here.Else-refusal-ne0 in
+    let r = inspected here.After-inspect-refusal (omega arith) in
     let b = c.blocks_of-blocks.ensures _ r.holding in
     summable r b.0 b.1 _ c.fill.ensures (small here.Start)
 
 pub returns : goal.returns
 returns c =
-    let r = inspected (goal.at.returns c).Else-refusal-ne0 in
+    let r = inspected (goal.at.returns c).After-inspect-refusal (omega arith) in
     let b = c.blocks_of-blocks.ensures _ r.holding in
     accepted_charge c.args.rates.rate r (c.blocks_sum-all.ensures _ c.fill.ensures _ _ (blocks-read r b.0 b.1)).0 c.cents_of.ensures
