@@ -3,7 +3,7 @@
 
 usage: python3 tools/port_names.py        at the top of the repository
 
-Types, records and facts are in upper camel case, everything else is in snake case; a dash stays only in a lemma's name that joins the names of things
+Types, records and facts are in upper camel case, everything else is in snake case (`operandEnd` too); a dash stays only in a lemma's name that joins the names of things
 (`length-put`). Functions of src/, exported names, strings and prose keep their spelling. The script prints names that now stand for more than one thing,
 and says where that is in one file.
 """
@@ -70,8 +70,12 @@ def main():
         for m in re.finditer(r"^use (?!Rattle\.(?!std))[^{\n]*\{([^}]*)\}", t, re.M):
             std |= {w.strip().split(" as ")[0] for w in m.group(1).split(",")}
     known = {n for n in std if "-" not in n} | {n for n, d in declared.items() if True in d and "-" not in n}
-    mapping = {}
+    # a parameter and an alias, which no line declares
+    mapping = {"image-length": "image_length", "machine-book": "machine_book"}
     for name, kinds in declared.items():
+        if re.match(r"^[a-z]+[A-Z][A-Za-z]*$", name) and True in kinds:
+            mapping[name] = re.sub("[A-Z]", lambda m: "_" + m.group(0).lower(), name)
+            continue
         if "-" not in name.strip("-") or "◌" in name or not re.match(r"^[A-Za-z]", name):
             continue
         if name[0].isupper():

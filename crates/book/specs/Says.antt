@@ -6,14 +6,14 @@ unfoldable pub use Rattle.fields.specs.Outcome.{refusal_of}
 use Rattle.fields.specs.Lists.{choose}
 use Rattle.pod.specs.Values.{Routine}
 use Rattle.machine.specs.Machine as machine
-use Rattle.machine.specs.Book as machine-book
+use Rattle.machine.specs.Book as machine_book
 use Rattle.machine.specs.Book.{State, book_answers, restored}
 use Rattle.machine.specs.CallList.{Told}
 use Rattle.book.specs.declared.Book.{Book}
 use Rattle.book.specs.declared.Answer.{Answer}
 use Rattle.book.specs.declared.WalkAnswer.{WalkAnswer}
 
-abbrev pub book_of : Book → machine-book.Book
+abbrev pub book_of : Book → machine_book.Book
 book_of b = record { written = b.written; used = b.used; rates = b.rates.rate; sum = b.sum; walk = b.walk }
 
 -- the state that a call finds

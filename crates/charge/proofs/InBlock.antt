@@ -9,7 +9,7 @@ use Rattle.fields.specs.Bytes.{Bytes}
 use Rattle.fields.specs.Parse.{ok, many}
 use Rattle.pod.specs.Values.{BasicBlock}
 use Rattle.pod.specs.Layout.{instruction, block}
-use Rattle.ends.specs.Ends.{jump, word, vipsEnd}
+use Rattle.ends.specs.Ends.{jump, word, vips_end}
 use Rattle.ends.proofs.Steps.{jump_in}
 use Rattle.ends.proofs.Same.{vips_ends}
 use Rattle.pread.specs.Answers.{prev_list}
@@ -30,5 +30,5 @@ module _ (s : List ℕ) (y : Bytes s) (o : ℕ) {b : BasicBlock} {n : ℕ} (e : 
         let a-is : a ≡ o + 24 + 4 = f ∙ ap (λ j. jump s j 4) i-is ∙ jump_in s (o + 24) 4 there.fits in
         rw (c-is, a-is) there.each
 
-  pub vips-passed : {k j m : ℕ} → k ≡ prev_list o b → j ≡ vipsEnd s k → m ≡ vipsEnd s j → m ≡ n
-  vips-passed p q f = f ∙ ap (vipsEnd s) (q ∙ ap (vipsEnd s) p ∙ vips_ends s _ (block_at s y o e).prev) ∙ vips_ends s _ (block_at s y o e).next
+  pub vips-passed : {k j m : ℕ} → k ≡ prev_list o b → j ≡ vips_end s k → m ≡ vips_end s j → m ≡ n
+  vips-passed p q f = f ∙ ap (vips_end s) (q ∙ ap (vips_end s) p ∙ vips_ends s _ (block_at s y o e).prev) ∙ vips_ends s _ (block_at s y o e).next

@@ -15,33 +15,33 @@ use Rattle.pod.specs.Blocks.{vips}
 use Rattle.sorting.specs.Counts.{hit, count}
 use Rattle.sorting.specs.Buffer.{TOP}
 use Rattle.sorting.proofs.Counts.{hit-le, hit_other}
-use Rattle.ends.specs.Ends.{word, blockEnd}
+use Rattle.ends.specs.Ends.{word, block_end}
 use Rattle.fields.proofs.Invert.{inv, inv_ok}
 use Rattle.fields.specs.Lists.{choose}
 use Rattle.fields.specs.Bytes.{Bytes}
 use Rattle.ends.proofs.Same.{block_vip, block_ends}
-use Rattle.distinct.specs.Walked.{vipsFrom}
+use Rattle.distinct.specs.Walked.{vips_from}
 
-vips-more : (s : List ℕ) (o n : ℕ) → 0 < n → vipsFrom s o n ≡ word 8 s o ∷ vipsFrom s (blockEnd s o) (n - 1)
-unfolding vipsFrom
+vips-more : (s : List ℕ) (o n : ℕ) → 0 < n → vips_from s o n ≡ word 8 s o ∷ vips_from s (block_end s o) (n - 1)
+unfolding vips_from
 vips-more s o zero h = absurd (not-suc-le-zero h)
 vips-more s o (suc n) h = let e : suc n - 1 ≡ n = omega arith in rw e
 
 -- one block more, from what the walk answers
-pub count-step : (s : List ℕ) (o n v x m : ℕ) → x ≡ word 8 s o → m ≡ blockEnd s o → 0 < n → count v (vipsFrom s o n) ≡ hit v x + count v (vipsFrom s m (n - 1))
+pub count-step : (s : List ℕ) (o n v x m : ℕ) → x ≡ word 8 s o → m ≡ block_end s o → 0 < n → count v (vips_from s o n) ≡ hit v x + count v (vips_from s m (n - 1))
 unfolding count
 count-step s o n v x m p q h = rw (p, q) (ap (count v) (vips-more s o n h))
 
 -- no block
-pub count_none : (s : List ℕ) (o n v : ℕ) → n ≤ 0 → count v (vipsFrom s o n) ≡ 0
-unfolding count vipsFrom
+pub count_none : (s : List ℕ) (o n v : ℕ) → n ≤ 0 → count v (vips_from s o n) ≡ 0
+unfolding count vips_from
 count_none s o n v h = let e : n ≡ 0 = omega arith in rw e
 
 -- at most as often as there are blocks
-pub count-few : (s : List ℕ) (o n v : ℕ) → count v (vipsFrom s o n) ≤ n
-unfolding count vipsFrom
+pub count-few : (s : List ℕ) (o n v : ℕ) → count v (vips_from s o n) ≤ n
+unfolding count vips_from
 count-few s o zero v = omega arith
-count-few s o (suc n) v = omega (arith, hit-le v (word 8 s o), count-few s (blockEnd s o) n v)
+count-few s o (suc n) v = omega (arith, hit-le v (word 8 s o), count-few s (block_end s o) n v)
 
 vip-le : (s : List ℕ) (o : ℕ) → Bytes s → word 8 s o ≤ TOP
 unfolding word choose
@@ -52,13 +52,13 @@ vip-le s o b = go (leb (o + 8) (length s))
     go false = omega arith
 
 -- no number over the highest
-pub none_over : (s : List ℕ) (o n v : ℕ) → Bytes s → TOP < v → count v (vipsFrom s o n) ≡ 0
-unfolding count vipsFrom
+pub none_over : (s : List ℕ) (o n v : ℕ) → Bytes s → TOP < v → count v (vips_from s o n) ≡ 0
+unfolding count vips_from
 none_over s o zero v b h = refl
-none_over s o (suc n) v b h = omega (arith, hit_other v (word 8 s o) (λ e. omega (arith, vip-le s o b)), none_over s (blockEnd s o) n v b h)
+none_over s o (suc n) v b h = omega (arith, hit_other v (word 8 s o) (λ e. omega (arith, vip-le s o b)), none_over s (block_end s o) n v b h)
 
-pub vips-read : (s : List ℕ) (n o : ℕ) {bs : List BasicBlock} {e : ℕ} → many block n s o ≡ ok bs e → vipsFrom s o n ≡ vips bs
-unfolding many vipsFrom
+pub vips-read : (s : List ℕ) (n o : ℕ) {bs : List BasicBlock} {e : ℕ} → many block n s o ≡ ok bs e → vips_from s o n ≡ vips bs
+unfolding many vips_from
 vips-read s zero o {bs} {e} q = ap vips (inv_ok q).0
 vips-read s (suc n) o {bs} {e} q =
     let a = inv (block s o) _ q in

@@ -12,7 +12,7 @@ use Rattle.pod.specs.Blocks.{repeats}
 use Rattle.sorting.specs.Counts.{count}
 use Rattle.sorting.specs.Buffer.{TOP, Sorted, HasRepeat}
 use Rattle.sorting.proofs.Order.{equal?, below?, lt_of}
-use Rattle.distinct.specs.Walked.{vipsFrom, TopTwice, Gathered}
+use Rattle.distinct.specs.Walked.{vips_from, TopTwice, Gathered}
 use Rattle.distinct.proofs.Repeats.{rep_true, rep_false}
 use Rattle.distinct.proofs.Read.{count-few, none_over}
 
@@ -39,19 +39,19 @@ module _ {xs : List ℕ} {lo r : ℕ} {b b' : List ℕ} (g : Gathered xs lo r b)
         once = λ v h. ⊎_elim (λ z. p.once v z) (λ z. omega (arith, g.all pos v z h, s.same v, w.once e v (omega (arith, g.within)))) (below? v lo);
       }
 
-pub pass-end : (s : List ℕ) (o n : ℕ) {size : ℕ} {b : List ℕ} {lo : ℕ} → Bytes s → TopTwice (vipsFrom s o n) false → Passing (vipsFrom s o n) size b lo
-    → TOP ≤ lo → repeats (vipsFrom s o n) ≡ false
-pass-end s o n y t p h = rep_false (vipsFrom s o n) (λ v. ⊎_elim
+pub pass-end : (s : List ℕ) (o n : ℕ) {size : ℕ} {b : List ℕ} {lo : ℕ} → Bytes s → TopTwice (vips_from s o n) false → Passing (vips_from s o n) size b lo
+    → TOP ≤ lo → repeats (vips_from s o n) ≡ false
+pass-end s o n y t p h = rep_false (vips_from s o n) (λ v. ⊎_elim
     (λ z. p.once v (omega arith))
     (λ z. ⊎_elim
-    (λ e. omega (arith, ap (λ (k : ℕ). count k (vipsFrom s o n)) e, t.once refl))
+    (λ e. omega (arith, ap (λ (k : ℕ). count k (vips_from s o n)) e, t.once refl))
     (λ e. omega (arith, none_over s o n v y (lt_of (omega arith) e)))
     (equal? v TOP))
     (below? v TOP))
 
 -- fewer than two
-pub few : (s : List ℕ) (o n : ℕ) → n < 2 → repeats (vipsFrom s o n) ≡ false
-few s o n h = rep_false (vipsFrom s o n) (λ v. omega (arith, count-few s o n v))
+pub few : (s : List ℕ) (o n : ℕ) → n < 2 → repeats (vips_from s o n) ≡ false
+few s o n h = rep_false (vips_from s o n) (λ v. omega (arith, count-few s o n v))
 
 pub not-twice : {xs : List ℕ} {r : Bool} → TopTwice xs r → r ≡ false → TopTwice xs false
 not-twice t e = rw e at t

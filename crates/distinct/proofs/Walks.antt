@@ -13,24 +13,24 @@ use Rattle.sorting.specs.Buffer.{TOP, Cleared, Heap, Under, Sifted}
 use Rattle.sorting.proofs.Order.{equal?, below?, same_at, false-true, true-false}
 use Rattle.sorting.proofs.Counts.{hit_same, hit_other, count_set, count_at, count-only}
 use Rattle.sorting.proofs.Heaps.{root_max}
-use Rattle.ends.specs.Ends.{word, blockEnd}
-use Rattle.distinct.specs.Walked.{vipsFrom, TopTwice, Gathered}
+use Rattle.ends.specs.Ends.{word, block_end}
+use Rattle.distinct.specs.Walked.{vips_from, TopTwice, Gathered}
 use Rattle.distinct.proofs.Repeats.{rep_true}
 use Rattle.distinct.proofs.Read.{count-step, count_none}
 
 -- a block was read at `at`, one of those left: x is its vip, and n its end
 pub record BlockRead (s : List ℕ) (left at x n : ℕ) : Type 0 where
   pub vip : x ≡ word 8 s at
-  pub end : n ≡ blockEnd s at
+  pub end : n ≡ block_end s at
   pub some : 0 < left
 
-counted : {s : List ℕ} {left at x n : ℕ} → BlockRead s left at x n → (v : ℕ) → count v (vipsFrom s at left) ≡ hit v x + count v (vipsFrom s n (left - 1))
+counted : {s : List ℕ} {left at x n : ℕ} → BlockRead s left at x n → (v : ℕ) → count v (vips_from s at left) ≡ hit v x + count v (vips_from s n (left - 1))
 counted {s} {left} {at} {x} {n} r v = count-step s at left v x n r.vip r.end r.some
 
 -- the highest vip was passed `seen` times
 pub record Tops (s xs : List ℕ) (left at seen : ℕ) : Type 0 where
   pub few : seen ≤ 1
-  pub is : count TOP xs ≡ seen + count TOP (vipsFrom s at left)
+  pub is : count TOP xs ≡ seen + count TOP (vips_from s at left)
 
 module _ {s xs : List ℕ} {left at seen x n : ℕ} (r : BlockRead s left at x n) (t : Tops s xs left at seen) where
   pub tops_other : (x ≡ TOP → ⊥) → Tops s xs (left - 1) n seen
@@ -60,10 +60,10 @@ pub record Gathering (s xs : List ℕ) (lo n : ℕ) (b : List ℕ) (left at hi :
   pub heap : Heap b n
   pub top : get_or b 0 0 ≤ hi
   pub low : (v : ℕ) → v < lo → count v b ≡ 0
-  pub only : (v : ℕ) → v < TOP → count v b + count v (vipsFrom s at left) ≤ count v xs
-  pub all : (v : ℕ) → lo ≤ v → v < hi → count v b + count v (vipsFrom s at left) ≡ count v xs
+  pub only : (v : ℕ) → v < TOP → count v b + count v (vips_from s at left) ≤ count v xs
+  pub all : (v : ℕ) → lo ≤ v → v < hi → count v b + count v (vips_from s at left) ≡ count v xs
 
-pub gather_start : (s : List ℕ) (o m lo : ℕ) (b : List ℕ) → 0 < length b → lo < TOP → Cleared b → Gathering s (vipsFrom s o m) lo (length b) b m o TOP
+pub gather_start : (s : List ℕ) (o m lo : ℕ) (b : List ℕ) → 0 < length b → lo < TOP → Cleared b → Gathering s (vips_from s o m) lo (length b) b m o TOP
 gather_start s o m lo b h l c =
     let z : (v : ℕ) → v < TOP → count v b ≡ 0 = λ v w. count-only b TOP v c.at (λ e. omega arith) in
     record {

@@ -3,12 +3,12 @@ use Rattle.std.specs.Prelude.{ℕ, zero, suc, ◌≤◌, ◌<◌, ◌≡◌, Lis
 use Rattle.pod.specs.Blocks.{repeats}
 use Rattle.sorting.specs.Counts.{count}
 use Rattle.sorting.specs.Buffer.{TOP, Heap}
-use Rattle.ends.specs.Ends.{word, blockEnd}
+use Rattle.ends.specs.Ends.{word, block_end}
 
 -- the vips of n blocks from o
-unfoldable pub vipsFrom : List ℕ → ℕ → ℕ → List ℕ
-vipsFrom s o zero = []
-vipsFrom s o (suc n) = word 8 s o ∷ vipsFrom s (blockEnd s o) n
+unfoldable pub vips_from : List ℕ → ℕ → ℕ → List ℕ
+vips_from s o zero = []
+vips_from s o (suc n) = word 8 s o ∷ vips_from s (block_end s o) n
 
 -- r says whether the highest number stands twice
 pub record TopTwice (xs : List ℕ) (r : Bool) : Type 0 where

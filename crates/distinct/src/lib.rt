@@ -8,11 +8,11 @@ ghost use Rattle.pod.specs.Values.{BasicBlock};
 ghost use Rattle.pod.specs.Layout.{block};
 ghost use Rattle.pod.specs.Blocks.{vips, repeats};
 ghost use Rattle.sorting.specs.Buffer.{TOP};
-ghost use Rattle.distinct.specs.Walked.{vipsFrom, TopTwice, Gathered};
+ghost use Rattle.distinct.specs.Walked.{vips_from, TopTwice, Gathered};
 
 // Whether the highest number is the vip of two blocks. Where it is not, it can stand for an empty place in the buffer.
 fn top_twice(s: &[u8], start: usize, count: usize) -> bool
-    ensures { TopTwice (vipsFrom s.now start count) result }
+    ensures { TopTwice (vips_from s.now start count) result }
 {
     let mut left = count;
     let mut at = start;
@@ -35,7 +35,7 @@ fn top_twice(s: &[u8], start: usize, count: usize) -> bool
 // there; or 0 for a repeat.
 fn gather(s: &[u8], start: usize, count: usize, lo: u64, b: &mut [u64]) -> u64
     requires { (0 < length b.old) × (lo < TOP) }
-    ensures { Gathered (vipsFrom s.now start count) lo result b.new }
+    ensures { Gathered (vips_from s.now start count) lo result b.new }
 {
     sorting::clear(b);
     let n = b.len();
@@ -68,8 +68,8 @@ fn gather(s: &[u8], start: usize, count: usize, lo: u64, b: &mut [u64]) -> u64
 
 // Pass after pass, each from where the last one's vips end: every pass but the last settles as many vips as the buffer holds.
 fn passes(s: &[u8], start: usize, count: usize, b: &mut [u64]) -> bool
-    requires { (0 < length b.old) × TopTwice (vipsFrom s.now start count) false }
-    ensures { result ≡ repeats (vipsFrom s.now start count) }
+    requires { (0 < length b.old) × TopTwice (vips_from s.now start count) false }
+    ensures { result ≡ repeats (vips_from s.now start count) }
 {
     let mut lo: u64 = 0;
     while lo < sorting::TOP {
@@ -90,7 +90,7 @@ fn passes(s: &[u8], start: usize, count: usize, b: &mut [u64]) -> bool
 #[tactic(auto, using(crate::proofs::Rounds::few))]
 fn has_repeat_in(s: &[u8], start: usize, count: usize, b: &mut [u64]) -> bool
     requires { 0 < length b.old }
-    ensures { result ≡ repeats (vipsFrom s.now start count) }
+    ensures { result ≡ repeats (vips_from s.now start count) }
 {
     if count < 2 {
         return false;

@@ -20,7 +20,7 @@ use Rattle.pod.specs.declared.RegisterDesc.{RegisterDesc}
 use Rattle.pod.specs.declared.ImmediateDesc.{ImmediateDesc}
 use Rattle.pod.specs.declared.Operand.{Operand}
 use Rattle.pod.specs.declared.Operand.TheVariants.{Imm, Reg}
-use Rattle.ends.specs.Ends.{jump, word, operandEnd, times, instructionEnd, vipsEnd, blockEnd, registersEnd, conventionEnd}
+use Rattle.ends.specs.Ends.{jump, word, operand_end, times, instruction_end, vips_end, block_end, registers_end, convention_end}
 use Rattle.fields.proofs.Invert.{inv, inv_check, inv_ok}
 use Rattle.fields.specs.Lists.{choose}
 use Rattle.ends.proofs.Steps.{jump_in, value, word-is, imm-end, reg_end}
@@ -99,14 +99,14 @@ module _ (s : List ℕ) where
       let z : f.1 ≡ n = (inv_ok f.3).1 in
       rw z at (then (then (then (u_end 8 o a.2) (u_end 8 a.1 b.2)) (i_end 4 b.1 w32 d.2)) (i_end 4 d.1 w32 f.2))
 
-  pub operand_ends : (o : ℕ) {x : Operand} {n : ℕ} → operand s o ≡ ok x n → operandEnd s o ≡ n
+  pub operand_ends : (o : ℕ) {x : Operand} {n : ℕ} → operand s o ≡ ok x n → operand_end s o ≡ n
   unfolding operand choose
   operand_ends o {x} {n} e =
       let a = inv (uint 4 s o) _ e in
       go a.0 a.1 (eqb a.0 0) a.2 refl a.3
     where
       go₂ : (k m : ℕ) (t : Bool) → uint 4 s o ≡ ok k m → (k ≡ 0 → ⊥) → eqb k 1 ≡ t
-          → choose t (bind (register s m) (λ r j. ok (Reg r) j)) (no 6) ≡ ok x n → operandEnd s o ≡ n
+          → choose t (bind (register s m) (λ r j. ok (Reg r) j)) (no 6) ≡ ok x n → operand_end s o ≡ n
       go₂ k m true u z f p =
           let b = inv (register s m) _ p in
           let y : b.1 ≡ n = (inv_ok b.3).1 in
@@ -114,7 +114,7 @@ module _ (s : List ℕ) where
       go₂ k m false u z f p = let y : ◌≡◌ {A = ℕ} 0 1 = cc in absurd (omega arith)
 
       go : (k m : ℕ) (t : Bool) → uint 4 s o ≡ ok k m → eqb k 0 ≡ t
-          → choose t (bind (immediate s m) (λ i j. ok (Imm i) j)) (choose (eqb k 1) (bind (register s m) (λ r j. ok (Reg r) j)) (no 6)) ≡ ok x n → operandEnd s o ≡ n
+          → choose t (bind (immediate s m) (λ i j. ok (Imm i) j)) (choose (eqb k 1) (bind (register s m) (λ r j. ok (Reg r) j)) (no 6)) ≡ ok x n → operand_end s o ≡ n
       go k m true u f p =
           let b = inv (immediate s m) _ p in
           let y : b.1 ≡ n = (inv_ok b.3).1 in
@@ -154,16 +154,16 @@ module _ (s : List ℕ) where
       let u : Further s o 4 a.1 = u_end 4 o a.2 in
       rw (jumps u, u_word 4 o a.2) (jumps (many_flat p k f a.0 a.1 u.in_s a.3))
 
-  pub vips_ends : (o : ℕ) {xs : List ℕ} {n : ℕ} → counted u64 s o ≡ ok xs n → vipsEnd s o ≡ n
-  unfolding vipsEnd
+  pub vips_ends : (o : ℕ) {xs : List ℕ} {n : ℕ} → counted u64 s o ≡ ok xs n → vips_end s o ≡ n
+  unfolding vips_end
   vips_ends o e = flat_ends u64 8 (λ o x n. u_end 8 o) o e
 
-  pub registers_ends : (o : ℕ) {xs : List RegisterDesc} {n : ℕ} → counted register s o ≡ ok xs n → registersEnd s o ≡ n
-  unfolding registersEnd
+  pub registers_ends : (o : ℕ) {xs : List RegisterDesc} {n : ℕ} → counted register s o ≡ ok xs n → registers_end s o ≡ n
+  unfolding registers_end
   registers_ends o e = flat_ends register 24 (λ o x n. register_end o) o e
 
-  pub instruction_ends : (o : ℕ) {x : Instruction} {n : ℕ} → instruction s o ≡ ok x n → instructionEnd s o ≡ n
-  unfolding instruction opcode named after_opcode_by instructionEnd
+  pub instruction_ends : (o : ℕ) {x : Instruction} {n : ℕ} → instruction s o ≡ ok x n → instruction_end s o ≡ n
+  unfolding instruction opcode named after_opcode_by instruction_end
   instruction_ends o {x} {n} e =
       let a = inv _ _ e in
       let size = inv (uint 4 s o) _ a.2 in
@@ -184,13 +184,13 @@ module _ (s : List ℕ) where
       let e₁ : jump s o 4 ≡ size.1 = jumps (u_end 4 o size.2) in
       let e₂ : jump s size.1 size.0 ≡ name.1 = jumps (part_end size.0 size.1 name.2) in
       let e₃ : jump s name.1 4 ≡ a.1 = jumps (u_end 4 name.1 count.2) ∙ k₂ in
-      let e₄ : times (operandEnd s) (get_or counts a.0 0) a.1 ≡ ops.1 = many_ends operand (operandEnd s) (λ o x n. operand_ends o) _ a.1 ops.2 in
+      let e₄ : times (operand_end s) (get_or counts a.0 0) a.1 ≡ ops.1 = many_ends operand (operand_end s) (λ o x n. operand_ends o) _ a.1 ops.2 in
       let e₅ : jump s ops.1 21 ≡ rst.1 =
       jumps (then (then (then (u_end 8 ops.1 vip.2) (i_end 8 vip.1 w64 off.2)) (u_end 4 off.1 idx.2)) (flag_end idx.1 rst.2)) in
       rw (e₁, u_word 4 o size.2, e₂, u_word 4 name.1 count.2, e₃, c₁, e₄) (e₅ ∙ k₃)
 
-  both : (o : ℕ) {b : BasicBlock} {n : ℕ} → block s o ≡ ok b n → (word 8 s o ≡ b.vip) × (blockEnd s o ≡ n)
-  unfolding block blockEnd
+  both : (o : ℕ) {b : BasicBlock} {n : ℕ} → block s o ≡ ok b n → (word 8 s o ≡ b.vip) × (block_end s o ≡ n)
+  unfolding block block_end
   both o {b} {n} e =
       let vip = inv (uint 8 s o) _ e in
       let off = inv _ _ vip.3 in
@@ -205,17 +205,17 @@ module _ (s : List ℕ) where
       let e₁ : jump s o 24 ≡ tmp.1 =
       jumps (then (then (then (u_end 8 o vip.2) (i_end 8 vip.1 w64 off.2)) (u_end 4 off.1 idx.2)) (u_end 4 idx.1 tmp.2)) in
       let e₂ : jump s tmp.1 4 ≡ cnt.1 = jumps (u_end 4 tmp.1 cnt.2) in
-      let e₃ : times (instructionEnd s) cnt.0 cnt.1 ≡ ins.1 = many_ends instruction (instructionEnd s) (λ o x n. instruction_ends o) _ cnt.1 cnt.3 in
+      let e₃ : times (instruction_end s) cnt.0 cnt.1 ≡ ins.1 = many_ends instruction (instruction_end s) (λ o x n. instruction_ends o) _ cnt.1 cnt.3 in
       (u_word 8 o vip.2 ∙ v, rw (e₁, u_word 4 tmp.1 cnt.2, e₂, e₃, vips_ends ins.1 prev.2, vips_ends prev.1 next.2) k)
 
   pub block_vip : (o : ℕ) {b : BasicBlock} {n : ℕ} → block s o ≡ ok b n → word 8 s o ≡ b.vip
   block_vip o e = (both o e).0
 
-  pub block_ends : (o : ℕ) {b : BasicBlock} {n : ℕ} → block s o ≡ ok b n → blockEnd s o ≡ n
+  pub block_ends : (o : ℕ) {b : BasicBlock} {n : ℕ} → block s o ≡ ok b n → block_end s o ≡ n
   block_ends o e = (both o e).1
 
-  pub convention_ends : (o : ℕ) {c : RoutineConvention} {n : ℕ} → convention s o ≡ ok c n → conventionEnd s o ≡ n
-  unfolding convention conventionEnd
+  pub convention_ends : (o : ℕ) {c : RoutineConvention} {n : ℕ} → convention s o ≡ ok c n → convention_end s o ≡ n
+  unfolding convention convention_end
   convention_ends o {c} {n} e =
       let volatile = inv (counted register s o) _ e in
       let param = inv (counted register s volatile.1) _ volatile.3 in

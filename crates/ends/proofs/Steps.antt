@@ -9,7 +9,7 @@ use lib.Dec.{leb}
 use borrow.Author.Tests.{le-leb, lt-leb, eq-eqb, ne_eqb}
 use Rattle.fields.specs.Parse.{Res, ok, no, le, uint}
 use Rattle.fields.specs.Lists.{choose}
-use Rattle.ends.specs.Ends.{jump, word, times, operandEnd, instructionEnd, vipsEnd, blockEnd, registersEnd, conventionEnd}
+use Rattle.ends.specs.Ends.{jump, word, times, operand_end, instruction_end, vips_end, block_end, registers_end, convention_end}
 
 pub jump_in : (s : List ℕ) (o k : ℕ) → o + k ≤ length s → jump s o k ≡ o + k
 unfolding jump choose
@@ -54,42 +54,42 @@ module _ (f : ℕ → ℕ) (n o : ℕ) {q : ℕ} (leads : times f n o ≡ q) whe
   unfolding times
   times-end h = let e : n ≡ 0 = omega arith in rw e at leads
 
-pub imm-end : (s : List ℕ) (o : ℕ) → word 4 s o ≡ 0 → operandEnd s o ≡ jump s (jump s o 4) 12
-unfolding operandEnd choose
+pub imm-end : (s : List ℕ) (o : ℕ) → word 4 s o ≡ 0 → operand_end s o ≡ jump s (jump s o 4) 12
+unfolding operand_end choose
 imm-end s o h = rw (eq-eqb _ _ h)
 
-pub reg_end : (s : List ℕ) (o : ℕ) → (word 4 s o ≡ 0 → ⊥) → operandEnd s o ≡ jump s (jump s o 4) 24
-unfolding operandEnd choose
+pub reg_end : (s : List ℕ) (o : ℕ) → (word 4 s o ≡ 0 → ⊥) → operand_end s o ≡ jump s (jump s o 4) 24
+unfolding operand_end choose
 reg_end s o h = rw (ne_eqb _ _ h)
 
 -- what straight code found, part by part
 module _ (s : List ℕ) (o : ℕ) where
-  pub vips-made : {a n r : ℕ} → a ≡ jump s o 4 → n ≡ word 4 s o → r ≡ jump s a (8 * n) → r ≡ vipsEnd s o
-  unfolding vipsEnd
+  pub vips-made : {a n r : ℕ} → a ≡ jump s o 4 → n ≡ word 4 s o → r ≡ jump s a (8 * n) → r ≡ vips_end s o
+  unfolding vips_end
   vips-made p q e = rw (e, p, q)
 
-  pub registers_made : {a n r : ℕ} → a ≡ jump s o 4 → n ≡ word 4 s o → r ≡ jump s a (24 * n) → r ≡ registersEnd s o
-  unfolding registersEnd
+  pub registers_made : {a n r : ℕ} → a ≡ jump s o 4 → n ≡ word 4 s o → r ≡ jump s a (24 * n) → r ≡ registers_end s o
+  unfolding registers_end
   registers_made p q e = rw (e, p, q)
 
-  pub convention_made : {a b c r : ℕ} → a ≡ registersEnd s o → b ≡ registersEnd s a → c ≡ registersEnd s b → r ≡ jump s c 33 → r ≡ conventionEnd s o
-  unfolding conventionEnd
+  pub convention_made : {a b c r : ℕ} → a ≡ registers_end s o → b ≡ registers_end s a → c ≡ registers_end s b → r ≡ jump s c 33 → r ≡ convention_end s o
+  unfolding convention_end
   convention_made p q e f = rw (f, e, q, p)
 
   pub instruction-made : {a z n c b e r : ℕ} → a ≡ jump s o 4 → z ≡ word 4 s o → n ≡ jump s a z → c ≡ word 4 s n → b ≡ jump s n 4
-      → e ≡ times (operandEnd s) c b → r ≡ jump s e 21 → r ≡ instructionEnd s o
-  unfolding instructionEnd
+      → e ≡ times (operand_end s) c b → r ≡ jump s e 21 → r ≡ instruction_end s o
+  unfolding instruction_end
   instruction-made p₁ p₂ p₃ p₄ p₅ p₆ p₇ = rw (p₇, p₆, p₅, p₄, p₃, p₂, p₁)
 
-  pub block_made : {i c a e p r : ℕ} → i ≡ jump s o 24 → c ≡ word 4 s i → a ≡ jump s i 4 → e ≡ times (instructionEnd s) c a
-      → p ≡ vipsEnd s e → r ≡ vipsEnd s p → r ≡ blockEnd s o
-  unfolding blockEnd
+  pub block_made : {i c a e p r : ℕ} → i ≡ jump s o 24 → c ≡ word 4 s i → a ≡ jump s i 4 → e ≡ times (instruction_end s) c a
+      → p ≡ vips_end s e → r ≡ vips_end s p → r ≡ block_end s o
+  unfolding block_end
   block_made p₁ p₂ p₃ p₄ p₅ p₆ = rw (p₆, p₅, p₄, p₃, p₂, p₁)
 
-  pub imm-made : {a w r : ℕ} → a ≡ jump s o 4 → w ≡ word 4 s o → w ≡ 0 → r ≡ jump s a 12 → r ≡ operandEnd s o
+  pub imm-made : {a w r : ℕ} → a ≡ jump s o 4 → w ≡ word 4 s o → w ≡ 0 → r ≡ jump s a 12 → r ≡ operand_end s o
   imm-made p q z e = rw (e, p) (sym (imm-end s o (sym q ∙ z)))
 
-  pub reg_made : {a w r : ℕ} → a ≡ jump s o 4 → w ≡ word 4 s o → (w ≡ 0 → ⊥) → r ≡ jump s a 24 → r ≡ operandEnd s o
+  pub reg_made : {a w r : ℕ} → a ≡ jump s o 4 → w ≡ word 4 s o → (w ≡ 0 → ⊥) → r ≡ jump s a 24 → r ≡ operand_end s o
   reg_made p q z e = rw (e, p) (sym (reg_end s o (λ y. z (q ∙ y))))
 
 -- what the fast ways found, within the bytes
@@ -100,24 +100,24 @@ module _ (s : List ℕ) where
   finds : (a : ℕ) {v : ℕ} → a + 4 ≤ length s → v ≡ le 4 s a → v ≡ word 4 s a
   finds a l e = e ∙ sym (word_in 4 s a l)
 
-  pub imm-within : (o : ℕ) → o + 28 ≤ length s → le 4 s o ≡ 0 → o + 16 ≡ operandEnd s o
+  pub imm-within : (o : ℕ) → o + 28 ≤ length s → le 4 s o ≡ 0 → o + 16 ≡ operand_end s o
   imm-within o h z = imm-made s o (lands o 4 _ refl (omega arith)) (finds o (omega arith) (sym z)) refl (lands (o + 4) 12 _ (omega arith) (omega arith))
 
-  pub reg_within : (o : ℕ) → o + 28 ≤ length s → (le 4 s o ≡ 0 → ⊥) → o + 28 ≡ operandEnd s o
+  pub reg_within : (o : ℕ) → o + 28 ≤ length s → (le 4 s o ≡ 0 → ⊥) → o + 28 ≡ operand_end s o
   reg_within o h z = reg_made s o (lands o 4 _ refl (omega arith)) (finds o (omega arith) refl) z (lands (o + 4) 24 _ (omega arith) (omega arith))
 
-  pub instruction-within : (o : ℕ) {z n c e : ℕ} → z ≡ le 4 s o → n ≡ o + 4 + z → c ≡ le 4 s n → n + 4 ≤ length s → e ≡ times (operandEnd s) c (n + 4) → e + 21 ≤ length s
-      → e + 21 ≡ instructionEnd s o
+  pub instruction-within : (o : ℕ) {z n c e : ℕ} → z ≡ le 4 s o → n ≡ o + 4 + z → c ≡ le 4 s n → n + 4 ≤ length s → e ≡ times (operand_end s) c (n + 4) → e + 21 ≤ length s
+      → e + 21 ≡ instruction_end s o
   instruction-within o {z} {n} {c} {e} p q r a t l =
       instruction-made s o (lands o 4 _ refl (omega arith)) (finds o (omega arith) p) (lands (o + 4) z n (sym q) (omega arith)) (finds n (omega arith) r)
       (lands n 4 _ refl (omega arith)) t (lands e 21 _ refl l)
 
   -- a block whose three lists are empty
-  pub empty_block : (o : ℕ) → o + 36 ≤ length s → le 4 s (o + 24) ≡ 0 → le 4 s (o + 28) ≡ 0 → le 4 s (o + 32) ≡ 0 → o + 36 ≡ blockEnd s o
+  pub empty_block : (o : ℕ) → o + 36 ≤ length s → le 4 s (o + 24) ≡ 0 → le 4 s (o + 28) ≡ 0 → le 4 s (o + 32) ≡ 0 → o + 36 ≡ block_end s o
   unfolding times
   empty_block o h p q r =
       block_made s o {i = o + 24} {c = 0} {a = o + 28} {e = o + 28} {p = o + 32} {r = o + 36} (lands o 24 _ refl (omega arith)) (finds (o + 24) (omega arith) (sym p))
       (lands (o + 24) 4 _ (omega arith) (omega arith)) refl (no-vips (o + 28) _ (omega arith) (omega arith) q) (no-vips (o + 32) _ (omega arith) (omega arith) r)
     where
-      no-vips : (a b : ℕ) → a + 4 ≡ b → b ≤ length s → le 4 s a ≡ 0 → b ≡ vipsEnd s a
+      no-vips : (a b : ℕ) → a + 4 ≡ b → b ≤ length s → le 4 s a ≡ 0 → b ≡ vips_end s a
       no-vips a b e l z = vips-made s a {a = b} {n = 0} (lands a 4 b e l) (finds a (omega arith) (sym z)) (lands b 0 b (omega arith) l)

@@ -3,7 +3,7 @@
 #![tactic(auto)]
 
 ghost use Rattle.std.specs.Prelude.{◌≡◌, ◌+◌, ◌≤◌, ◌<◌, length};
-ghost use Rattle.ends.specs.Ends.{word, operandEnd, times, instructionEnd, vipsEnd, blockEnd, registersEnd, conventionEnd};
+ghost use Rattle.ends.specs.Ends.{word, operand_end, times, instruction_end, vips_end, block_end, registers_end, convention_end};
 
 use fields::{U32Read, U64Read};
 use pod::Vip;
@@ -99,9 +99,9 @@ pub fn word64(s: &[u8], at: usize) -> u64
 }
 
 // The end of the operand at `at`: its kind, then an immediate or a register.
-#[tactic(auto, unfolding(crate::specs::Ends::operandEnd, fields::specs::Lists::choose))]
+#[tactic(auto, unfolding(crate::specs::Ends::operand_end, fields::specs::Lists::choose))]
 fn operand_end(s: &[u8], at: usize) -> usize
-    ensures { result ≡ operandEnd s.now at }
+    ensures { result ≡ operand_end s.now at }
 {
     let a = jump(s, at, 4);
     if word32(s, at) == 0 {
@@ -112,7 +112,7 @@ fn operand_end(s: &[u8], at: usize) -> usize
 }
 
 fn operands_end(s: &[u8], at: usize, count: u32) -> usize
-    ensures { result ≡ times (operandEnd s.now) count at }
+    ensures { result ≡ times (operand_end s.now) count at }
 {
     let mut left = count;
     let mut o = at;
@@ -126,7 +126,7 @@ fn operands_end(s: &[u8], at: usize, count: u32) -> usize
 // The end of the operand at `at`, where the longer of the two kinds is within.
 fn fast_operand_end(s: &[u8], at: usize) -> usize
     requires { at + 28 ≤ length s.now }
-    ensures { (result ≡ operandEnd s.now at) × (result ≤ at + 28) }
+    ensures { (result ≡ operand_end s.now at) × (result ≤ at + 28) }
 {
     if fields::four(s, at) == 0 {
         at + 16
@@ -138,7 +138,7 @@ fn fast_operand_end(s: &[u8], at: usize) -> usize
 // The end of the instruction at `at`, with one length test for all its fields; or 0 where that does not tell: near the end of the bytes, and where its
 // name or its list of operands is longer than any operation has.
 fn fast_instruction_end(s: &[u8], at: usize) -> usize
-    ensures { 0 < result → result ≡ instructionEnd s.now at }
+    ensures { 0 < result → result ≡ instruction_end s.now at }
 {
     if s.len() < at {
         return 0;
@@ -166,7 +166,7 @@ fn fast_instruction_end(s: &[u8], at: usize) -> usize
 
 // The end of the instruction at `at`.
 pub fn instruction_end(s: &[u8], at: usize) -> usize
-    ensures { result ≡ instructionEnd s.now at }
+    ensures { result ≡ instruction_end s.now at }
 {
     let end = fast_instruction_end(s, at);
     if 0 < end {
@@ -182,7 +182,7 @@ pub fn instruction_end(s: &[u8], at: usize) -> usize
 }
 
 pub fn instructions_end(s: &[u8], at: usize, count: u32) -> usize
-    ensures { result ≡ times (instructionEnd s.now) count at }
+    ensures { result ≡ times (instruction_end s.now) count at }
 {
     let mut left = count;
     let mut o = at;
@@ -195,7 +195,7 @@ pub fn instructions_end(s: &[u8], at: usize, count: u32) -> usize
 
 // The end of the list of vips at `at`.
 pub fn vips_end(s: &[u8], at: usize) -> usize
-    ensures { result ≡ vipsEnd s.now at }
+    ensures { result ≡ vips_end s.now at }
 {
     let a = jump(s, at, COUNT_SIZE);
     let count = word32(s, at);
@@ -204,7 +204,7 @@ pub fn vips_end(s: &[u8], at: usize) -> usize
 
 // The end of the block at `at` where it has no instruction and no vips, as one length test and three loads tell; or 0.
 fn fast_block_end(s: &[u8], at: usize) -> usize
-    ensures { 0 < result → result ≡ blockEnd s.now at }
+    ensures { 0 < result → result ≡ block_end s.now at }
 {
     if s.len() < at {
         return 0;
@@ -226,7 +226,7 @@ fn fast_block_end(s: &[u8], at: usize) -> usize
 
 // The end of the block at `at`.
 pub fn block_end(s: &[u8], at: usize) -> usize
-    ensures { result ≡ blockEnd s.now at }
+    ensures { result ≡ block_end s.now at }
 {
     let end = fast_block_end(s, at);
     if 0 < end {
@@ -242,7 +242,7 @@ pub fn block_end(s: &[u8], at: usize) -> usize
 
 // The vip and the end of the block at `at`.
 pub fn block_at(s: &[u8], at: usize) -> PassedBlock
-    ensures { (result.vip.0 ≡ word 8 s.now at) × (result.next ≡ blockEnd s.now at) }
+    ensures { (result.vip.0 ≡ word 8 s.now at) × (result.next ≡ block_end s.now at) }
 {
     let vip = Vip(word64(s, at));
     let next = block_end(s, at);
@@ -251,7 +251,7 @@ pub fn block_at(s: &[u8], at: usize) -> PassedBlock
 
 // The end of `count` blocks from `at` on.
 pub fn blocks_end(s: &[u8], at: usize, count: usize) -> usize
-    ensures { result ≡ times (blockEnd s.now) count at }
+    ensures { result ≡ times (block_end s.now) count at }
 {
     let mut left = count;
     let mut o = at;
@@ -264,7 +264,7 @@ pub fn blocks_end(s: &[u8], at: usize, count: usize) -> usize
 
 // The end of the list of registers at `at`.
 pub fn registers_end(s: &[u8], at: usize) -> usize
-    ensures { result ≡ registersEnd s.now at }
+    ensures { result ≡ registers_end s.now at }
 {
     let a = jump(s, at, COUNT_SIZE);
     let count = word32(s, at);
@@ -273,7 +273,7 @@ pub fn registers_end(s: &[u8], at: usize) -> usize
 
 // The end of the convention at `at`.
 pub fn convention_end(s: &[u8], at: usize) -> usize
-    ensures { result ≡ conventionEnd s.now at }
+    ensures { result ≡ convention_end s.now at }
 {
     let a = registers_end(s, at);
     let b = registers_end(s, a);
@@ -283,7 +283,7 @@ pub fn convention_end(s: &[u8], at: usize) -> usize
 
 // The end of `count` conventions from `at` on.
 pub fn conventions_end(s: &[u8], at: usize, count: usize) -> usize
-    ensures { result ≡ times (conventionEnd s.now) count at }
+    ensures { result ≡ times (convention_end s.now) count at }
 {
     let mut left = count;
     let mut o = at;

@@ -14,7 +14,7 @@ use Rattle.laws.proofs.Layouts.{block_layout}
 use Rattle.pod.specs.Values.{BasicBlock, Routine}
 use Rattle.pod.specs.Layout.{block}
 use Rattle.pod.specs.Written.{block_bytes}
-use Rattle.ends.specs.Ends.{blockEnd}
+use Rattle.ends.specs.Ends.{block_end}
 use Rattle.machine.specs.Edits.{empty_block, block_at, size}
 use Rattle.machine.proofs.Keeps.{weight}
 use Rattle.book.specs.Holding.{block_start, Holding}
@@ -46,7 +46,7 @@ module _ (r : Routine) (i : ℕ) (h : i < length r.explored_blocks) where
         let k : end - at ≡ weight here = omega arith in
         rw (k, a) (ap (take (weight here)) stands.is ∙ take_at (block_bytes here) stands.rest (weight here) refl)
 
-    pub end-here : (at : ℕ) → at ≡ block_start r i → blockEnd image at ≡ at + weight here
+    pub end-here : (at : ℕ) → at ≡ block_start r i → block_end image at ≡ at + weight here
     end-here at e = rw e (block-far (block_start r i) here (block-holds held i h) stands)
 
     -- and it is read there

@@ -23,7 +23,7 @@ use Rattle.pod.specs.Written.{bytes, block_bytes, block_head_bytes, instruction_
 use Rattle.machine.specs.Edits.{block_at}
 use Rattle.machine.proofs.Lists.{each_at}
 use Rattle.book.specs.Holding.{Holding, block_start}
-use Rattle.ends.specs.Ends.{jump, word, times, instructionEnd}
+use Rattle.ends.specs.Ends.{jump, word, times, instruction_end}
 use Rattle.ends.proofs.Steps.{jump_in, times-last}
 use Rattle.image.specs.Places.{instruction_start}
 use Rattle.image.proofs.Stands.{named, word_at, jump-at, element-at, times-at, instruction-far, block-stands, block-holds}
@@ -85,8 +85,8 @@ module _ {s : List ℕ} {o : ℕ} (b : BasicBlock) (t : At s o (block_bytes b)) 
     instruction-count = word_at 4 _ _ h.instructions.count instruction-count-at
 
     pub past-instructions : (k : ℕ) → k ≤ length b.instructions
-        → times (instructionEnd s) k (o + 28) ≡ o + 28 + length (many_bytes instruction_bytes (take k b.instructions))
-    past-instructions k l = times-at instruction_bytes (instructionEnd s) instruction-far k (o + 28) b.instructions h.instructions.each l instructions-at
+        → times (instruction_end s) k (o + 28) ≡ o + 28 + length (many_bytes instruction_bytes (take k b.instructions))
+    past-instructions k l = times-at instruction_bytes (instruction_end s) instruction-far k (o + 28) b.instructions h.instructions.each l instructions-at
 
     pub to-count : jump s o 24 ≡ o + 24
     unfolding block_bytes
@@ -103,14 +103,14 @@ module _ {s : List ℕ} (x : Routine) (i : ℕ) (h : Holding s x) (l : i < lengt
   pub stands_here : At s o (block_bytes (block_at i x.explored_blocks))
   stands_here = named (sym e) (block-stands h i l)
 
-  found : (k : ℕ) → k ≤ length (block_at i x.explored_blocks).instructions → times (instructionEnd s) k (o + 28) ≡ instruction_start x i k
+  found : (k : ℕ) → k ≤ length (block_at i x.explored_blocks).instructions → times (instruction_end s) k (o + 28) ≡ instruction_start x i k
   found k m =
       past-instructions _ stands_here (block-holds h i l) k m
       ∙ ap (λ p. p + 28 + length (many_bytes instruction_bytes (take k (block_at i x.explored_blocks).instructions))) e
 
-  pub instruction-found : {k a r : ℕ} → k ≤ length (block_at i x.explored_blocks).instructions → a ≡ jump s o 28 → r ≡ times (instructionEnd s) k a
+  pub instruction-found : {k a r : ℕ} → k ≤ length (block_at i x.explored_blocks).instructions → a ≡ jump s o 28 → r ≡ times (instruction_end s) k a
       → r ≡ instruction_start x i k
-  instruction-found {k} m p q = q ∙ ap (times (instructionEnd s) k) (p ∙ past-start _ stands_here (block-holds h i l)) ∙ found k m
+  instruction-found {k} m p q = q ∙ ap (times (instruction_end s) k) (p ∙ past-start _ stands_here (block-holds h i l)) ∙ found k m
 
   -- how many there are
   pub count-found : {a n : ℕ} → a ≡ jump s o 24 → n ≡ word 4 s a → n ≡ length (block_at i x.explored_blocks).instructions
@@ -118,17 +118,17 @@ module _ {s : List ℕ} (x : Routine) (i : ℕ) (h : Holding s x) (l : i < lengt
       let there = block-holds h i l in
       q ∙ ap (word 4 s) (p ∙ to-count _ stands_here there) ∙ instruction-count _ stands_here there
 
-  pub instructions-found : {a n b r : ℕ} → a ≡ jump s o 24 → n ≡ word 4 s a → b ≡ jump s a 4 → r ≡ times (instructionEnd s) n b
+  pub instructions-found : {a n b r : ℕ} → a ≡ jump s o 24 → n ≡ word 4 s a → b ≡ jump s a 4 → r ≡ times (instruction_end s) n b
       → r ≡ instruction_start x i (length (block_at i x.explored_blocks).instructions)
   instructions-found {a} {n} {b} {r} p q f g =
       let there = block-holds h i l in
       let b-is : b ≡ o + 28 = f ∙ ap (λ j. jump s j 4) (p ∙ to-count _ stands_here there) ∙ past-count _ stands_here there in
-      g ∙ ap₂ (times (instructionEnd s)) (count-found p q) b-is ∙ found _ (omega arith)
+      g ∙ ap₂ (times (instruction_end s)) (count-found p q) b-is ∙ found _ (omega arith)
 
   -- one ends where the next begins
   pub instruction-next : (k : ℕ) → k < length (block_at i x.explored_blocks).instructions
-      → instructionEnd s (instruction_start x i k) ≡ instruction_start x i (suc k)
-  instruction-next k m = ap (instructionEnd s) (sym (found k (omega arith))) ∙ sym (times-last (instructionEnd s) k (o + 28)) ∙ found (suc k) m
+      → instruction_end s (instruction_start x i k) ≡ instruction_start x i (suc k)
+  instruction-next k m = ap (instruction_end s) (sym (found k (omega arith))) ∙ sym (times-last (instruction_end s) k (o + 28)) ∙ found (suc k) m
 
   -- and each is read where it stands
   pub read_in_place : (k : ℕ) → k < length (block_at i x.explored_blocks).instructions

@@ -15,7 +15,7 @@ use Rattle.pod.specs.Values.{Routine}
 use Rattle.pod.specs.Written.{many_bytes}
 use Rattle.machine.specs.Edits.{place, block_at, empty_block}
 use Rattle.book.specs.Holding.{Holding, blocks_start, block_start}
-use Rattle.ends.specs.Ends.{word, blockEnd}
+use Rattle.ends.specs.Ends.{word, block_end}
 use Rattle.image.specs.Places.{Finds}
 use Rattle.image.specs.declared.Found.{Found}
 use Rattle.image.proofs.Stands.{block-stands, block-holds, block-next, block-far, block-word}
@@ -56,12 +56,12 @@ module _ (x : Routine) (v : ℕ) where
           finds r w.stands f
 
       -- past it
-      pub walk_next : {u m : ℕ} → u ≡ word 8 s at → m ≡ blockEnd s at → (u ≡ v → ⊥) → Walked x v (i + 1) m
+      pub walk_next : {u m : ℕ} → u ≡ word 8 s at → m ≡ block_end s at → (u ≡ v → ⊥) → Walked x v (i + 1) m
       unfolding place choose
       walk_next {u} {m} p q n =
           let e : place v (drop i x.explored_blocks) ≡ suc (place v (drop (i + 1) x.explored_blocks)) =
           rw (drop-cons x.explored_blocks i (empty_block 0) l, ne_eqb _ v (λ z. n (p ∙ here ∙ z)), add-one) in
           record {
-            stands = q ∙ ap (blockEnd s) w.stands ∙ block-far (block_start x i) _ (block-holds h i l) (block-stands h i l) ∙ block-next h i l;
+            stands = q ∙ ap (block_end s) w.stands ∙ block-far (block_start x i) _ (block-holds h i l) (block-stands h i l) ∙ block-next h i l;
             passed = omega (arith, w.passed, e);
           }

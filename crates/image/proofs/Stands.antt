@@ -25,7 +25,7 @@ pub use Rattle.machine.proofs.Stand.{named, element-at}
 use Rattle.machine.proofs.Stand as S
 use Rattle.book.specs.Holding.{Holding, blocks_start, block_start}
 use Rattle.image.specs.Places.{convention_start}
-use Rattle.ends.specs.Ends.{jump, word, times, instructionEnd, blockEnd, conventionEnd}
+use Rattle.ends.specs.Ends.{jump, word, times, instruction_end, block_end, convention_end}
 use Rattle.ends.proofs.Steps.{jump_in, value, word-is}
 use Rattle.ends.proofs.Same.{instruction_ends, block_vip, block_ends, convention_ends}
 
@@ -36,13 +36,13 @@ module _ {s : List ℕ} where
   pub jump-at : (l : List ℕ) (o k : ℕ) → length l ≡ k → At s o l → jump s o k ≡ o + k
   jump-at l o k e t = jump_in s o k (omega (arith, fits t))
 
-  pub convention-far : (o : ℕ) (c : RoutineConvention) → ConventionHolds c → At s o (convention_bytes c) → conventionEnd s o ≡ o + length (convention_bytes c)
+  pub convention-far : (o : ℕ) (c : RoutineConvention) → ConventionHolds c → At s o (convention_bytes c) → convention_end s o ≡ o + length (convention_bytes c)
   convention-far o c h t = convention_ends s o (convention_layout.back c h s o t)
 
-  pub instruction-far : (o : ℕ) (i : Instruction) → InstructionHolds i → At s o (instruction_bytes i) → instructionEnd s o ≡ o + length (instruction_bytes i)
+  pub instruction-far : (o : ℕ) (i : Instruction) → InstructionHolds i → At s o (instruction_bytes i) → instruction_end s o ≡ o + length (instruction_bytes i)
   instruction-far o i h t = instruction_ends s o (instruction_layout.back i h s o t)
 
-  pub block-far : (o : ℕ) (b : BasicBlock) → BlockHolds b → At s o (block_bytes b) → blockEnd s o ≡ o + length (block_bytes b)
+  pub block-far : (o : ℕ) (b : BasicBlock) → BlockHolds b → At s o (block_bytes b) → block_end s o ≡ o + length (block_bytes b)
   block-far o b h t = block_ends s o (block_layout.back b h s o t)
 
   pub block-word : (o : ℕ) (b : BasicBlock) → BlockHolds b → At s o (block_bytes b) → word 8 s o ≡ b.vip
@@ -92,9 +92,9 @@ module _ {s : List ℕ} {x : Routine} (h : Holding s x) where
         let e : i + 1 ≡ suc i = omega arith in
         rw e (omega (arith, many-next block_bytes (empty_block 0) i x.explored_blocks l))
 
-  pub block-found : (i : ℕ) → i ≤ length x.explored_blocks → {a r : ℕ} → a ≡ blocks_start x → r ≡ times (blockEnd s) i a → r ≡ block_start x i
+  pub block-found : (i : ℕ) → i ≤ length x.explored_blocks → {a r : ℕ} → a ≡ blocks_start x → r ≡ times (block_end s) i a → r ≡ block_start x i
   block-found i l {a} {r} e q =
-      q ∙ ap (times (blockEnd s) i) e ∙ times-at block_bytes (blockEnd s) block-far i (blocks_start x) x.explored_blocks h.holds.blocks.listed.each l blocks_at
+      q ∙ ap (times (block_end s) i) e ∙ times-at block_bytes (block_end s) block-far i (blocks_start x) x.explored_blocks h.holds.blocks.listed.each l blocks_at
 
   -- the parts before the blocks: the header of 8 bytes, whose machine is byte 4, and the entry vip
   pub machine-at : At s 4 (bytes 1 x.arch_id)
@@ -147,14 +147,14 @@ module _ {s : List ℕ} {x : Routine} (h : Holding s x) where
       (right (bytes 4 (length x.spec_subroutine_conventions)) (many_bytes convention_bytes x.spec_subroutine_conventions) counted-special)
 
   -- the walk over them
-  pub past-own : conventionEnd s 16 ≡ 16 + length (convention_bytes x.routine_convention)
+  pub past-own : convention_end s 16 ≡ 16 + length (convention_bytes x.routine_convention)
   past-own = convention-far 16 x.routine_convention h.holds.own own_at
 
-  pub past-sub : {a : ℕ} → a ≡ conventionEnd s 16
-      → conventionEnd s a ≡ 16 + length (convention_bytes x.routine_convention) + length (convention_bytes x.subroutine_convention)
-  past-sub e = ap (conventionEnd s) (e ∙ past-own) ∙ convention-far _ x.subroutine_convention h.holds.sub sub_at
+  pub past-sub : {a : ℕ} → a ≡ convention_end s 16
+      → convention_end s a ≡ 16 + length (convention_bytes x.routine_convention) + length (convention_bytes x.subroutine_convention)
+  past-sub e = ap (convention_end s) (e ∙ past-own) ∙ convention-far _ x.subroutine_convention h.holds.sub sub_at
 
-  pub past-special-count : {a b : ℕ} → a ≡ conventionEnd s 16 → b ≡ conventionEnd s a
+  pub past-special-count : {a b : ℕ} → a ≡ convention_end s 16 → b ≡ convention_end s a
       → (word 4 s b ≡ length x.spec_subroutine_conventions)
       × (jump s b 4 ≡ 20 + length (convention_bytes x.routine_convention) + length (convention_bytes x.subroutine_convention))
   past-special-count {a} {b} p q =
@@ -166,12 +166,12 @@ module _ {s : List ℕ} {x : Routine} (h : Holding s x) where
 
   pub past-specials : (i : ℕ) → i ≤ length x.spec_subroutine_conventions → {c : ℕ}
       → c ≡ 20 + length (convention_bytes x.routine_convention) + length (convention_bytes x.subroutine_convention)
-      → times (conventionEnd s) i c ≡ c + length (many_bytes convention_bytes (take i x.spec_subroutine_conventions))
+      → times (convention_end s) i c ≡ c + length (many_bytes convention_bytes (take i x.spec_subroutine_conventions))
   past-specials i l {c} e =
-      times-at convention_bytes (conventionEnd s) convention-far i c x.spec_subroutine_conventions h.holds.special.each l (named (sym e) special_at)
+      times-at convention_bytes (convention_end s) convention-far i c x.spec_subroutine_conventions h.holds.special.each l (named (sym e) special_at)
 
-  pub blocks-found : {a b n c d k e : ℕ} → a ≡ conventionEnd s 16 → b ≡ conventionEnd s a → n ≡ word 4 s b → c ≡ jump s b 4
-      → d ≡ times (conventionEnd s) n c → k ≡ word 4 s d → e ≡ jump s d 4 → (e ≡ blocks_start x) × (k ≡ length x.explored_blocks)
+  pub blocks-found : {a b n c d k e : ℕ} → a ≡ convention_end s 16 → b ≡ convention_end s a → n ≡ word 4 s b → c ≡ jump s b 4
+      → d ≡ times (convention_end s) n c → k ≡ word 4 s d → e ≡ jump s d 4 → (e ≡ blocks_start x) × (k ≡ length x.explored_blocks)
   blocks-found {a} {b} {n} {c} {d} {k} {e} p₁ p₂ p₃ p₄ p₅ p₆ p₇ =
       let z = past-special-count p₁ p₂ in
       let n-is : n ≡ length x.spec_subroutine_conventions = p₃ ∙ z.0 in
@@ -188,12 +188,12 @@ module _ {s : List ℕ} {x : Routine} (h : Holding s x) where
   unfolding convention_start
   convention-zero e = rw e
 
-  pub convention-one : {i a : ℕ} → i ≡ 1 → a ≡ conventionEnd s 16 → a ≡ convention_start x i
+  pub convention-one : {i a : ℕ} → i ≡ 1 → a ≡ convention_end s 16 → a ≡ convention_start x i
   unfolding convention_start
   convention-one e p = rw e (p ∙ past-own)
 
-  pub convention-more : (i : ℕ) {a b c r : ℕ} → (i ≡ 0 → ⊥) → (i ≡ 1 → ⊥) → i < length (conventions x) → a ≡ conventionEnd s 16 → b ≡ conventionEnd s a
-      → c ≡ jump s b 4 → r ≡ times (conventionEnd s) (i - 2) c → r ≡ convention_start x i
+  pub convention-more : (i : ℕ) {a b c r : ℕ} → (i ≡ 0 → ⊥) → (i ≡ 1 → ⊥) → i < length (conventions x) → a ≡ convention_end s 16 → b ≡ convention_end s a
+      → c ≡ jump s b 4 → r ≡ times (convention_end s) (i - 2) c → r ≡ convention_start x i
   unfolding convention_start
   convention-more i {a} {b} {c} {r} y z l p q e f =
       let k : i ≡ suc (suc (i - 2)) = omega arith in

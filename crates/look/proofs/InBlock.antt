@@ -11,7 +11,7 @@ use Rattle.fields.specs.Parse.{ok, u64}
 use Rattle.pod.specs.Values.{BasicBlock}
 use Rattle.pod.specs.Layout.{instruction, block}
 use Rattle.machine.specs.Look.{element, vip_list}
-use Rattle.ends.specs.Ends.{times, instructionEnd}
+use Rattle.ends.specs.Ends.{times, instruction_end}
 use Rattle.ends.proofs.Same.{instruction_ends}
 use Rattle.pread.specs.Answers.{block_read, prev_list}
 use Rattle.pread.specs.declared.BlockRead.{BlockRead}
@@ -24,10 +24,10 @@ module _ {s : List ℕ} (y : Bytes s) (o : ℕ) {b : BasicBlock} {n : ℕ} (e : 
   pub instructions-listed : Listed s instruction (o + 24) b.instructions (prev_list o b)
   instructions-listed = listed s instruction (o + 24) (block_at s y o e).instructions
 
-  pub instruction-stands : (j : ℕ) → j < length b.instructions → Standing instruction s (element j b.instructions) (times (instructionEnd s) j (o + 28))
+  pub instruction-stands : (j : ℕ) → j < length b.instructions → Standing instruction s (element j b.instructions) (times (instruction_end s) j (o + 28))
   instruction-stands j h =
       let first : o + 24 + 4 ≡ o + 28 = omega arith in
-      element-read instruction s (instructionEnd s) (λ i x m. instruction_ends s i) j (o + 28) b.instructions (rw first at instructions-listed.each) h
+      element-read instruction s (instruction_end s) (λ i x m. instruction_ends s i) j (o + 28) b.instructions (rw first at instructions-listed.each) h
 
   -- a list of vips
   module _ {r : BlockRead} (q : r ≡ block_read o (block s o)) (k : ℕ) where

@@ -16,7 +16,7 @@ use Rattle.laws.proofs.Back.{many-reads}
 use Rattle.laws.proofs.Layouts.{convention_layout}
 use Rattle.machine.specs.Look.{element, conventions, register_list}
 use Rattle.book.specs.Holding.{Holding}
-use Rattle.ends.specs.Ends.{conventionEnd}
+use Rattle.ends.specs.Ends.{convention_end}
 use Rattle.ends.proofs.Same.{convention_ends}
 use Rattle.image.specs.Places.{convention_start}
 use Rattle.image.proofs.Stands.{own_at, sub_at, special_at, past-specials}
@@ -36,7 +36,7 @@ convention-stands {s} {x} h (suc (suc i)) l =
     let special = x.spec_subroutine_conventions in
     let m : i < length special = le_of_suc-le-suc (le_of_suc-le-suc l) in
     rw (past-specials h i (omega arith) refl) at
-    (element-read convention s (conventionEnd s) (λ o c n. convention_ends s o) i _ special
+    (element-read convention s (convention_end s) (λ o c n. convention_ends s o) i _ special
     (many-reads convention convention_bytes convention_layout.back _ special refl h.holds.special.each s _ (special_at h)) m)
 
 -- a list of registers

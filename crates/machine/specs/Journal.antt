@@ -73,13 +73,13 @@ undo_create r t = do
 -- kind 2 wants a whole written block with that vip, the vip absent, place at most the block count, and image length enough; the block goes to its
 -- place, and the one standing there goes last. `before` is the journal's used part before the trailer
 unfoldable pub undo_remove : ℕ → Routine → List ℕ → Trailer → Outcome (Routine × ℕ)
-undo_remove image-length r before t = do
+undo_remove image_length r before t = do
   refuse_unless (leb t.len (length before)) spoiled_book
   b ← whole block_bytes (last_bytes t.len before) (block (last_bytes t.len before) 0)
   refuse_unless (eqb b.vip t.vip) spoiled_book
   refuse_if (present t.vip r.explored_blocks) spoiled_book
   refuse_unless (leb t.place (length r.explored_blocks)) spoiled_book
-  refuse_unless (leb (size r + t.len) image-length) spoiled_book
+  refuse_unless (leb (size r + t.len) image_length) spoiled_book
   accepted (with_blocks (insert_at t.place b r.explored_blocks) r, trailer_size + t.len)
 
 -- kind 3 wants that block at its place, with a last instruction of that size
@@ -91,14 +91,14 @@ undo_append r t = do
   accepted (with_blocks (change_at t.place without_last r.explored_blocks) r, trailer_size)
 
 unfoldable pub undo_entry : ℕ → Routine → List ℕ → Trailer → Outcome (Routine × ℕ)
-undo_entry image-length r before t =
+undo_entry image_length r before t =
     choose (eqb t.kind 1) (undo_create r t)
-    (choose (eqb t.kind 2) (undo_remove image-length r before t)
+    (choose (eqb t.kind 2) (undo_remove image_length r before t)
     (choose (eqb t.kind 3) (undo_append r t) (refused spoiled_book)))
 
 -- the routine before the edit whose entry ends the journal's used part, and that entry's size; an entry is no shorter than its trailer
 unfoldable pub undone : ℕ → Routine → List ℕ → Outcome (Routine × ℕ)
-undone image-length r used = do
+undone image_length r used = do
   refuse_unless (leb trailer_size (length used)) spoiled_book
   t ← or_spoiled (trailer (last_bytes trailer_size used) 0)
-  undo_entry image-length r (take (length used - trailer_size) used) t
+  undo_entry image_length r (take (length used - trailer_size) used) t

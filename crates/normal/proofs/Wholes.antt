@@ -21,7 +21,7 @@ use Rattle.laws.proofs.Local.{Local, local-uint, local_counted, local-convention
 use Rattle.laws.proofs.Layouts.{instruction_layout, convention_layout, routine_layout, read-to, read-within}
 use Rattle.laws.proofs.Sizes.{instruction-size, convention-size, block-head-size, header-size, routine-least}
 use Rattle.laws.proofs.Back.{length-bytes}
-use Rattle.ends.specs.Ends.{jump, instructionEnd, vipsEnd, conventionEnd}
+use Rattle.ends.specs.Ends.{jump, instruction_end, vips_end, convention_end}
 use Rattle.ends.proofs.Same.{instruction_ends, vips_ends, convention_ends}
 use Rattle.machine.specs.Charge.{total}
 use Rattle.charge.specs.Sums.{in_table, block_in, routine_in}
@@ -60,7 +60,7 @@ vips_stand : {s : List ℕ} → Bytes s → {o n : ℕ} {xs : List ℕ} → coun
 vips_stand b {o} {n} {xs} e = ((counted-spans u64 (bytes 8) (λ i. uint-took b i 8) b o).when xs n e).1
 
 pub block-normal : (g : List ℕ) {s : List ℕ} → Bytes s → (o : ℕ) {i e p r sum : ℕ} {t : List ℕ} → i ≡ jump s o 24
-    → Normalised (counted instruction) (counted_bytes instruction_bytes) (total (in_table g)) s i e sum t → p ≡ vipsEnd t e → r ≡ vipsEnd t p
+    → Normalised (counted instruction) (counted_bytes instruction_bytes) (total (in_table g)) s i e sum t → p ≡ vips_end t e → r ≡ vips_end t p
     → Normalised block block_bytes (block_in g) s o r sum t
 unfolding block_bytes
 block-normal g {s} b o {i} {e} {p} {r} {sum} {t} hi hn hp hr =
@@ -78,8 +78,8 @@ block-normal g {s} b o {i} {e} {p} {r} {sum} {t} hi hn hp hr =
         let next : Spans s k.p (counted_bytes (bytes 8) x.next_vip) n = vips_stand b k.next in
         let le : k.e ≤ k.p = omega (arith, prev.to) in
         let zp : p ≡ k.p =
-        hp ∙ ap (vipsEnd t) u.0 ∙ vips_ends t k.e (as_before v (local_counted u64 (local-uint 8)) k.e (omega arith) v.within ∙ k.prev) in
-        let zr : r ≡ n = hr ∙ ap (vipsEnd t) zp ∙ vips_ends t k.p (as_before v (local_counted u64 (local-uint 8)) k.p le (within prev) ∙ k.next) in
+        hp ∙ ap (vips_end t) u.0 ∙ vips_ends t k.e (as_before v (local_counted u64 (local-uint 8)) k.e (omega arith) v.within ∙ k.prev) in
+        let zr : r ≡ n = hr ∙ ap (vips_end t) zp ∙ vips_ends t k.p (as_before v (local_counted u64 (local-uint 8)) k.p le (within prev) ∙ k.next) in
         (zr, stays k.head beside v beside stays (still v (omega arith) prev) beside stays (still v le next))
 
 -- one part more, read as in s
@@ -170,7 +170,7 @@ too_short g b h =
 
 -- the layouts that end in a flag
 pub instruction-normal : (g : List ℕ) {s : List ℕ} → Bytes s → (o : ℕ) {r sum : ℕ} {t : List ℕ} → ((i : Instruction) (n : ℕ) → instruction s o ≡ ok i n → sum ≡ in_table g i)
-    → r ≡ instructionEnd s o → (0 < r → r ≤ length s → t ≡ set s (r - 1) (normal flag (get_or s (r - 1) 0)))
+    → r ≡ instruction_end s o → (0 < r → r ≤ length s → t ≡ set s (r - 1) (normal flag (get_or s (r - 1) 0)))
     → Normalised instruction instruction_bytes (in_table g) s o r sum t
 unfolding instruction_roles
 instruction-normal g {s} b o c z f =
@@ -179,7 +179,7 @@ instruction-normal g {s} b o c z f =
       sums = c;
     }
 
-pub convention-normal : {s : List ℕ} → Bytes s → (o : ℕ) {r : ℕ} {t : List ℕ} → r ≡ conventionEnd s o
+pub convention-normal : {s : List ℕ} → Bytes s → (o : ℕ) {r : ℕ} {t : List ℕ} → r ≡ convention_end s o
     → (0 < r → r ≤ length s → t ≡ set s (r - 1) (normal flag (get_or s (r - 1) 0))) → Normalised convention convention_bytes nothing s o r 0 t
 unfolding convention_roles
 convention-normal {s} b o z f =

@@ -25,7 +25,7 @@ use Rattle.laws.specs.Holds.{ListHolds, RegisterHolds, OperandHolds, Instruction
 use Rattle.laws.proofs.At.{Spans, fits, left, right}
 use Rattle.laws.proofs.Back.{length-bytes, le_bytes, uint-reads, counted-reads}
 use Rattle.laws.proofs.Sizes.{operand-imm-size, operand_reg_size, name-size, counted-size, block-head-size}
-use Rattle.ends.specs.Ends.{vipsEnd}
+use Rattle.ends.specs.Ends.{vips_end}
 use Rattle.ends.proofs.Same.{vips_ends}
 use Rattle.machine.specs.Outside.{mask_operand, mask_instruction, mask_block}
 use Rattle.machine.proofs.Masked.{many-kept, operand-kept, instruction-kept}
@@ -38,7 +38,7 @@ cut : (a b : List ℕ) {s : List ℕ} {o m : ℕ} → At s o (a ++ b) → m ≡ 
 cut a b h e = (record { at = left a b h; to = e }, rw e (right a b h))
 
 -- a list of vips ends where the walk finds it
-vips_stand : (xs : List ℕ) → ListHolds VipHolds xs → {s : List ℕ} {o n : ℕ} → At s o (counted_bytes (bytes 8) xs) → n ≡ vipsEnd s o → Spans s o (counted_bytes (bytes 8) xs) n
+vips_stand : (xs : List ℕ) → ListHolds VipHolds xs → {s : List ℕ} {o n : ℕ} → At s o (counted_bytes (bytes 8) xs) → n ≡ vips_end s o → Spans s o (counted_bytes (bytes 8) xs) n
 vips_stand xs h {s} {o} {n} a e =
     record { at = a; to = e ∙ vips_ends s o (counted-reads u64 (bytes 8) (λ v k. uint-reads 8 v k) xs h s o a) }
 
@@ -207,7 +207,7 @@ module _ {s : List ℕ} {o : ℕ} (b : BasicBlock) (h : BlockHolds b) (a : At s 
 
     -- the head and the count before the masked instructions stay, and the vips after them
     pub block-masked : {m p r : ℕ} {t : List ℕ} → Masks (SoMany InstructionHolds c) (many_bytes instruction_bytes) (map mask_instruction) s (o + 24 + 4) m t
-        → p ≡ vipsEnd t m → r ≡ vipsEnd t p → Over s o (block_bytes (mask_block b)) r t
+        → p ≡ vips_end t m → r ≡ vips_end t p → Over s o (block_bytes (mask_block b)) r t
     unfolding block_bytes block_head_bytes counted_bytes after-instructions
     block-masked {m} {p} {r} {t} q ep er =
         let v : Over s (o + 24 + 4) (many_bytes instruction_bytes (map mask_instruction b.instructions)) m t = q b.instructions those first.1 in

@@ -30,7 +30,7 @@ pub record BasicBlock : Type 0 where
   pub prev_vip : List ℕ
   pub next_vip : List ℕ
 
--- arch-id is the machine: 0 Amd64, 1 Arm64, 2 Virtual. vip is the entry vip
+-- arch_id is the machine: 0 Amd64, 1 Arm64, 2 Virtual. vip is the entry vip
 pub record Routine : Type 0 where
   pub arch_id : ℕ
   pub vip : ℕ

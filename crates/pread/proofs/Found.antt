@@ -24,7 +24,7 @@ use Rattle.pod.specs.Written.{bytes, bit, counted_bytes, header_bytes, instructi
 use Rattle.pod.specs.declared.RegisterDesc.{RegisterDesc}
 use Rattle.laws.proofs.Back.{length-bytes}
 use Rattle.laws.proofs.Sizes.{block-head-size, header-size}
-use Rattle.ends.specs.Ends.{jump, word, times, registersEnd, conventionEnd}
+use Rattle.ends.specs.Ends.{jump, word, times, registers_end, convention_end}
 use Rattle.ends.proofs.Steps.{jump_in}
 use Rattle.ends.proofs.Same.{registers_ends, convention_ends}
 use Rattle.pread.specs.Answers.{convention_read, block_read, routine_read, prev_list, next_list, block_list, end_of}
@@ -45,7 +45,7 @@ module _ {A : Type 0} (p : Reader A) (w : A → List ℕ) (T : A → Bool) (s : 
 
 module _ (s : List ℕ) (y : Bytes s) (o n : ℕ) where
   module _ {c : RoutineConvention} (e : convention s o ≡ ok c n) where
-    pub convention-found : {p r f : ℕ} → p ≡ registersEnd s o → r ≡ registersEnd s p → f ≡ registersEnd s r → {x : RegisterDesc}
+    pub convention-found : {p r f : ℕ} → p ≡ registers_end s o → r ≡ registers_end s p → f ≡ registers_end s r → {x : RegisterDesc}
         → ((g : RegisterDesc) (m : ℕ) → register s f ≡ ok g m → x ≡ g)
         → record {
           refusal = 0;
@@ -68,8 +68,8 @@ module _ (s : List ℕ) (y : Bytes s) (o n : ℕ) where
         let b = listed s register _ t.param in
         let d = listed s register _ t.retval in
         let p₁ = e₁ ∙ registers_ends s o t.volatile in
-        let r₁ = e₂ ∙ ap (registersEnd s) p₁ ∙ registers_ends s _ t.param in
-        let f₁ = e₃ ∙ ap (registersEnd s) r₁ ∙ registers_ends s _ t.retval in
+        let r₁ = e₂ ∙ ap (registers_end s) p₁ ∙ registers_ends s _ t.param in
+        let f₁ = e₃ ∙ ap (registers_end s) r₁ ∙ registers_ends s _ t.retval in
         let x₁ = g c.frame_register _ (ap (register s) f₁ ∙ t.register_is) in
         rw (x₁, p₁, r₁, f₁, jump_in s _ 24 t.fits, t.shadow, t.purge, jump_in s o 4 a.fits, a.count, jump_in s _ 4 b.fits, b.count, jump_in s _ 4 d.fits, d.count)
 
@@ -120,7 +120,7 @@ module _ (s : List ℕ) (y : Bytes s) (o n : ℕ) where
         rw (part-ok 24 s o (omega (arith, block_room.0)), t.instructions, t.prev)
 
   module _ {r : Routine} (e : routine s o ≡ ok r n) where
-    pub routine-found : {c l : ℕ} → c ≡ times (conventionEnd s) 2 (o + 16) → l ≡ block_list o r
+    pub routine-found : {c l : ℕ} → c ≡ times (convention_end s) 2 (o + 16) → l ≡ block_list o r
         → record {
           refusal = 0;
           end = n;
@@ -138,7 +138,7 @@ module _ (s : List ℕ) (y : Bytes s) (o n : ℕ) where
         let a = listed s convention _ t.special in
         let b = listed s block _ t.listed_blocks in
         let first : o + 16 ≡ o + length (header_bytes r.arch_id) + length (bytes 8 r.vip) = omega (arith, header-size r.arch_id, length-bytes 8 r.vip) in
-        let c₁ : c ≡ t.special_at = e₁ ∙ ap (conventionEnd s) (convention_ends s (o + 16) t.own) ∙ convention_ends s t.sub_at t.sub in
+        let c₁ : c ≡ t.special_at = e₁ ∙ ap (convention_end s) (convention_ends s (o + 16) t.own) ∙ convention_ends s t.sub_at t.sub in
         rw (c₁, e₂, a.count, b.count, t.arch_id, t.vip) (ap (λ x. record {
           refusal = 0;
           end = n;

@@ -24,7 +24,7 @@ use Rattle.laws.proofs.Post.{Post, give, step, test}
 use Rattle.laws.proofs.Took.{kept, ◌also◌, took-to, uint-took, counted-took}
 use Rattle.laws.proofs.Consumed.{header-took, convention_took}
 use Rattle.laws.proofs.Place.{counted_is}
-use Rattle.ends.specs.Ends.{times, blockEnd}
+use Rattle.ends.specs.Ends.{times, block_end}
 use Rattle.ends.proofs.Steps.{times-last}
 use Rattle.ends.proofs.Same.{block_ends}
 use Rattle.routine.specs.Head.{head_walked}
@@ -39,9 +39,9 @@ module _ (s : List ℕ) (at count turn : ℕ) where
   -- what is noted where `left` blocks are left
   pub record Noting (left o from to : ℕ) : Type 0 where
     pub some : left ≤ count
-    pub here : o ≡ times (blockEnd s) (count - left) at
+    pub here : o ≡ times (block_end s) (count - left) at
     pub before : turn ≤ left → (from ≡ 0) × (to ≡ 0)
-    pub after : left < turn → (from ≡ times (blockEnd s) (count - turn) at) × (to ≡ times (blockEnd s) (suc (count - turn)) at)
+    pub after : left < turn → (from ≡ times (block_end s) (count - turn) at) × (to ≡ times (block_end s) (suc (count - turn)) at)
 
   -- all are left
   pub noting_start : turn ≤ count → Noting count at 0 0
@@ -59,10 +59,10 @@ module _ (s : List ℕ) (at count turn : ℕ) where
         some : left ≤ count
         some = h.some
 
-        past : n ≡ times (blockEnd s) (suc (count - left)) at
-        past = sym (block_ends s o (inv_span (block s o) e).1) ∙ ap (blockEnd s) h.here ∙ sym (times-last (blockEnd s) (count - left) at)
+        past : n ≡ times (block_end s) (suc (count - left)) at
+        past = sym (block_ends s o (inv_span (block s o) e).1) ∙ ap (block_end s) h.here ∙ sym (times-last (block_end s) (count - left) at)
 
-        next : n ≡ times (blockEnd s) (count - (left - 1)) at
+        next : n ≡ times (block_end s) (count - (left - 1)) at
         next = let z : suc (count - left) ≡ count - (left - 1) = omega arith in rw z at past
 
         go : (b : Bool) → eqb left turn ≡ b → f ≡ choose b o from → t ≡ choose b n to → Noting (left - 1) n f t

@@ -5,7 +5,7 @@ use Rattle.fields.specs.Sight.{Sight, sight}
 use Rattle.pod.specs.Values.{Routine}
 use Rattle.pod.specs.Layout.{routine}
 use Rattle.pod.specs.Written.{routine_head_bytes}
-use Rattle.ends.specs.Ends.{times, blockEnd}
+use Rattle.ends.specs.Ends.{times, block_end}
 use Rattle.routine.specs.declared.BlocksSkip as run
 use Rattle.routine.specs.declared.BlocksSkip.TheVariants as run_is
 use Rattle.routine.specs.declared.Noted.{Noted}
@@ -13,7 +13,7 @@ use Rattle.routine.specs.declared.Noted.TheVariants.{Past, Refused}
 
 -- of `count` blocks from an offset on, the one at a place begins where those before it end, and ends where it does; 0 and 0 where there is none
 pub record Note (s : List ℕ) (at count place start end : ℕ) : Type 0 where
-  pub there : place < count → (start ≡ times (blockEnd s) place at) × (end ≡ times (blockEnd s) (suc place) at)
+  pub there : place < count → (start ≡ times (block_end s) place at) × (end ≡ times (block_end s) (suc place) at)
   pub none : count ≤ place → (start ≡ 0) × (end ≡ 0)
 
 -- what a walk says beside the note

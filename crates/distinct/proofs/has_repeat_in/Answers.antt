@@ -2,14 +2,14 @@
 use native.Mathlib.Omega.{arith}
 use mathlib.Core.Path.{sym}
 use lib.Seq.{length-take-le}
-use Rattle.distinct.specs.Walked.{vipsFrom, TopTwice}
+use Rattle.distinct.specs.Walked.{vips_from, TopTwice}
 use mathlib.Core.Bool.{false}
 use Rattle.distinct.proofs.Rounds.{not-twice}
 use Rattle.distinct.proofs.has_repeat_in.Goals as goal
 use Rattle.distinct.proofs.has_repeat_in.Goals.{Else-top_twice}
 
 -- the highest number is not there twice, and a part of the buffer is as long as there are blocks
-apart : (c : Else-top_twice) → let a = c.args in TopTwice (vipsFrom a.s.now a.start a.count) false
+apart : (c : Else-top_twice) → let a = c.args in TopTwice (vips_from a.s.now a.start a.count) false
 apart c = not-twice c.top_twice.ensures c.if-top_twice.false
 
 pub returns-then-top_twice : goal.returns-then-top_twice

@@ -1,4 +1,4 @@
--- Where the fast way tells, it is `blockEnd`; else straight code, whose calls put together are `blockEnd`.
+-- Where the fast way tells, it is `block_end`; else straight code, whose calls put together are `block_end`.
 use Rattle.ends.proofs.Steps.{block_made}
 use Rattle.ends.proofs.block_end.Goals as goal
 

@@ -1,4 +1,4 @@
--- Straight code: the calls put together are `conventionEnd`.
+-- Straight code: the calls put together are `convention_end`.
 use Rattle.ends.proofs.Steps.{convention_made}
 use Rattle.ends.proofs.convention_end.Goals as goal
 

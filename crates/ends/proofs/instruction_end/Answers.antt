@@ -1,4 +1,4 @@
--- Where the fast way tells, it is `instructionEnd`; else straight code, whose calls put together are `instructionEnd`.
+-- Where the fast way tells, it is `instruction_end`; else straight code, whose calls put together are `instruction_end`.
 use Rattle.ends.proofs.Steps.{instruction-made}
 use Rattle.ends.proofs.instruction_end.Goals as goal
 

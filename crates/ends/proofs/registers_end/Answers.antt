@@ -1,4 +1,4 @@
--- Straight code: the calls put together are `registersEnd`. 24 times a u32 does not wrap.
+-- Straight code: the calls put together are `registers_end`. 24 times a u32 does not wrap.
 use Rattle.ends.proofs.Steps.{registers_made}
 use Rattle.ends.proofs.registers_end.Goals as goal
 

@@ -1,4 +1,4 @@
--- Straight code: the calls put together are `vipsEnd`. 8 times a u32 does not wrap.
+-- Straight code: the calls put together are `vips_end`. 8 times a u32 does not wrap.
 use Rattle.ends.proofs.Steps.{vips-made}
 use Rattle.ends.proofs.vips_end.Goals as goal
 

@@ -6,7 +6,7 @@ use lib.ListN.{length}
 use Rattle.pod.specs.Values.{Routine}
 use Rattle.machine.specs.Edits.{block_at}
 use Rattle.book.specs.Holding.{Holding, block_start}
-use Rattle.ends.specs.Ends.{instructionEnd}
+use Rattle.ends.specs.Ends.{instruction_end}
 use Rattle.image.specs.Places.{instruction_start}
 use Rattle.image.proofs.Parts.{count-found, instruction-next}
 use Rattle.image.proofs.last_instruction.Goals as goal
@@ -40,6 +40,6 @@ returns c x i h l e =
     let last : suc (N x i - 1) ≡ N x i = omega arith in
     record {
       from = from;
-      end = c.instruction_end-end.ensures ∙ ap (instructionEnd c.args.image.now) from ∙ instruction-next x i h l e (N x i - 1) (omega arith)
+      end = c.instruction_end-end.ensures ∙ ap (instruction_end c.args.image.now) from ∙ instruction-next x i h l e (N x i - 1) (omega arith)
           ∙ ap (instruction_start x i) last;
     }
