@@ -12,7 +12,7 @@ definitions() {
 }
 
 code() {
-    sed -nE 's/^pub const ([A-Z_]+): u8 = ([0-9]+);$/\2 \1/p' crates/fields/src/lib.rt | tr 'A-Z_' 'a-z-'
+    sed -n '/^pub enum Refusal {/,/^}/p' crates/fields/src/lib.rt | sed -nE 's/^    ([A-Z][A-Za-z]+) = ([0-9]+),$/\1 \2/p' | named
 }
 
 header() {

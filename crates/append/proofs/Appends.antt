@@ -10,6 +10,12 @@ use lib.ListN.{length, take, drop, length-append, length-replicate}
 use lib.Seq.{take-length}
 use lib.Dec.{ltb}
 use borrow.Author.Tests.{lt-ltb, le-ltb, ltb-false}
+use Rattle.std.proofs.Common.{Result}
+use Rattle.std.specs.Result.{IsErrAnd}
+use Rattle.std.proofs.lemmas.Result.{err_from_is_err_and}
+use Rattle.fields.specs.Refusals.{number}
+use Rattle.fields.specs.Answers.{number_in}
+use Rattle.fields.specs.declared.Refusal.{Refusal}
 use Rattle.fields.specs.Bytes.{zeros, put, Bytes}
 use Rattle.fields.specs.Parse.{Res, ok, no, span}
 use Rattle.fields.specs.Outcome.{Outcome, refused, accepted, after, ◌>>=◌, ◌>>◌, what_is_read, refuse_if, refuse_unless}
@@ -56,6 +62,10 @@ module _ (t : List ℕ) where
   pub unread : {e : ℕ} → no e ≡ span read → e ≡ refusal_of (one_instruction t)
   unfolding one_instruction refusal_of what_is_read after
   unread {e} q = rw (not-past read e q)
+
+  -- the exit of a `?`
+  pub unread-exit : (r : Result (Unit {0}) Refusal) (e : Refusal) → IsErrAnd r (λ d. d ≡ e) → no (number e) ≡ span read → number_in r ≡ refusal_of (one_instruction t)
+  unread-exit r e h q = let p = err_from_is_err_and r h in rw (p.1, p.2) (unread q)
 
   pub too_long : {n : ℕ} → ok tt n ≡ span read → n < length t → 17 ≡ refusal_of (one_instruction t)
   unfolding one_instruction refusal_of what_is_read refuse_if choose after

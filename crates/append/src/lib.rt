@@ -5,39 +5,33 @@
 
 ghost use Rattle.std.specs.Prelude.{◌≡◌, ℕ, ◌+◌, ◌≤◌, ◌<◌, length};
 ghost use Rattle.fields.specs.Bytes.{put};
+ghost use Rattle.fields.specs.Answers.{number_in};
 ghost use Rattle.laws.specs.Normal.{normalise, last_flag};
 ghost use Rattle.pod.specs.Values.{Routine};
 ghost use Rattle.machine.specs.Edits.{append, block_at, leaves_block, is_closed};
 ghost use Rattle.machine.specs.Machine.{edit};
 ghost use Rattle.machine.specs.Book.{in_image, step};
-ghost use Rattle.book.specs.Says.{state, outcome, refusal_of};
+ghost use Rattle.book.specs.Says.{state, leaves, refusal_of};
 ghost use Rattle.book.specs.Holding.{IsSound, Holding};
 ghost use Rattle.image.specs.Places.{FindsLast};
 ghost use Rattle.append.specs.Whole.{Whole, one_instruction};
 ghost use Rattle.append.specs.Target.{Target, IsTarget, with_one};
 
-use book::{Answer, Book};
+use book::{Answered, Book};
+use fields::Refusal;
 use image::LastInstruction;
-use instruction::Asked;
+use journal::{Edit, Trailer};
 use pod::Vip;
 
-// The refusal of bytes that are not one instruction with sound registers, or 0: what reading them refuses, each register asked as soon as it has been read,
-// then 17.
-fn refusal_of_bytes(instruction: &[u8]) -> u64
-    ensures { result ≡ refusal_of (one_instruction instruction.now) }
+// Whether the bytes are one instruction with sound registers: what reading them refuses, each register asked as soon as it has been read, then 17.
+fn one_instruction(instruction: &[u8]) -> Result<(), Refusal>
+    ensures { number_in result ≡ refusal_of (one_instruction instruction.now) }
 {
-    let far = instruction::instruction_past(instruction, 0);
-    if let Asked::Past(end, sound) = far {
-        if !sound {
-            return book::CROOKED_REGISTER;
-        }
-        if end < instruction.len() {
-            return book::LEFTOVER;
-        }
-        0
-    } else {
-        instruction::asked_refusal(far) as u64
+    let end = instruction::appended_past(instruction, 0)?;
+    if end < instruction.len() {
+        return Err(Refusal::Leftover);
     }
+    Ok(())
 }
 
 // The bytes of an instruction over those from `at` on; of its last, the sp reset, the written form is stored.
@@ -95,45 +89,40 @@ pub fn append(
     journal: &mut [u8],
     vip: Vip,
     instruction: &[u8],
-) -> Answer
+) -> Answered
     requires { IsSound (state image.old journal.old book) }
-    ensures { outcome result image.new journal.new ≡ step (edit (append vip.0 instruction.now)) (state image.old journal.old book) }
+    ensures { leaves book result image.new journal.new ≡ step (edit (append vip.0 instruction.now)) (state image.old journal.old book) }
 {
-    let unfit = refusal_of_bytes(instruction);
-    if unfit != 0 {
-        return book::refuse(book, unfit);
-    }
+    one_instruction(instruction)?;
     let found = image::find(image, vip);
     let place = found.place;
     if found.count as usize <= place {
-        return book::refuse(book, book::NO_SUCH_BLOCK);
+        return Err(Refusal::NoSuchBlock);
     }
     let last = image::last_instruction(image, found.at);
     if is_closed(image, last) {
-        return book::refuse(book, book::CLOSED_BLOCK);
+        return Err(Refusal::ClosedBlock);
     }
     let written = book.written as usize;
     let used = book.used as usize;
     let size = instruction.len();
     let grown = written + size;
     let spent = used + journal::TRAILER_SIZE;
-    let refusal = book::admit(image.len(), journal.len(), grown, spent);
-    if refusal != 0 {
-        return book::refuse(book, refusal);
-    }
-    let sum = book.sum;
+    book::admit(image.len(), journal.len(), grown, spent)?;
     let more = charge::sum_of_instruction(instruction, 0, book.rates);
-    if !book::can_add(sum, more) {
-        return book::refuse(book, book::SPOILED_BOOK);
-    }
+    let sum = book::carry(book.sum, more)?;
     insert_instruction(image, found.at, last.end, written, instruction);
-    journal::put_trailer(
-        journal,
-        used,
+    let trailer = Trailer {
         vip,
-        place as u32,
-        size as u32,
-        journal::APPEND,
-    );
-    book::accept(grown, spent, book.rates, sum + more, book.walk)
+        place: place as u32,
+        len: size as u32,
+        kind: Edit::Append,
+    };
+    journal::put_trailer(journal, used, trailer);
+    Ok(Book {
+        written: grown as u64,
+        used: spent as u64,
+        sum,
+        ..book
+    })
 }

@@ -1,53 +1,32 @@
--- A run of numbers of one width, passed over at once: it ends as many times the width further, or passes the end. By induction, one number at a time.
+-- A run of numbers of one width, passed over at once: all of them are one field as many times as wide. By induction, one number at a time.
 -- Assumes nothing.
 use mathlib.Core.Path.{◌≡◌, refl, sym, ap, ◌∙◌}
-use mathlib.Core.Bool.{Bool, true, false}
-use mathlib.Core.List.{List}
-use Prim.Native.Nat.{ℕ, zero, suc, ◌+◌, ◌*◌, ◌-◌, ◌≤◌, ◌<◌}
+use mathlib.Core.List.{List, ◌∷◌}
+use Prim.Native.Nat.{ℕ, zero, suc, ◌+◌, ◌*◌, ◌≤◌}
 use native.Mathlib.Nat.{mul-suc}
 use native.Mathlib.Omega.{arith}
 use lib.ListN.{length}
-use lib.Dec.{leb}
-use borrow.Author.Tests.{le-leb, lt-leb, leb-true, leb-false}
-use Rattle.fields.specs.Parse.{Res, ok, no, le, uint, many, span}
-use Rattle.fields.proofs.Many.{run_next, run-stop}
-use Rattle.fields.specs.Lists.{choose}
+use Rattle.fields.specs.Parse.{Res, ok, no, bind, uint, many, counted, u32, span}
+use Rattle.fields.proofs.Le.{uint-is, span-ok, span-join}
+use Rattle.fields.proofs.Many.{span-map}
 
 module _ (k : ℕ) (s : List ℕ) where
-  read : (o : ℕ) → o + k ≤ length s → uint k s o ≡ ok (le k s o) (o + k)
-  unfolding uint choose
-  read o h = rw (le-leb _ _ h)
+  -- one number, and n after it
+  more : (n : ℕ) (q : Res ℕ) → ((v m : ℕ) → q ≡ ok v m → span (uint (k * n) s m) ≡ span (many (uint k) n s m))
+      → bind (span q) (λ _ m. span (uint (k * n) s m)) ≡ span (bind q (λ x m. bind (many (uint k) n s m) (λ xs e. ok (x ∷ xs) e)))
+  unfolding bind span
+  more n (ok v m) h = h v m refl ∙ sym (span-map (λ xs. v ∷ xs) (many (uint k) n s m))
+  more n (no e) h = refl
 
-  short : (o : ℕ) → length s < o + k → uint k s o ≡ no 1
-  unfolding uint choose
-  short o h = rw (lt-leb _ _ h)
-
-  -- one number was read, and what is left answers q
-  more : (n o : ℕ) → o + k ≤ length s → {q : Res Unit} → q ≡ span (many (uint k) n s (o + k)) → q ≡ span (many (uint k) (suc n) s o)
-  more n o h e =
-      let one : suc n - 1 ≡ n = omega arith in
-      e ∙ ap (λ m. span (many (uint k) m s (o + k))) (sym one) ∙ run_next (uint k) (suc n) s o refl (omega arith) (read o h)
-
-  pub run-within : (n o : ℕ) → o + k * n ≤ length s → ok tt (o + k * n) ≡ span (many (uint k) n s o)
+  pub at_once : (n o : ℕ) → o ≤ length s → span (uint (k * n) s o) ≡ span (many (uint k) n s o)
   unfolding many span
-  run-within zero o h = let e : o + k * 0 ≡ o = omega arith in rw e
-  run-within (suc n) o h =
-      let m : k * suc n ≡ k * n + k = mul-suc k n in
-      let e : o + k * suc n ≡ o + k + k * n = omega arith in
-      ap (λ x. ok tt x) e ∙ more n o (omega arith) (run-within n (o + k) (omega arith))
+  at_once zero o h = span-ok (k * 0) s o (omega arith) ∙ ap (ok tt) (omega arith)
+  at_once (suc n) o h =
+      let e : k * suc n ≡ k + k * n = omega (arith, mul-suc k n) in
+      ap (λ j. span (uint j s o)) e ∙ sym (span-join k (k * n) s o)
+      ∙ more n (uint k s o) (λ v m r. let f = uint-is k s o r in at_once n m (omega (arith, f.1, f.2)))
 
-  pub run_short : (n o : ℕ) → 0 < n → length s < o + k * n → no 1 ≡ span (many (uint k) n s o)
-  run_short zero o z h = absurd (omega arith)
-  run_short (suc n) o z h = go (leb (o + k) (length s)) refl (run_short n (o + k))
-    where
-      left : (n o : ℕ) → o + k ≤ length s → length s < o + k * suc n → 0 < n
-      left zero o i j = let m : k * 1 ≡ k * 0 + k = mul-suc k 0 in absurd (omega arith)
-      left (suc n) o i j = omega arith
-
-      go : (t : Bool) → leb (o + k) (length s) ≡ t → (0 < n → length s < o + k + k * n → no 1 ≡ span (many (uint k) n s (o + k)))
-          → no 1 ≡ span (many (uint k) (suc n) s o)
-      go true e rest =
-          let m : k * suc n ≡ k * n + k = mul-suc k n in
-          let i : o + k ≤ length s = leb-true _ _ e in
-          more n o i (rest (left n o i h) (omega arith))
-      go false e rest = run-stop (uint k) (suc n) s o refl (omega arith) (short o (leb-false _ _ e))
+-- a list of them, whose count was read
+pub counted-at-once : (k : ℕ) (s : List ℕ) (o : ℕ) {c a : ℕ} → ok c a ≡ u32 s o → span (uint (k * c) s a) ≡ span (counted (uint k) s o)
+unfolding bind
+counted-at-once k s o {c} {a} h = let f = uint-is 4 s o (sym h) in rw (← h) (at_once k s c a (omega (arith, f.1, f.2)))

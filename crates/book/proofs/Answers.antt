@@ -5,6 +5,12 @@ use mathlib.Core.Bool.{Bool, true, false}
 use mathlib.Core.List.{List}
 use Prim.Native.Nat.{ℕ, ◌≤◌, ◌<◌}
 use native.Mathlib.Omega.{arith}
+use Rattle.std.proofs.Common.{Result, Ok, Err}
+use Rattle.std.specs.Result.{IsErrAnd}
+use Rattle.std.proofs.lemmas.Result.{err_from_is_err_and}
+use Rattle.fields.specs.Refusals.{number}
+use Rattle.fields.specs.declared.Refusal.{Refusal}
+use Rattle.fields.proofs.Numbers.{positive}
 use lib.Dec.{leb, eqb}
 use borrow.Author.Tests.{ne_eqb, eqb-true, leb-true}
 use Rattle.fields.specs.Lists.{choose}
@@ -13,31 +19,44 @@ use Rattle.fields.proofs.Only.{Only}
 use Rattle.machine.specs.Edits.{Lengths, admit}
 use Rattle.machine.specs.Walk.{no_part}
 use Rattle.machine.specs.Machine as machine
-use Rattle.machine.specs.Book.{State, book_answers}
+use Rattle.machine.specs.Book.{State, book_answers, unopened}
 use Rattle.machine.specs.CallList.{Told, told}
 use Rattle.machine.proofs.Calls.{not_admitted_11, not_admitted_12, admitted}
-use Rattle.book.specs.Says.{state, outcome, leaving, refusal_of}
+use Rattle.book.specs.Says.{state, outcome, leaves, opens, leaving, refusal_of}
 use Rattle.book.specs.declared.Book.{Book}
-use Rattle.book.specs.declared.Answer.{Answer}
 
 pub refuses : (e : ℕ) (b : Book) (image journal : List ℕ) → 0 < e → outcome (record { refusal = e; book = b }) image journal ≡ (refused e, state image journal b)
 unfolding choose
 refuses e b image journal h = rw (ne_eqb e 0 (λ z. omega arith))
 
-pub accepts : (b : Book) (image journal : List ℕ) → outcome (record { refusal = 0; book = b }) image journal ≡ leaving (state image journal b)
+-- what C sees of a call is what the call leaves
+pub seen-accepted : (b after : Book) (image journal : List ℕ) {r : Result Book Refusal} → r ≡ Ok after
+    → outcome (record { refusal = 0; book = after }) image journal ≡ leaves b r image journal
 unfolding choose
-accepts b image journal i = leaving (state image journal b)
+seen-accepted b after image journal e = rw e refl
 
--- what an answer says that hands nothing out
-pub hands_nothing : (a : Answer) (image journal : List ℕ) {x : machine.Answer × State} → outcome a image journal ≡ x
-    → ◌≡◌ {A = Told × State} (record { refusal = a.refusal; part = no_part }, state image journal a.book) (told x.0, x.1)
-unfolding choose told
-hands_nothing a image journal {x} e = ap₂ (λ t s. (t, s)) (go (eqb a.refusal 0) refl ∙ ap (λ y. told y.0) e) (ap (λ y. y.1) e)
-  where
-    go : (t : Bool) → eqb a.refusal 0 ≡ t
-        → record { refusal = a.refusal; part = no_part } ≡ told (choose t (accepted (book_answers (state image journal a.book)).0) (refused a.refusal))
-    go true q = ap (λ n. record { refusal = n; part = no_part }) (eqb-true a.refusal 0 q)
-    go false q = refl
+pub seen-refused : (b : Book) (image journal : List ℕ) {r : Result Book Refusal} (e : Refusal) {n : ℕ} → r ≡ Err e → n ≡ number e
+    → outcome (record { refusal = n; book = b }) image journal ≡ leaves b r image journal
+seen-refused b image journal e h w = rw (h, w) (refuses (number e) b image journal (positive e))
+
+pub opening-accepted : (after : Book) (image journal : List ℕ) {r : Result Book Refusal} → r ≡ Ok after
+    → outcome (record { refusal = 0; book = after }) image journal ≡ opens r image journal
+unfolding choose
+opening-accepted after image journal e = rw e refl
+
+pub opening-refused : (image journal : List ℕ) {r : Result Book Refusal} (e : Refusal) {n : ℕ} {b : Book} → r ≡ Err e → n ≡ number e → state image journal b ≡ unopened image journal
+    → outcome (record { refusal = n; book = b }) image journal ≡ opens r image journal
+opening-refused image journal e {b = b} h w u = rw (h, w) (refuses (number e) b image journal (positive e) ∙ ap (λ s. (refused (number e), s)) u)
+
+-- the exit of a `?` in a call that answers the book after it
+module _ (b : Book) (r : Result Book Refusal) (e : Refusal) (image journal : List ℕ) where
+  pub leaves-refused : IsErrAnd r (λ d. d ≡ e) → {x : machine.Answer × State} → (refused (number e), state image journal b) ≡ x → leaves b r image journal ≡ x
+  leaves-refused h g = let q = err_from_is_err_and r h in rw (q.1, q.2) g
+
+-- and in an opening
+module _ (r : Result Book Refusal) (e : Refusal) (image journal : List ℕ) where
+  pub opens-refused : IsErrAnd r (λ d. d ≡ e) → {x : machine.Answer × State} → (refused (number e), unopened image journal) ≡ x → opens r image journal ≡ x
+  opens-refused h g = let q = err_from_is_err_and r h in rw (q.1, q.2) g
 
 -- a refusal that is told is the outcome's
 pub refused-by : {A : Type 0} (o : Outcome A) {k : ℕ} → k ≡ refusal_of o → (k ≡ 0 → ⊥) → o ≡ refused k

@@ -1,17 +1,21 @@
 -- What the lent bytes and the structs say in the terms of the machine's definitions: the state that a call finds, and the answer and the state that
 -- it leaves.
-use Rattle.std.specs.Prelude.{ℕ, List, eqb}
+use Rattle.std.specs.Prelude.{ℕ, List, eqb, Result, Ok, Err}
+use Rattle.fields.specs.Refusals.{number}
+use Rattle.fields.specs.declared.Refusal.{Refusal}
 use Rattle.fields.specs.Outcome.{Outcome, refused, accepted, attempt}
 unfoldable pub use Rattle.fields.specs.Outcome.{refusal_of}
 use Rattle.fields.specs.Lists.{choose}
 use Rattle.pod.specs.Values.{Routine}
 use Rattle.machine.specs.Machine as machine
 use Rattle.machine.specs.Book as machine_book
-use Rattle.machine.specs.Book.{State, book_answers, restored}
+use Rattle.machine.specs.Book.{State, book_answers, restored, unopened}
+use Rattle.machine.specs.Walk.{no_part}
 use Rattle.machine.specs.CallList.{Told}
 use Rattle.book.specs.declared.Book.{Book}
 use Rattle.book.specs.declared.Answer.{Answer}
 use Rattle.book.specs.declared.WalkAnswer.{WalkAnswer}
+use Rattle.book.specs.declared.HandedOut.{HandedOut}
 
 abbrev pub book_of : Book → machine_book.Book
 book_of b = record { written = b.written; used = b.used; rates = b.rates.rate; sum = b.sum; walk = b.walk }
@@ -28,16 +32,31 @@ leaving s = (accepted (book_answers s).0, s)
 abbrev pub taking_back : State → Routine → Outcome (Routine × ℕ) → machine.Answer × State
 taking_back s r entry = attempt s (restored s r entry)
 
--- the answer and the state that a call leaves
+-- the answer and the state that a call on the book b leaves: a refused one leaves the book
+abbrev pub leaves : Book → Result Book Refusal → List ℕ → List ℕ → machine.Answer × State
+leaves b (Ok after) image journal = leaving (state image journal after)
+leaves b (Err e) image journal = (refused (number e), state image journal b)
+
+-- the answer and the state that an opening leaves: a refused one leaves no book
+abbrev pub opens : Result Book Refusal → List ℕ → List ℕ → machine.Answer × State
+opens (Ok after) image journal = leaving (state image journal after)
+opens (Err e) image journal = (refused (number e), unopened image journal)
+
+-- what is left, as C sees it
 abbrev pub outcome : Answer → List ℕ → List ℕ → machine.Answer × State
 outcome a image journal =
     let s = state image journal a.book in
     (choose (eqb a.refusal 0) (accepted (book_answers s).0) (refused a.refusal), s)
 
--- what next answers beside its book, and the state that it leaves
-abbrev pub walk_outcome : WalkAnswer → List ℕ → List ℕ → Told × State
-walk_outcome a image journal = (record { refusal = a.refusal; part = record { offset = a.offset; len = a.len } }, state image journal a.book)
-
--- of an accepted one that hands out a part and leaves the state s
+-- the answer and the state of an accepted next that hands out a part and leaves the state s
 abbrev pub handing : ℕ → ℕ → State → Told × State
 handing offset len s = (record { refusal = 0; part = record { offset = offset; len = len } }, s)
+
+-- what next answers beside its book, and the state that it leaves
+abbrev pub hands : Book → Result HandedOut Refusal → List ℕ → List ℕ → Told × State
+hands b (Ok h) image journal = handing h.offset h.len (state image journal h.book)
+hands b (Err e) image journal = (record { refusal = number e; part = no_part }, state image journal b)
+
+-- the same, as C sees it
+abbrev pub walk_outcome : WalkAnswer → List ℕ → List ℕ → Told × State
+walk_outcome a image journal = (record { refusal = a.refusal; part = record { offset = a.offset; len = a.len } }, state image journal a.book)

@@ -30,6 +30,9 @@ module _ {s t : List ℕ} where
       go j a b true r = q.at j (leb-true i j r) b
       go j a b false r = p.at j a (leb-false i j r)
 
+  pub alike_upto : {f i e : ℕ} → Alike s t f i → e ≤ i → Alike s t f e
+  alike_upto {f} {i} {e} p h = record { at = λ j a b. p.at j a (omega arith) }
+
 pub alike_one : (s t : List ℕ) (i : ℕ) → get_or s i 0 ≡ get_or t i 0 → Alike s t i (i + 1)
 alike_one s t i h = record { at = λ j a b. let e : j ≡ i = omega arith in rw e h }
 

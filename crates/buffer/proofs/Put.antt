@@ -1,20 +1,13 @@
--- The laws of `put` that callers cite: what stands before, in and after the bytes that were put, two puts as one, a put over a list's parts, and a
+-- The laws of `put` that callers cite: what stands before and after the bytes that were put, two puts as one, a put over a list's parts, and a
 -- part moved to open or close a gap. The first few open `put`; all others follow from these.
 -- Assumes nothing.
-use mathlib.Core.Path.{◌≡◌, refl, sym, ap, ◌∙◌}
+use mathlib.Core.Path.{◌≡◌, sym, ap, ◌∙◌}
 use mathlib.Core.List.{List, [], ◌++◌, append_assoc, append-nil}
 use Prim.Native.Nat.{ℕ, ◌+◌, ◌-◌, ◌≤◌}
 use native.Mathlib.Omega.{arith}
 use lib.ListN.{length, take, drop, length-append, length-take, length-drop, take-append-drop, drop_of_length-le, length-replicate, replicate-append-replicate}
-use lib.Seq.{take_at, drop_at, length-take-le, take-append-le, drop-append-le, drop-drop, take-take}
+use lib.Seq.{take_at, drop_at, length-take-le, take-append-le, drop-drop, take-take}
 use Rattle.fields.specs.Bytes.{put, zeros}
-
--- a part of the first of two lists
-in_front : (m k : ℕ) (p q : List ℕ) → m + k ≤ length p → take k (drop m (p ++ q)) ≡ take k (drop m p)
-in_front m k p q h =
-    let a : m ≤ length p = omega arith in
-    let b : k ≤ length (drop m p) = omega (arith, length-drop m p) in
-    ap (take k) (drop-append-le m p q a) ∙ take-append-le k (drop m p) q b
 
 pub length_part : (m k : ℕ) (a : List ℕ) → m + k ≤ length a → length (take k (drop m a)) ≡ k
 length_part m k a h = length-take-le k (drop m a) (omega (arith, length-drop m a))
@@ -47,19 +40,6 @@ module _ (n : ℕ) (x a : List ℕ) (h : n ≤ length a) where
       let d : drop (n + length x) (put n x a) ≡ drop (n + length x) a =
       ap (drop (n + length x)) (sym (append_assoc (take n a) x _)) ∙ drop_at (take n a ++ x) _ (n + length x) ends in
       ap (λ (k : ℕ). drop k (put n x a)) (sym e) ∙ sym (drop-drop r (n + length x) (put n x a)) ∙ ap (drop r) d ∙ drop-drop r (n + length x) a ∙ ap (λ (k : ℕ). drop k a) e
-
-  -- a part of what is left: before x, x itself, and after it
-  pub part-put-before : (m k : ℕ) → m + k ≤ n → take k (drop m (put n x a)) ≡ take k (drop m a)
-  unfolding put
-  part-put-before m k l =
-      let f : m + k ≤ length (take n a) = omega (arith, front) in
-      in_front m k (take n a) _ f ∙ sym (in_front m k (take n a) (drop n a) f) ∙ ap (λ (s : List ℕ). take k (drop m s)) (take-append-drop n a)
-
-  pub part-put-at : take (length x) (drop n (put n x a)) ≡ x
-  part-put-at = ap (take (length x)) drop-put-at ∙ take_at x _ (length x) refl
-
-  pub part-put-after : (m k : ℕ) → n + length x ≤ m → take k (drop m (put n x a)) ≡ take k (drop m a)
-  part-put-after m k l = ap (take k) (drop-put-after m l)
 
 pub length-put : (n : ℕ) (x a : List ℕ) → n + length x ≤ length a → length (put n x a) ≡ length a
 unfolding put

@@ -8,16 +8,12 @@ ghost use Rattle.fields.specs.Bytes.{put, zeros};
 ghost use Rattle.fields.specs.Lists.{same};
 ghost use Rattle.pod.specs.Written.{bytes};
 
-// Zeros from index `from` up to, not including, index `to`. A loop of plain stores, which the compiler makes one memset.
+// Zeros from index `from` up to, not including, index `to`: one memset.
 pub fn clear(a: &mut [u8], from: usize, to: usize)
     requires { (from ≤ to) × (to ≤ length a.old) }
     ensures { a.new ≡ put from (zeros (to - from)) a.old }
 {
-    let mut i = from;
-    while i < to {
-        a[i] = 0;
-        i += 1;
-    }
+    a[from..to].fill(0);
 }
 
 // All of `b` over the bytes of `a` from `at` on: one memcpy.
@@ -28,9 +24,6 @@ pub fn copy_at(a: &mut [u8], at: usize, b: &[u8])
     let end = at + b.len();
     a[at..end].copy_from_slice(b);
 }
-
-// How many bytes a move takes at a time, by way of an array: few enough for the fastest cache, and enough that a turn's copies are long.
-const STEP: usize = 512;
 
 pub fn put_u8(a: &mut [u8], at: usize, v: u8)
     requires { at + 1 ≤ length a.old }
@@ -43,90 +36,41 @@ pub fn put_u32(a: &mut [u8], at: usize, v: u32)
     requires { at + 4 ≤ length a.old }
     ensures { a.new ≡ put at (bytes 4 v) a.old }
 {
-    a[at] = (v % 256) as u8;
-    a[at + 1] = (v / 256 % 256) as u8;
-    a[at + 2] = (v / 256 / 256 % 256) as u8;
-    a[at + 3] = (v / 256 / 256 / 256 % 256) as u8;
+    copy_at(a, at, &v.to_le_bytes());
 }
 
 pub fn put_u64(a: &mut [u8], at: usize, v: u64)
     requires { at + 8 ≤ length a.old }
     ensures { a.new ≡ put at (bytes 8 v) a.old }
 {
-    put_u32(a, at, (v % 0x1_0000_0000) as u32);
-    put_u32(a, at + 4, (v / 0x1_0000_0000) as u32);
+    copy_at(a, at, &v.to_le_bytes());
 }
 
-// The `n` bytes from `from` go over those from `to`, by way of `room`: so the two parts may overlap.
-fn move_some(a: &mut [u8], room: &mut [u8], from: usize, to: usize, n: usize)
-    requires { (from + n ≤ length a.old) × ((to + n ≤ length a.old) × (n ≤ length room.old)) }
-    ensures { a.new ≡ put to (take n (drop from a.old)) a.old }
-{
-    let end = from + n;
-    copy_at(room, 0, &a[from..end]);
-    copy_at(a, to, &room[..n]);
-}
-
-// A move towards the front goes from the first byte to the last, so that it never overwrites what it has yet to read.
-fn move_down(a: &mut [u8], from: usize, to: usize, n: usize)
-    requires { (to ≤ from) × (from + n ≤ length a.old) }
-    ensures { a.new ≡ put to (take n (drop from a.old)) a.old }
-{
-    let mut room = [0u8; STEP];
-    let mut i = 0;
-    while STEP <= n - i {
-        move_some(a, &mut room, from + i, to + i, STEP);
-        i += STEP;
-    }
-    move_some(a, &mut room, from + i, to + i, n - i);
-}
-
-// A move towards the end goes from the last byte to the first.
-fn move_up(a: &mut [u8], from: usize, to: usize, n: usize)
-    requires { (from ≤ to) × (to + n ≤ length a.old) }
-    ensures { a.new ≡ put to (take n (drop from a.old)) a.old }
-{
-    let mut room = [0u8; STEP];
-    let mut i = n;
-    while STEP <= i {
-        i -= STEP;
-        move_some(a, &mut room, from + i, to + i, STEP);
-    }
-    move_some(a, &mut room, from, to, i);
-}
-
-// The `n` bytes from `from` go over those from `to`; the two parts may overlap either way.
+// The `n` bytes from `from` go over those from `to`; the two parts may overlap either way. The library's move takes 32 bytes a turn, in either direction.
 pub fn move_within(a: &mut [u8], from: usize, to: usize, n: usize)
     requires { (from + n ≤ length a.old) × (to + n ≤ length a.old) }
     ensures { a.new ≡ put to (take n (drop from a.old)) a.old }
 {
-    if to <= from {
-        move_down(a, from, to, n);
-    } else {
-        move_up(a, from, to, n);
-    }
+    a.copy_within(from..from + n, to);
 }
 
-// Whether every byte from `from` on is 0: eight at a time, and then the few that are left.
+// Whether every byte from `from` on is 0: eight at a time, since each call on a book tests all that lies behind its routine, and then the few that are left.
 pub fn is_zero(a: &[u8], from: usize) -> bool
     ensures { result ≡ same (drop from a.now) (zeros (length a.now - from)) }
 {
     if a.len() <= from {
         return true;
     }
-    let n = a.len();
-    let mut i = from;
-    while 8 <= n - i {
-        if fields::eight(a, i) != 0 {
+    let eights = (a.len() - from) / 8;
+    for passed in 0..eights {
+        if fields::eight(a, from + 8 * passed) != 0 {
             return false;
         }
-        i += 8;
     }
-    while i < n {
+    for i in from + 8 * eights..a.len() {
         if a[i] != 0 {
             return false;
         }
-        i += 1;
     }
     true
 }

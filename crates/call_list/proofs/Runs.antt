@@ -1,16 +1,20 @@
 -- A run of calls: one call at a time, from the opening on, and that it is what the machine does. The first by computing; the second since the words
 -- fit 64 bits and the bytes 8, so that the calls are among those of which demand 3 is proved.
 -- Assumes nothing.
-use mathlib.Core.Path.{◌≡◌, refl, sym, ap, ap₂, ◌∙◌}
+use mathlib.Core.Path.{◌≡◌, refl, sym, ap, ap₂, ◌∙◌, subst}
 use mathlib.Core.Bool.{Bool, true, false}
 use mathlib.Core.List.{List, [], ◌∷◌}
-use Prim.Native.Nat.{ℕ, suc, ◌+◌, ◌-◌, ◌≤◌, ◌<◌, ◌^◌}
+use Prim.Native.Nat.{ℕ, suc, ◌+◌, ◌-◌, ◌*◌, ◌/◌, ◌≤◌, ◌<◌, ◌^◌}
 use native.Mathlib.Omega.{arith}
+use Rattle.std.proofs.Common.{Result, Ok, Err}
+use Rattle.std.specs.Result.{IsErrAnd}
 use lib.ListN.{length, drop, get_or}
-use lib.Dec.{eqb}
-use borrow.Author.Tests.{eq-eqb, ne_eqb, eqb-true}
+use lib.Dec.{eqb, leb}
+use borrow.Author.Tests.{ne_eqb, eqb-true, leb-true, leb-false}
+use Rattle.std.proofs.lemmas.Nat.{div-add-mod'}
 use Rattle.fields.specs.Outcome.{Outcome, refused, accepted, after, ◌>>=◌, refuse_unless, refusal_of, attempt}
 use Rattle.fields.proofs.Le.{bytes_take, bytes_drop}
+use Rattle.fields.specs.declared.Refusal.{Refusal}
 use Rattle.fields.proofs.Outcomes.{not-both}
 use Rattle.fields.specs.Lists.{choose, Each}
 use Rattle.fields.specs.Bytes.{Bytes}
@@ -23,7 +27,10 @@ use Rattle.machine.specs.CallList.{is_call_list, call_of, call_at, calls, Told, 
 use Rattle.demands.specs.Demand3.{Opening, fresh}
 use Rattle.demands.proofs.Demand3.{follows}
 use Rattle.book.specs.declared.Answer as A
-use Rattle.book.specs.Says.{state, outcome}
+use Rattle.book.specs.declared.Book.{Book}
+use Rattle.book.specs.declared.HandedOut.{HandedOut}
+use Rattle.book.specs.Says.{state, outcome, leaves, handing, hands}
+use Rattle.walk.proofs.Walked.{hands-refused}
 use Rattle.call_list.specs.Says.{last_in, run_told}
 use Rattle.call_list.specs.Runs.{Agrees, Runs}
 use Rattle.call_list.proofs.Words.{none_left, calls_are, more, still}
@@ -62,6 +69,20 @@ module _ (kind vip : ℕ) (bytes : List ℕ) where
   unfolding call_of choose
   is_abandon a b c d e f = rw (ne_eqb kind 0 a, ne_eqb kind 1 b, ne_eqb kind 2 c, ne_eqb kind 3 d, ne_eqb kind 4 e, ne_eqb kind 5 f)
 
+-- a call that hands out no part: what is said of it, and the state that it leaves, are those of the call
+module _ (b : Book) (r : Result Book Refusal) (image journal : List ℕ) where
+  pub part-refused : (h : Result HandedOut Refusal) (e : Refusal) → IsErrAnd h (λ d. d ≡ e) → r ≡ Err e
+      → hands b h image journal ≡ (told (leaves b r image journal).0, (leaves b r image journal).1)
+  part-refused h e exit w = hands-refused b h e image journal exit (rw w refl)
+
+  pub no-part : (after : Book) → r ≡ Ok after → handing 0 0 (state image journal after) ≡ (told (leaves b r image journal).0, (leaves b r image journal).1)
+  unfolding told
+  no-part after w = rw w refl
+
+-- and so they are those of its step
+pub told-step : (s : State) (c : Call) {h : Told × State} {x : Answer × State} → h ≡ (told x.0, x.1) → x ≡ step c s → h ≡ told_step c s
+told-step s c e w = e ∙ ap (λ y. (told y.0, y.1)) w
+
 -- the refusal that a call's answer says
 pub refusal_is : (a : A.Answer) (image journal : List ℕ) {x : Answer × State} → outcome a image journal ≡ x → a.refusal ≡ refusal_of x.0
 unfolding choose refusal_of
@@ -74,15 +95,6 @@ refusal_is a image journal {x} e = go (eqb a.refusal 0) refl ∙ ap (λ y. refus
 -- and the state that it leaves
 pub state-is : (a : A.Answer) (image journal : List ℕ) {x : Answer × State} → outcome a image journal ≡ x → state image journal a.book ≡ x.1
 state-is a image journal e = ap (λ y. y.1) e
-
--- by its number, an answer is a refusal or a value
-pub refused-is : (a : A.Answer) (image journal : List ℕ) → (a.refusal ≡ 0 → ⊥) → (outcome a image journal).0 ≡ refused a.refusal
-unfolding choose
-refused-is a image journal h = rw (ne_eqb a.refusal 0 h)
-
-pub accepted-is : (a : A.Answer) (image journal : List ℕ) → a.refusal ≡ 0 → (outcome a image journal).0 ≡ accepted (book_answers (state image journal a.book)).0
-unfolding choose
-accepted-is a image journal h = rw (eq-eqb a.refusal 0 h)
 
 -- what a refused answer says of a run that was not made
 pub not_made : (a : A.Answer) (image journal : List ℕ) {k : ℕ} {s : State} → outcome a image journal ≡ (refused k, s)
@@ -126,6 +138,22 @@ module _ (words bytes : List ℕ) (s : State) where
     pub ended : length words ≤ at → x ≡ ran nothing_told (calls words bytes) s
     unfolding calls
     ended h = sym (ran-none x.0 x.1) ∙ ap (λ u. ran x.0 (calls u bytes) x.1) (sym (none_left words bytes at g.within h)) ∙ g.same
+
+-- the same by the place of a call
+module _ (words bytes : List ℕ) (s : State) (x : Told × State) (i : ℕ) (g : Reached words bytes s x (i * 4)) where
+  pub next-place : {y : Told × State} → i * 4 < length words → y ≡ told_step (call_at words bytes (i * 4)) x.1 → Reached words bytes s y ((i + 1) * 4)
+  next-place {y} h e = let n : i * 4 + 4 ≡ (i + 1) * 4 = omega arith in subst (λ a. Reached words bytes s y a) n (next words bytes s x (i * 4) g h e)
+
+  pub all-ended : length words / 4 ≤ i → x ≡ ran nothing_told (calls words bytes) s
+  all-ended h = ended words bytes s x (i * 4) g (go (leb (length words) (i * 4)) refl)
+    where
+      -- a list that goes on has a whole call more
+      go : (t : Bool) → leb (length words) (i * 4) ≡ t → length words ≤ i * 4
+      go true q = leb-true _ _ q
+      go false q =
+          let l : i * 4 < length words = leb-false _ _ q in
+          let m = more words bytes (i * 4) l g.encodes in
+          absurd (omega (arith, div-add-mod' (length words) 4, m))
 
 -- before the first call, of what the run begins with
 pub begun-at : (words bytes : List ℕ) → is_call_list words bytes ≡ true → {x : Told × State} {s : State} → x ≡ (nothing_told, s) → Reached words bytes x.1 x 0

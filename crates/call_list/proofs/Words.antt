@@ -3,9 +3,12 @@
 use mathlib.Core.Path.{◌≡◌, refl, sym, ap, ◌∙◌}
 use mathlib.Core.Bool.{true, false, ◌&&◌}
 use mathlib.Core.List.{List, [], ◌∷◌}
-use Prim.Native.Nat.{ℕ, ◌+◌, ◌≤◌, ◌<◌}
+use Prim.Native.Nat.{ℕ, zero, suc, ◌+◌, ◌*◌, ◌/◌, ◌≤◌, ◌<◌}
 use native.Mathlib.Omega.{arith}
 use native.Mathlib.Numerals.{add-one}
+use Rattle.std.proofs.Common.{get_or-take, get_or-drop, ◌==◌}
+use Rattle.std.specs.Simd.{first_chunks}
+use Rattle.std.proofs.lemmas.Nat.{div-add-mod'}
 use lib.ListN.{length, drop, get_or, length-drop}
 use lib.Seq.{drop-cons, drop-length}
 use lib.Dec.{leb}
@@ -13,14 +16,39 @@ use borrow.Author.Tests.{le-leb, lt-leb, leb-true}
 pub use Rattle.machine.proofs.Held.{both}
 use Rattle.machine.specs.CallList.{is_call_list, call_at, Sits, calls}
 
--- fewer than four words are left, and not none
-pub too_few : (words bytes : List ℕ) → 0 < length words → length words < 4 → is_call_list words bytes ≡ false
+-- the words of the call at a place are four of them in a row
+word-of : (k i j : ℕ) (words : List ℕ) → i < k → k * 4 ≤ length words → j < 4 → get_or (get_or (first_chunks 4 k words) i []) j 0 ≡ get_or words (i * 4 + j) 0
+word-of zero i j words h l m = absurd (omega arith)
+word-of (suc k) zero j words h l m = let e : j ≡ 0 * 4 + j = omega arith in get_or-take 4 words j 0 m ∙ ap (λ a. get_or words a 0) e
+word-of (suc k) (suc i) j words h l m =
+    let n : k * 4 ≤ length (drop 4 words) = omega (arith, length-drop 4 words) in
+    let e : 4 + (i * 4 + j) ≡ suc i * 4 + j = omega arith in
+    word-of k i j (drop 4 words) (omega arith) n m ∙ get_or-drop 4 words (i * 4 + j) 0 ∙ ap (λ a. get_or words a 0) e
+
+-- a call at a place below their number is a whole one, and its words are those of the list
+module _ (words : List ℕ) (calls : List (List ℕ)) (cut : calls ≡ first_chunks 4 (length words / 4) words) (i : ℕ) (h : i < length words / 4) where
+  pub whole-there : i * 4 + 4 ≤ length words
+  whole-there = omega (arith, h, div-add-mod' (length words) 4)
+
+  pub word-there : (j : ℕ) → j < 4 → get_or (get_or calls i []) j 0 ≡ get_or words (i * 4 + j) 0
+  word-there j m = ap (λ l. get_or (get_or l i []) j 0) cut ∙ word-of (length words / 4) i j words h (omega (arith, div-add-mod' (length words) 4)) m
+
+  pub kind-there : get_or (get_or calls i []) 0 0 ≡ get_or words (i * 4) 0
+  kind-there = let e : i * 4 + 0 ≡ i * 4 = omega arith in word-there 0 (omega arith) ∙ ap (λ a. get_or words a 0) e
+
+-- what four words say is the call at their offset
+pub same-call-at : (call words bytes : List ℕ) (at : ℕ) → get_or call 0 0 ≡ get_or words at 0 → get_or call 1 0 ≡ get_or words (at + 1) 0
+    → get_or call 2 0 ≡ get_or words (at + 2) 0 → get_or call 3 0 ≡ get_or words (at + 3) 0 → call_at call bytes 0 ≡ call_at words bytes at
+same-call-at call words bytes at a b c d = rw (a, b, c, d)
+
+-- no list has from one to three words left over
+pub left_over : (words bytes : List ℕ) (r : ℕ) → r ≡ length words → r < 4 → (r == 0) ≡ is_call_list words bytes
 unfolding is_call_list
-too_few [] bytes h k = absurd (omega arith)
-too_few (kind ∷ []) bytes h k = refl
-too_few (kind ∷ vip ∷ []) bytes h k = refl
-too_few (kind ∷ vip ∷ begin ∷ []) bytes h k = refl
-too_few (kind ∷ vip ∷ begin ∷ end ∷ words) bytes h k = absurd (omega arith)
+left_over [] bytes r e h = rw e refl
+left_over (kind ∷ []) bytes r e h = rw e refl
+left_over (kind ∷ vip ∷ []) bytes r e h = rw e refl
+left_over (kind ∷ vip ∷ begin ∷ []) bytes r e h = rw e refl
+left_over (kind ∷ vip ∷ begin ∷ end ∷ words) bytes r e h = absurd (omega arith)
 
 enough : (words bytes : List ℕ) → 0 < length words → is_call_list words bytes ≡ true → 4 ≤ length words
 unfolding is_call_list

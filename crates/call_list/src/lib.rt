@@ -1,14 +1,19 @@
 // A list of calls, run on a book that is there, or on a file from its opening on.
 #![tactic(auto)]
 
-ghost use Rattle.std.specs.Prelude.{◌≡◌, true, List, ℕ};
-ghost use Rattle.book.specs.Says.{state, walk_outcome};
-ghost use Rattle.machine.specs.CallList.{is_call_list, call_of, call_at, Sits, calls, told_step, nothing_told, ran, run_on};
+ghost use Rattle.std.specs.Prelude.{◌≡◌, ◌≤◌, true, List, ℕ, length, slice_index};
+ghost use Rattle.book.specs.Says.{state, walk_outcome, leaves, hands};
+ghost use Rattle.book.specs.declared.Book.{Book as Prior};
+ghost use Rattle.machine.specs.CallList.{is_call_list, call_of, call_at, calls, told, told_step, nothing_told, ran, run_on};
 ghost use Rattle.call_list.specs.Says.{run_outcome, run_told};
 ghost use Rattle.call_list.specs.Runs.{Runs};
 
-use book::{Answer, Book, Rates, WalkAnswer};
+use book::{Answer, Answered, Book, HandedOut, Rates, WalkAnswer};
+use fields::Refusal;
 use pod::Vip;
+
+// The kinds of calls are 0 to this one.
+const LAST_KIND: u64 = 6;
 
 // What a run over a list answers: `refusal` of the words or the opening, after which nothing is changed; else 0, and `last`, the refusal of the last
 // call, or 0 where it was accepted or the list is empty. The book is the one after the list. Offset and length are those that the last call handed out, where it
@@ -55,25 +60,33 @@ fn done(last: WalkAnswer) -> RunAnswer
 fn is_call_list(words: &[u64], bytes: &[u8]) -> bool
     ensures { result ≡ is_call_list words.now bytes.now }
 {
-    let n = words.len();
     let most = bytes.len() as u64;
-    let mut i = 0;
-    while i < n {
-        if n - i < 4 {
+    let (calls, rest) = words.as_chunks::<4>();
+    for call in calls {
+        if LAST_KIND < call[0] {
             return false;
         }
-        if 6 < words[i] {
+        if call[3] < call[2] {
             return false;
         }
-        if words[i + 3] < words[i + 2] {
+        if most < call[3] {
             return false;
         }
-        if most < words[i + 3] {
-            return false;
-        }
-        i += 4;
     }
-    true
+    rest.is_empty()
+}
+
+// A call that hands out no part of the image.
+fn without_part(answered: Answered) -> Result<HandedOut, Refusal>
+    ensures { (book : Prior) (image journal : List ℕ) → hands book result image journal
+        ≡ (told (leaves book answered image journal).0, (leaves book answered image journal).1) }
+{
+    let book = answered?;
+    Ok(HandedOut {
+        book,
+        offset: 0,
+        len: 0,
+    })
 }
 
 // One call, by its kind. Only next hands out a part of the image.
@@ -84,47 +97,42 @@ fn call(
     kind: u64,
     vip: Vip,
     bytes: &[u8],
-) -> WalkAnswer
-    ensures { walk_outcome result image.new journal.new ≡ told_step (call_of kind vip.0 bytes.now) (state image.old journal.old book) }
+) -> Result<HandedOut, Refusal>
+    ensures { hands book result image.new journal.new ≡ told_step (call_of kind vip.0 bytes.now) (state image.old journal.old book) }
 {
-    if kind == 0 {
-        return book::hand_nothing(calls::create_block(book, image, journal, vip));
+    match kind {
+        0 => without_part(calls::create_block(book, image, journal, vip)),
+        1 => without_part(calls::remove_block(book, image, journal, vip)),
+        2 => without_part(calls::append(book, image, journal, vip, bytes)),
+        3 => without_part(calls::undo(book, image, journal)),
+        4 => without_part(walk::start(book, image, journal)),
+        5 => walk::next(book, image, journal),
+        _ => without_part(walk::abandon(book, image, journal)),
     }
-    if kind == 1 {
-        return book::hand_nothing(calls::remove_block(book, image, journal, vip));
-    }
-    if kind == 2 {
-        return book::hand_nothing(calls::append(book, image, journal, vip, bytes));
-    }
-    if kind == 3 {
-        return book::hand_nothing(calls::undo(book, image, journal));
-    }
-    if kind == 4 {
-        return book::hand_nothing(walk::start(book, image, journal));
-    }
-    if kind == 5 {
-        return walk::next(book, image, journal);
-    }
-    book::hand_nothing(walk::abandon(book, image, journal))
 }
 
-// The call whose four words begin at `at`.
-fn call_at(
+// The call that four words say.
+fn call_in(
     book: Book,
     image: &mut [u8],
     journal: &mut [u8],
-    words: &[u64],
+    words: &[u64; 4],
     bytes: &[u8],
-    at: usize,
-) -> WalkAnswer
-    requires { Sits words.now bytes.now at }
-    ensures { walk_outcome result image.new journal.new ≡ told_step (call_at words.now bytes.now at) (state image.old journal.old book) }
+) -> Result<HandedOut, Refusal>
+    requires ordered { slice_index words.now 2 ≤ slice_index words.now 3 }
+    requires inside { slice_index words.now 3 ≤ length bytes.now }
+    ensures { hands book result image.new journal.new ≡ told_step (call_at words.now bytes.now 0) (state image.old journal.old book) }
 {
-    let kind = words[at];
-    let vip = Vip(words[at + 1]);
-    let begin = words[at + 2] as usize;
-    let end = words[at + 3] as usize;
-    call(book, image, journal, kind, vip, &bytes[begin..end])
+    let begin = words[2] as usize;
+    let end = words[3] as usize;
+    call(
+        book,
+        image,
+        journal,
+        words[0],
+        Vip(words[1]),
+        &bytes[begin..end],
+    )
 }
 
 // The calls of a list on a book, each with the book that the one before it answered. What the last call answers tells of any call of a list: it is that of
@@ -139,13 +147,17 @@ fn run_calls(
     requires { is_call_list words.now bytes.now ≡ true }
     ensures { walk_outcome result image.new journal.new ≡ ran nothing_told (calls words.now bytes.now) (state image.old journal.old book) }
 {
-    let n = words.len();
-    let mut last = book::nothing_yet(book);
-    let mut at = 0;
-    while at < n {
+    let (calls, _) = words.as_chunks::<4>();
+    let mut last = WalkAnswer {
+        refusal: 0,
+        book,
+        offset: 0,
+        len: 0,
+    };
+    for call in calls {
         let held = last.book;
-        last = call_at(held, image, journal, words, bytes, at);
-        at += 4;
+        let answered = call_in(held, image, journal, call, bytes);
+        last = WalkAnswer::new(held, answered);
     }
     last
 }
@@ -162,14 +174,12 @@ pub fn run(
     ensures { Runs file.now image.old journal.old words.now bytes.now rates.rate (run_outcome result image.new journal.new) }
 {
     if !is_call_list(words, bytes) {
-        return not_run(book::refuse_opening(book::NO_SUCH_BLOCK));
+        return not_run(Answer::opening(Err(Refusal::NoSuchBlock)));
     }
-    let opened = opening::open(file, image, journal, rates);
-    if opened.refusal != 0 {
-        return not_run(opened);
+    match opening::open(file, image, journal, rates) {
+        Ok(fresh) => done(run_calls(fresh, image, journal, words, bytes)),
+        Err(refusal) => not_run(Answer::opening(Err(refusal))),
     }
-    let fresh = opened.book;
-    done(run_calls(fresh, image, journal, words, bytes))
 }
 
 // Runs a list of calls on a book that is there.
@@ -183,7 +193,7 @@ pub fn run_on(
     ensures { run_outcome result image.new journal.new ≡ run_told (run_on words.now bytes.now (state image.old journal.old book)) }
 {
     if !is_call_list(words, bytes) {
-        return not_run(book::refuse(book, book::NO_SUCH_BLOCK));
+        return not_run(Answer::new(book, Err(Refusal::NoSuchBlock)));
     }
     done(run_calls(book, image, journal, words, bytes))
 }

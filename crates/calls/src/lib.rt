@@ -6,30 +6,24 @@ ghost use Rattle.std.specs.Prelude.{◌≡◌};
 ghost use Rattle.machine.specs.Edits.{create, remove, append};
 ghost use Rattle.machine.specs.Machine.{edit, undo};
 ghost use Rattle.machine.specs.Book.{step};
-ghost use Rattle.book.specs.Says.{state, outcome};
+ghost use Rattle.book.specs.Says.{state, leaves};
 
-use book::{Answer, Book};
+use book::{Answered, Book};
 use pod::Vip;
 
 // A block with the vip goes last: 14 where it is present, then 11, 12.
-pub fn create_block(book: Book, image: &mut [u8], journal: &mut [u8], vip: Vip) -> Answer
-    ensures { outcome result image.new journal.new ≡ step (edit (create vip.0)) (state image.old journal.old book) }
+pub fn create_block(book: Book, image: &mut [u8], journal: &mut [u8], vip: Vip) -> Answered
+    ensures { leaves book result image.new journal.new ≡ step (edit (create vip.0)) (state image.old journal.old book) }
 {
-    let first = image::inspect(book, image, journal);
-    if first != 0 {
-        return book::refuse(book, first);
-    }
+    image::inspect(book, image, journal)?;
     create::create_block(book, image, journal, vip)
 }
 
 // The block with the vip goes, and the last block takes its place: 20 where a walk is open, 15 where it is absent, then 12, and 13 for the sum.
-pub fn remove_block(book: Book, image: &mut [u8], journal: &mut [u8], vip: Vip) -> Answer
-    ensures { outcome result image.new journal.new ≡ step (edit (remove vip.0)) (state image.old journal.old book) }
+pub fn remove_block(book: Book, image: &mut [u8], journal: &mut [u8], vip: Vip) -> Answered
+    ensures { leaves book result image.new journal.new ≡ step (edit (remove vip.0)) (state image.old journal.old book) }
 {
-    let refusal = image::inspect_unwalked(book, image, journal);
-    if refusal != 0 {
-        return book::refuse(book, refusal);
-    }
+    image::inspect_unwalked(book, image, journal)?;
     remove::remove_block(book, image, journal, vip)
 }
 
@@ -41,24 +35,18 @@ pub fn append(
     journal: &mut [u8],
     vip: Vip,
     instruction: &[u8],
-) -> Answer
-    ensures { outcome result image.new journal.new ≡ step (edit (append vip.0 instruction.now)) (state image.old journal.old book) }
+) -> Answered
+    ensures { leaves book result image.new journal.new ≡ step (edit (append vip.0 instruction.now)) (state image.old journal.old book) }
 {
-    let unsound = image::inspect(book, image, journal);
-    if unsound != 0 {
-        return book::refuse(book, unsound);
-    }
+    image::inspect(book, image, journal)?;
     append::append(book, image, journal, vip, instruction)
 }
 
 // The last accepted edit that stands is taken back: 20 where a walk is open, 16 where no edit stands, 13 where the journal's last entry does not fit the
 // image, and 13 for the sum.
-pub fn undo(book: Book, image: &mut [u8], journal: &mut [u8]) -> Answer
-    ensures { outcome result image.new journal.new ≡ step undo (state image.old journal.old book) }
+pub fn undo(book: Book, image: &mut [u8], journal: &mut [u8]) -> Answered
+    ensures { leaves book result image.new journal.new ≡ step undo (state image.old journal.old book) }
 {
-    let refusal = image::inspect_unwalked(book, image, journal);
-    if refusal != 0 {
-        return book::refuse(book, refusal);
-    }
+    image::inspect_unwalked(book, image, journal)?;
     undo::undo(book, image, journal)
 }

@@ -5,7 +5,7 @@ use mathlib.Core.List.{List}
 use Prim.Native.Nat.{ℕ, ◌+◌, ◌≤◌}
 use native.Mathlib.Omega.{arith}
 use lib.ListN.{length, get_or}
-use Rattle.fields.specs.Outcome.{refused, after}
+use Rattle.fields.specs.Outcome.{refused, after, accepted}
 use Rattle.fields.specs.Parse.{ok, many}
 use Rattle.pod.specs.Values.{BasicBlock}
 use Rattle.pod.specs.Layout.{block}
@@ -23,12 +23,12 @@ use Rattle.charge.specs.Sums.{Table, Summable}
 use Rattle.machine.proofs.Sums.{most_rate, sum-under}
 
 module _ (rates : Rates) where
-  pub refused_charge : (s : State) {k : ℕ} → held s ≡ refused k → record { refusal = k; cents = 0 } ≡ charge_look (look_charge rates s)
-  unfolding charge_look after
+  pub refused_charge : (s : State) {k : ℕ} → held s ≡ refused k → refused k ≡ look_charge rates s
+  unfolding after
   refused_charge s e = rw e
 
-  pub accepted_charge : {s : State} (r : Ready s) {n c : ℕ} → n ≡ sum rates r.routine → c ≡ cents n → record { refusal = 0; cents = c } ≡ charge_look (look_charge rates s)
-  unfolding charge_look after
+  pub accepted_charge : {s : State} (r : Ready s) {n c : ℕ} → n ≡ sum rates r.routine → c ≡ cents n → accepted c ≡ look_charge rates s
+  unfolding after
   accepted_charge r e f = rw (f, e, r.is)
 
 -- where the walk begins, and how many blocks it passes

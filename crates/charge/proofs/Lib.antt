@@ -1,4 +1,3 @@
-pub mod Groups
 pub mod Tables
 pub mod Totals
 pub mod Rated

@@ -1,9 +1,8 @@
 -- A list that is read and summed one element at a time: what is left of it, with the sum so far, comes to the whole. One law for instructions and blocks.
 -- Assumes nothing.
 use mathlib.Core.Path.{◌≡◌, ap}
-use mathlib.Core.List.{List, [], ◌∷◌}
-use Prim.Native.Nat.{ℕ, zero, suc, ◌+◌, ◌-◌, ◌≤◌, ◌<◌}
-use native.Mathlib.Nat.{not-suc-le-zero}
+use mathlib.Core.List.{List, ◌∷◌}
+use Prim.Native.Nat.{ℕ, suc, ◌+◌, ◌-◌, ◌≤◌, ◌<◌}
 use native.Mathlib.Omega.{arith}
 use Rattle.fields.specs.Parse.{Reader, ok, many}
 use Rattle.fields.proofs.Invert.{inv, inv_ok}
@@ -26,8 +25,8 @@ record Next {A : Type 0} (p : Reader A) (f : A → ℕ) (s : List ℕ) (n all le
 
 module _ {A : Type 0} {p : Reader A} {f : A → ℕ} {s : List ℕ} {n all : ℕ} where
   -- where the walk begins
-  pub begins : {count at : ℕ} (xs : List A) → many p count s at ≡ ok xs n → total f xs ≡ all → Left p f s n all count at 0
-  begins xs e t = record { rest = xs; reads = e; is = omega (arith, t) }
+  pub begins : (count : ℕ) {at : ℕ} (xs : List A) → many p count s at ≡ ok xs n → total f xs ≡ all → Left p f s n all (count - 0) at 0
+  begins count xs e t = let none : count - 0 ≡ count = omega arith in record { rest = xs; reads = rw none e; is = omega (arith, t) }
 
   next : (left o sum : ℕ) → Left p f s n all (suc left) o sum → Next p f s n all left o sum
   unfolding many total
@@ -44,22 +43,22 @@ module _ {A : Type 0} {p : Reader A} {f : A → ℕ} {s : List ℕ} {n all : ℕ
         others = record { rest = b.0; reads = rw end at b.2; is = omega (arith, sums, l.is) };
       }
 
-  -- one more element, of which r is the sum and the end
-  pub goes_on : (left : ℕ) {o sum : ℕ} (r : Summed) → Left p f s n all left o sum → 0 < left → Sums p f s o r → Left p f s n all (left - 1) r.end (sum + r.sum)
-  goes_on zero r l h e = absurd (not-suc-le-zero h)
-  goes_on (suc left) {o} {sum} r l h e =
-      let x = next left o sum l in
-      let y = e x.first x.past x.reads in
-      let one : suc left - 1 ≡ left = omega arith in
-      rw (one, y.0, y.1) x.others
+  -- of `count` elements i are passed, and then one more, of which r is the sum and the end
+  module _ {count i o sum : ℕ} (r : Summed) (l : Left p f s n all (count - i) o sum) (h : i < count) (e : Sums p f s o r) where
+    pub goes_on : Left p f s n all (count - (i + 1)) r.end (sum + r.sum)
+    goes_on =
+        let one : count - i ≡ suc (count - (i + 1)) = omega arith in
+        let x = next (count - (i + 1)) o sum (rw one at l) in
+        let y = e x.first x.past x.reads in
+        rw (y.0, y.1) x.others
 
-  pub stays_below : (left : ℕ) {o sum : ℕ} (r : Summed) → Left p f s n all left o sum → 0 < left → Sums p f s o r → sum + r.sum ≤ all
-  stays_below left r l h e = let g = goes_on left r l h e in omega (arith, g.is)
+    pub stays_below : sum + r.sum ≤ all
+    stays_below = omega (arith, goes_on.is)
 
   -- nothing is left
-  pub ends : (left : ℕ) {o sum : ℕ} → Left p f s n all left o sum → left ≡ 0 → (sum ≡ all) × (o ≡ n)
+  pub ends : {count i o sum : ℕ} → Left p f s n all (count - i) o sum → count ≤ i → (sum ≡ all) × (o ≡ n)
   unfolding many total
-  ends zero {o} {sum} l z =
-      let none : [] ≡ l.rest = (inv_ok l.reads).0 in
-      (omega (arith, ap (total f) none, l.is), (inv_ok l.reads).1)
-  ends (suc left) l z = absurd (omega arith)
+  ends {count} {i} l h =
+      let none : count - i ≡ 0 = omega arith in
+      let e = rw none at l.reads in
+      (omega (arith, ap (total f) (inv_ok e).0, l.is), (inv_ok e).1)

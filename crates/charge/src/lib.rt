@@ -2,9 +2,10 @@
 // a cent, and the sum is rounded up once. And what an instruction and a block come to, for the sum that a book carries.
 #![tactic(auto)]
 
-ghost use Rattle.std.specs.Prelude.{◌≡◌, ℕ, length};
+ghost use Rattle.std.specs.Prelude.{◌≡◌, ◌<◌, ℕ, length};
 ghost use Rattle.pod.specs.Values.{BasicBlock};
 ghost use Rattle.fields.specs.Parse.{ok, many};
+ghost use Rattle.fields.specs.Outcome.{of_result};
 ghost use Rattle.pod.specs.Values.{Instruction};
 ghost use Rattle.pod.specs.Layout.{instruction, block};
 ghost use Rattle.machine.specs.Charge.{group, total, rate_of, block_sum, cents};
@@ -15,6 +16,7 @@ ghost use Rattle.charge.specs.Answers.{charge_look};
 ghost use Rattle.charge.specs.Sums.{Table, in_table, Sums, Summable};
 
 use book::{Book, Rates};
+use fields::Refusal;
 
 // The charge in whole cents. With a refusal they are 0.
 #[repr(C)]
@@ -32,8 +34,10 @@ pub struct Summed {
 }
 
 // The group of an operation: the last arm is 41 to 48, for there is none after them.
+#[tactic(auto, unfolding(machine::specs::Charge::group, fields::specs::Lists::choose))]
 fn group_of(op: usize) -> usize
-    ensures { result ≡ group op }
+    ensures is { result ≡ group op }
+    ensures small { result < 6 }
 {
     match op {
         0..=3 => 0,
@@ -51,11 +55,8 @@ pub fn fill(table: &mut [u32], rates: Rates)
     requires { length table.old ≡ 49 }
     ensures { Table rates.rate table.new }
 {
-    let rate = rates.rate;
-    let mut op = 0;
-    while op < table.len() {
-        table[op] = rate[group_of(op)];
-        op += 1;
+    for (op, rate) in table.iter_mut().enumerate() {
+        *rate = rates.rate[group_of(op)];
     }
 }
 
@@ -71,15 +72,13 @@ pub fn rate_at(s: &[u8], at: usize, table: &[u32]) -> u32
 fn instructions_sum(s: &[u8], at: usize, count: u32, table: &[u32]) -> Summed
     ensures { (rates : charges.Rates) → Table rates table.now → Sums (many instruction count) (total (rate_of rates)) s.now at result }
 {
-    let mut left = count;
-    let mut o = at;
+    let mut end = at;
     let mut sum = 0;
-    while 0 < left {
-        sum += rate_at(s, o, table) as u64;
-        o = ends::instruction_end(s, o);
-        left -= 1;
+    for instruction in 0..count {
+        sum += rate_at(s, end, table) as u64;
+        end = ends::instruction_end(s, end);
     }
-    Summed { sum, end: o }
+    Summed { sum, end }
 }
 
 // The block at `at`, passed as `ends::block_end` does.
@@ -101,25 +100,22 @@ fn blocks_sum(s: &[u8], at: usize, count: u32, table: &[u32]) -> Summed
     requires { Summable table.now s.now at count }
     ensures { (rates : charges.Rates) → Table rates table.now → Sums (many block count) (total (block_sum rates)) s.now at result }
 {
-    let mut blocks = count;
-    let mut o = at;
+    let mut end = at;
     let mut sum = 0;
-    while 0 < blocks {
-        let b = block_sum(s, o, table);
-        sum += b.sum;
-        o = b.end;
-        blocks -= 1;
+    for block in 0..count {
+        let passed = block_sum(s, end, table);
+        sum += passed.sum;
+        end = passed.end;
     }
-    Summed { sum, end: o }
+    Summed { sum, end }
 }
 
 // What an instruction at `at` comes to that was accepted before, in hundredths of a cent.
 pub fn sum_of_instruction(s: &[u8], at: usize, rates: Rates) -> u64
     ensures { (i : Instruction) (n : ℕ) → instruction s.now at ≡ ok i n → result ≡ rate_of rates.rate i }
 {
-    let rate = rates.rate;
     let op = instruction::op_of(s, at);
-    rate[group_of(op)] as u64
+    rates.rate[group_of(op)] as u64
 }
 
 // What a block at `at` comes to that was accepted before.
@@ -133,27 +129,34 @@ pub fn sum_of_block(s: &[u8], at: usize, rates: Rates) -> u64
 }
 
 // Hundredths rounded up to whole cents.
+#[tactic(auto, unfolding(machine::specs::Charge::cents))]
 fn cents_of(sum: u64) -> u64
     ensures { result ≡ cents sum }
 {
-    let whole = sum / 100;
-    if whole * 100 < sum { whole + 1 } else { whole }
+    sum.div_ceil(100)
 }
 
-// The charge: 10, then 13.
-pub fn charge(book: Book, image: &[u8], journal: &[u8], rates: Rates) -> ChargeLook
-    ensures { result ≡ charge_look (look_charge rates.rate (state image.now journal.now book)) }
+// The charge in whole cents: 10, then 13.
+fn charge_in_cents(book: Book, image: &[u8], journal: &[u8], rates: Rates) -> Result<u64, Refusal>
+    ensures { of_result result ≡ look_charge rates.rate (state image.now journal.now book) }
 {
-    let refusal = image::inspect(book, image, journal);
-    if refusal != 0 {
-        return ChargeLook { refusal, cents: 0 };
-    }
+    image::inspect(book, image, journal)?;
     let mut table = [0; 49];
     fill(&mut table, rates);
     let blocks = image::blocks_of(image);
     let all = blocks_sum(image, blocks.start, blocks.count, &table);
-    ChargeLook {
-        refusal: 0,
-        cents: cents_of(all.sum),
+    Ok(cents_of(all.sum))
+}
+
+// The charge, as C sees it.
+pub fn charge(book: Book, image: &[u8], journal: &[u8], rates: Rates) -> ChargeLook
+    ensures { result ≡ charge_look (look_charge rates.rate (state image.now journal.now book)) }
+{
+    match charge_in_cents(book, image, journal, rates) {
+        Ok(cents) => ChargeLook { refusal: 0, cents },
+        Err(refusal) => ChargeLook {
+            refusal: u64::from(refusal),
+            cents: 0,
+        },
     }
 }

@@ -8,12 +8,14 @@ ghost use Rattle.pod.specs.Values.{Routine};
 ghost use Rattle.machine.specs.Edits.{create};
 ghost use Rattle.machine.specs.Machine.{edit};
 ghost use Rattle.machine.specs.Book.{in_image, step};
-ghost use Rattle.book.specs.Says.{state, outcome};
+ghost use Rattle.book.specs.Says.{state, leaves};
 ghost use Rattle.book.specs.Holding.{IsSound};
 ghost use Rattle.image.specs.Filled.{Filled, IsFilled};
 ghost use Rattle.create.specs.Created.{with_new};
 
-use book::{Answer, Book};
+use book::{Answered, Book};
+use fields::Refusal;
+use journal::{Edit, Trailer};
 use pod::Vip;
 
 // A block with the vip goes last. The image is zeros after the blocks, so of the new block only its vip is stored.
@@ -29,24 +31,31 @@ fn add_block(image: &mut [u8], written: usize, vip: Vip)
 }
 
 // The block, where its vip is not present yet: 14, then 11, 12. It has no instructions, so the sum stays, whatever it is.
-pub fn create_block(book: Book, image: &mut [u8], journal: &mut [u8], vip: Vip) -> Answer
+pub fn create_block(book: Book, image: &mut [u8], journal: &mut [u8], vip: Vip) -> Answered
     requires { IsSound (state image.old journal.old book) }
-    ensures { outcome result image.new journal.new ≡ step (edit (create vip.0)) (state image.old journal.old book) }
+    ensures { leaves book result image.new journal.new ≡ step (edit (create vip.0)) (state image.old journal.old book) }
 {
     let written = book.written as usize;
     let used = book.used as usize;
     let found = image::find(image, vip);
     let count = found.count;
     if found.place < count as usize {
-        return book::refuse(book, book::BLOCK_PRESENT);
+        return Err(Refusal::BlockPresent);
     }
     let grown = written + ends::EMPTY_BLOCK_SIZE;
     let spent = used + journal::TRAILER_SIZE;
-    let refusal = book::admit(image.len(), journal.len(), grown, spent);
-    if refusal != 0 {
-        return book::refuse(book, refusal);
-    }
+    book::admit(image.len(), journal.len(), grown, spent)?;
     add_block(image, written, vip);
-    journal::put_trailer(journal, used, vip, count, 0, journal::CREATE);
-    book::accept(grown, spent, book.rates, book.sum, book.walk)
+    let trailer = Trailer {
+        vip,
+        place: count,
+        len: 0,
+        kind: Edit::Create,
+    };
+    journal::put_trailer(journal, used, trailer);
+    Ok(Book {
+        written: grown as u64,
+        used: spent as u64,
+        ..book
+    })
 }

@@ -19,7 +19,7 @@ use Rattle.pod.specs.declared.InstructionDesc.{InstructionDesc}
 use Rattle.machine.specs.Edits.{size, Edit, create, remove, append, place, edited}
 use Rattle.machine.specs.Walk.{Walk, walk_start, walk_next, walk_abandon}
 use Rattle.machine.specs.Machine.{Call, edit, undo, walking, permit}
-use Rattle.machine.specs.Book.{State, unopened, opening, open_book, held, walk_book, call_book, step}
+use Rattle.machine.specs.Book.{State, unopened, open_book, held, walk_book, call_book, step}
 use Rattle.machine.specs.CallList.{run_on, open_and_run}
 use Rattle.machine.specs.Look.{element, look_block, look_instruction, vip_list, look_vip, conventions, look_convention, register_list, look_register, look_charge}
 use Rattle.machine.specs.Charge.{Rates}

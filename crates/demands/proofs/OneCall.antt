@@ -23,7 +23,7 @@ use Rattle.machine.specs.Machine.{Call, edit, undo, walking, permit, Sendable, R
 use Rattle.machine.specs.Journal.{entry, undone}
 use Rattle.machine.specs.Charge.{Rates, FitRates, sum, carried}
 use Rattle.machine.specs.Sound.{Sound}
-use Rattle.machine.specs.Book.{State, holding, with_walk, held, edit_book, restored, undo_book, walk_book, call_book, step}
+use Rattle.machine.specs.Book.{State, holding, with_walk, held, edit_book, restored, undo_book, call_book, step}
 use Rattle.machine.proofs.Held.{holding-held, held-sound, sound-held}
 use Rattle.machine.proofs.Walks.{edit-fits, undo-fits, walked-fits}
 use Rattle.machine.proofs.Keeps.{did, keeps}

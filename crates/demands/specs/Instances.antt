@@ -22,7 +22,7 @@ use Rattle.machine.specs.Book.{Book, State, holding, with_walk, held, open_book,
 use Rattle.machine.specs.Charge.{Rates, FitRates, group, rate_of, sum, cents}
 use Rattle.machine.specs.Look.{look_block, look_charge}
 use Rattle.machine.specs.Outside.{masked, outside_copy}
-use Rattle.machine.specs.CallList.{Told, is_call_list, calls, nothing_told, last_told}
+use Rattle.machine.specs.CallList.{is_call_list, calls, nothing_told, last_told}
 use Rattle.demands.specs.Demand1.{opening_refusals, writer_refusals, call_refusals}
 use Rattle.demands.specs.Demand3.{with_sum}
 use Rattle.demands.specs.Sending.{Message, received}

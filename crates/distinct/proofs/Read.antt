@@ -2,8 +2,7 @@
 use mathlib.Core.Path.{◌≡◌, refl, ap, ◌∙◌}
 use mathlib.Core.List.{List, ◌∷◌}
 use mathlib.Core.Bool.{Bool, true, false}
-use Prim.Native.Nat.{ℕ, zero, suc, ◌+◌, ◌-◌, ◌^◌, ◌≤◌, ◌<◌}
-use native.Mathlib.Nat.{not-suc-le-zero}
+use Prim.Native.Nat.{ℕ, zero, suc, ◌+◌, ◌^◌, ◌≤◌, ◌<◌}
 use native.Mathlib.Omega.{arith}
 use lib.ListN.{length}
 use lib.Dec.{leb}
@@ -12,7 +11,7 @@ use Rattle.fields.proofs.Le.{le_lt}
 use Rattle.pod.specs.Values.{BasicBlock}
 use Rattle.pod.specs.Layout.{block}
 use Rattle.pod.specs.Blocks.{vips}
-use Rattle.sorting.specs.Counts.{hit, count}
+use Rattle.sorting.specs.Counts.{count}
 use Rattle.sorting.specs.Buffer.{TOP}
 use Rattle.sorting.proofs.Counts.{hit-le, hit_other}
 use Rattle.ends.specs.Ends.{word, block_end}
@@ -21,16 +20,6 @@ use Rattle.fields.specs.Lists.{choose}
 use Rattle.fields.specs.Bytes.{Bytes}
 use Rattle.ends.proofs.Same.{block_vip, block_ends}
 use Rattle.distinct.specs.Walked.{vips_from}
-
-vips-more : (s : List ℕ) (o n : ℕ) → 0 < n → vips_from s o n ≡ word 8 s o ∷ vips_from s (block_end s o) (n - 1)
-unfolding vips_from
-vips-more s o zero h = absurd (not-suc-le-zero h)
-vips-more s o (suc n) h = let e : suc n - 1 ≡ n = omega arith in rw e
-
--- one block more, from what the walk answers
-pub count-step : (s : List ℕ) (o n v x m : ℕ) → x ≡ word 8 s o → m ≡ block_end s o → 0 < n → count v (vips_from s o n) ≡ hit v x + count v (vips_from s m (n - 1))
-unfolding count
-count-step s o n v x m p q h = rw (p, q) (ap (count v) (vips-more s o n h))
 
 -- no block
 pub count_none : (s : List ℕ) (o n v : ℕ) → n ≤ 0 → count v (vips_from s o n) ≡ 0

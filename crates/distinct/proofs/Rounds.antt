@@ -22,22 +22,11 @@ pub record Passing (xs : List ℕ) (size : ℕ) (b : List ℕ) (lo : ℕ) : Type
   pub within : lo ≤ TOP
   pub once : (v : ℕ) → v < lo → count v xs ≤ 1
 
-pub pass-start : (xs b : List ℕ) → Passing xs (length b) b 0
-pass-start xs b = record { len = refl; within = omega arith; once = λ v l. absurd (omega arith) }
-
 module _ {xs : List ℕ} {lo r : ℕ} {b b' : List ℕ} (g : Gathered xs lo r b) (s : Sorted b b') where
   pub pass-twice : {t : Bool} → HasRepeat b' t → t ≡ true → repeats xs ≡ true
   pass-twice w e =
       let k = w.twice e in
       rep_true xs k.0 (omega (arith, k.1, k.2, s.same k.0, g.only k.0 k.1))
-
-  pub pass-more : {size : ℕ} {b₀ : List ℕ} {t : Bool} → HasRepeat b' t → t ≡ false → Passing xs size b₀ lo → 0 < r → length b' ≡ size → Passing xs size b' r
-  pass-more w e p pos l =
-      record {
-        len = l;
-        within = g.within;
-        once = λ v h. ⊎_elim (λ z. p.once v z) (λ z. omega (arith, g.all pos v z h, s.same v, w.once e v (omega (arith, g.within)))) (below? v lo);
-      }
 
 pub pass-end : (s : List ℕ) (o n : ℕ) {size : ℕ} {b : List ℕ} {lo : ℕ} → Bytes s → TopTwice (vips_from s o n) false → Passing (vips_from s o n) size b lo
     → TOP ≤ lo → repeats (vips_from s o n) ≡ false
@@ -52,6 +41,3 @@ pass-end s o n y t p h = rep_false (vips_from s o n) (λ v. ⊎_elim
 -- fewer than two
 pub few : (s : List ℕ) (o n : ℕ) → n < 2 → repeats (vips_from s o n) ≡ false
 few s o n h = rep_false (vips_from s o n) (λ v. omega (arith, count-few s o n v))
-
-pub not-twice : {xs : List ℕ} {r : Bool} → TopTwice xs r → r ≡ false → TopTwice xs false
-not-twice t e = rw e at t

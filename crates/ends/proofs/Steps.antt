@@ -2,22 +2,32 @@
 use mathlib.Core.Path.{◌≡◌, refl, sym, ap, ◌∙◌}
 use mathlib.Core.List.{List}
 use mathlib.Core.Bool.{Bool, true, false}
-use Prim.Native.Nat.{ℕ, zero, suc, ◌+◌, ◌*◌, ◌-◌, ◌≤◌, ◌<◌}
+use Prim.Native.Nat.{ℕ, zero, suc, ◌+◌, ◌*◌, ◌≤◌}
 use native.Mathlib.Omega.{arith}
 use lib.ListN.{length}
 use lib.Dec.{leb}
-use borrow.Author.Tests.{le-leb, lt-leb, eq-eqb, ne_eqb}
+use borrow.Author.Tests.{le-leb, eq-eqb, ne_eqb}
+use Rattle.std.specs.declared.ops.Range.{Range}
+use Rattle.std.specs.Prelude.{Result, Ok, Err, MatchResult}
+use Rattle.fields.specs.Answers.{of_read}
+use Rattle.fields.specs.declared.Refusal.{Refusal}
+use Rattle.std.specs.Iterator.{FoldsItems}
+use Rattle.std.specs.List.{range_with_len}
+use Rattle.std.proofs.lemmas.List.{length_push}
+use Rattle.std.proofs.lemmas.List.FromFn.{length-range_with_len}
+use native.Mathlib.Numerals.{add-one}
+use Rattle.std.specs.Fn.{Called}
+use Rattle.std.proofs.iter.Yields.{nat_range_steps}
+use denote.Param.Members.{Mut}
+use Rattle.std.proofs.lemmas.Iterator.{YieldsList, YieldsList-from_range}
+use Rattle.std.proofs.lemmas.Fn.{fold_over}
 use Rattle.fields.specs.Parse.{Res, ok, no, le, uint}
 use Rattle.fields.specs.Lists.{choose}
-use Rattle.ends.specs.Ends.{jump, word, times, operand_end, instruction_end, vips_end, block_end, registers_end, convention_end}
+use Rattle.ends.specs.Ends.{jump, word, times, operand_end, instruction_end, vips_end, block_end}
 
 pub jump_in : (s : List ℕ) (o k : ℕ) → o + k ≤ length s → jump s o k ≡ o + k
 unfolding jump choose
 jump_in s o k h = simp (le-leb _ _ h)
-
-pub jump_out : (s : List ℕ) (o k : ℕ) → length s < o + k → jump s o k ≡ length s
-unfolding jump choose
-jump_out s o k h = simp (lt-leb _ _ h)
 
 -- the value of a field, or 0
 abbrev pub value : Res ℕ → ℕ
@@ -32,6 +42,12 @@ word-is k s o = go (leb (o + k) (length s))
     go true = refl
     go false = refl
 
+-- what the reader of fields answers is the word, and its refusal the 0
+pub word_told : (k : ℕ) (s : List ℕ) (o : ℕ) (r : Result (ℕ × ℕ) Refusal) {v : ℕ} {P : ℕ × ℕ → Type 0} → of_read r ≡ uint k s o
+    → MatchResult r P (λ _. v ≡ 0) → ((x : ℕ × ℕ) → P x → v ≡ x.0) → v ≡ word k s o
+word_told k s o (Ok x) e m h = h x m ∙ ap value e ∙ word-is k _ _
+word_told k s o (Err x) e m h = m ∙ ap value e ∙ word-is k _ _
+
 pub word_in : (k : ℕ) (s : List ℕ) (o : ℕ) → o + k ≤ length s → word k s o ≡ le k s o
 unfolding word choose
 word_in k s o h = rw (le-leb _ _ h)
@@ -42,17 +58,20 @@ unfolding times
 times-last f zero o = refl
 times-last f (suc n) o = times-last f n (f o)
 
--- a loop that counts down: what is left leads to q, as the whole does
-module _ (f : ℕ → ℕ) (n o : ℕ) {q : ℕ} (leads : times f n o ≡ q) where
-  -- one more was passed
-  pub times-next : 0 < n → {m : ℕ} → m ≡ f o → times f (n - 1) m ≡ q
-  unfolding times
-  times-next h g = let e : n ≡ suc (n - 1) = omega arith in rw g (sym (ap (λ k. times f k o) e) ∙ leads)
+-- a walk that has taken n steps takes one more
+pub times_more : (f : ℕ → ℕ) (n o : ℕ) {a b : ℕ} → a ≡ times f n o → b ≡ f a → b ≡ times f (n + 1) o
+times_more f n o d e = rw (add-one, times-last) (e ∙ ap f d)
 
-  -- none is left
-  pub times-end : n ≤ 0 → o ≡ q
-  unfolding times
-  times-end h = let e : n ≡ 0 = omega arith in rw e at leads
+-- a fold that takes one step of f for each number of a range
+pub times_fold : {F : Type 0} {g : Mut F (ℕ × (ℕ × Unit {0})) ℕ} {h : F} {s : Range ℕ} (f : ℕ → ℕ) (n o r : ℕ) → s ≡ record { start = 0; end = n }
+    → ((a x b : ℕ) (h' : F) → Called g h (a, (x, tt)) b h' → (b ≡ f a) × (h' ≡ h)) → FoldsItems nat_range_steps g s h o r → r ≡ times f n o
+unfolding times
+times_fold {g = g} {h = h} {s = s} f n o r is step ran =
+    let all : YieldsList nat_range_steps (λ x. x) s (range_with_len 0 n) = YieldsList-from_range 0 n n is (omega arith) in
+    let e = fold_over nat_range_steps (λ x. x) g (λ (xs : List ℕ) (a : ℕ). a ≡ times f (length xs) o) h
+    (λ ys a x b h' l k. let q = step a x b h' k in (rw length_push (times_more f (length ys) o l q.0), q.1)) s (range_with_len 0 n) o r all.runs refl ran
+    in
+    e ∙ ap (λ k. times f k o) (length-range_with_len 0 n)
 
 pub imm-end : (s : List ℕ) (o : ℕ) → word 4 s o ≡ 0 → operand_end s o ≡ jump s (jump s o 4) 12
 unfolding operand_end choose
@@ -67,14 +86,6 @@ module _ (s : List ℕ) (o : ℕ) where
   pub vips-made : {a n r : ℕ} → a ≡ jump s o 4 → n ≡ word 4 s o → r ≡ jump s a (8 * n) → r ≡ vips_end s o
   unfolding vips_end
   vips-made p q e = rw (e, p, q)
-
-  pub registers_made : {a n r : ℕ} → a ≡ jump s o 4 → n ≡ word 4 s o → r ≡ jump s a (24 * n) → r ≡ registers_end s o
-  unfolding registers_end
-  registers_made p q e = rw (e, p, q)
-
-  pub convention_made : {a b c r : ℕ} → a ≡ registers_end s o → b ≡ registers_end s a → c ≡ registers_end s b → r ≡ jump s c 33 → r ≡ convention_end s o
-  unfolding convention_end
-  convention_made p q e f = rw (f, e, q, p)
 
   pub instruction-made : {a z n c b e r : ℕ} → a ≡ jump s o 4 → z ≡ word 4 s o → n ≡ jump s a z → c ≡ word 4 s n → b ≡ jump s n 4
       → e ≡ times (operand_end s) c b → r ≡ jump s e 21 → r ≡ instruction_end s o

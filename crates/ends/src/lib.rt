@@ -2,10 +2,9 @@
 // again: the search for repeated vips passes each block many times, and this saves most of its time.
 #![tactic(auto)]
 
-ghost use Rattle.std.specs.Prelude.{◌≡◌, ◌+◌, ◌≤◌, ◌<◌, length};
+ghost use Rattle.std.specs.Prelude.{◌≡◌, ◌+◌, ◌≤◌, length, IfSome};
 ghost use Rattle.ends.specs.Ends.{word, operand_end, times, instruction_end, vips_end, block_end, registers_end, convention_end};
 
-use fields::{U32Read, U64Read};
 use pod::Vip;
 
 // The count before a list's elements.
@@ -63,39 +62,25 @@ pub struct PassedBlock {
 }
 
 // `k` bytes further, and at most the end.
+#[tactic(auto, unfolding(crate::specs::Ends::jump, fields::specs::Lists::choose))]
 pub fn jump(s: &[u8], at: usize, k: usize) -> usize
     ensures { result ≡ Rattle.ends.specs.Ends.jump s.now at k }
 {
-    let len = s.len();
-    if len < at {
-        return len;
-    }
-    if len - at < k {
-        return len;
-    }
-    at + k
+    at.saturating_add(k).min(s.len())
 }
 
 // The u32 that stands there, or 0.
 pub fn word32(s: &[u8], at: usize) -> u32
     ensures { result ≡ word 4 s.now at }
 {
-    if let U32Read::Value(v, _) = fields::u32_at(s, at) {
-        v
-    } else {
-        0
-    }
+    fields::u32_at(s, at).map_or(0, |(v, _)| v)
 }
 
 // The u64 that stands there, or 0.
 pub fn word64(s: &[u8], at: usize) -> u64
     ensures { result ≡ word 8 s.now at }
 {
-    if let U64Read::Value(v, _) = fields::u64_at(s, at) {
-        v
-    } else {
-        0
-    }
+    fields::u64_at(s, at).map_or(0, |(v, _)| v)
 }
 
 // The end of the operand at `at`: its kind, then an immediate or a register.
@@ -111,22 +96,18 @@ fn operand_end(s: &[u8], at: usize) -> usize
     }
 }
 
+// The end of `count` operands from `at` on.
 fn operands_end(s: &[u8], at: usize, count: u32) -> usize
     ensures { result ≡ times (operand_end s.now) count at }
 {
-    let mut left = count;
-    let mut o = at;
-    while 0 < left {
-        o = operand_end(s, o);
-        left -= 1;
-    }
-    o
+    (0..count).fold(at, |at, _| operand_end(s, at))
 }
 
 // The end of the operand at `at`, where the longer of the two kinds is within.
 fn fast_operand_end(s: &[u8], at: usize) -> usize
     requires { at + 28 ≤ length s.now }
-    ensures { (result ≡ operand_end s.now at) × (result ≤ at + 28) }
+    ensures end { result ≡ operand_end s.now at }
+    ensures near { result ≤ at + 28 }
 {
     if fields::four(s, at) == 0 {
         at + 16
@@ -135,41 +116,36 @@ fn fast_operand_end(s: &[u8], at: usize) -> usize
     }
 }
 
-// The end of the instruction at `at`, with one length test for all its fields; or 0 where that does not tell: near the end of the bytes, and where its
-// name or its list of operands is longer than any operation has.
-fn fast_instruction_end(s: &[u8], at: usize) -> usize
-    ensures { 0 < result → result ≡ instruction_end s.now at }
+// The end of the instruction at `at`, with one length test for all its fields. It does not tell near the end of the bytes, and where the name or the list
+// of operands is longer than any operation has.
+fn fast_instruction_end(s: &[u8], at: usize) -> Option<usize>
+    ensures { IfSome result (λ end. end ≡ instruction_end s.now at) }
 {
-    if s.len() < at {
-        return 0;
-    }
-    if s.len() - at < 128 {
-        return 0;
+    if !fields::within(s, at, 128) {
+        return None;
     }
     let size = fields::four(s, at) as usize;
     if 6 < size {
-        return 0;
+        return None;
     }
     let n = at + 4 + size;
     let count = fields::four(s, n);
     if 3 < count {
-        return 0;
+        return None;
     }
-    let mut left = count;
-    let mut o = n + 4;
-    while 0 < left {
-        o = fast_operand_end(s, o);
-        left -= 1;
+    let mut end = n + COUNT_SIZE;
+    for passed in 0..count {
+        end = fast_operand_end(s, end);
     }
-    o + INSTRUCTION_TAIL
+    Some(end + INSTRUCTION_TAIL)
 }
 
 // The end of the instruction at `at`.
+#[tactic(auto, unfolding(crate::specs::Ends::instruction_end))]
 pub fn instruction_end(s: &[u8], at: usize) -> usize
     ensures { result ≡ instruction_end s.now at }
 {
-    let end = fast_instruction_end(s, at);
-    if 0 < end {
+    if let Some(end) = fast_instruction_end(s, at) {
         return end;
     }
     let a = jump(s, at, 4);
@@ -181,19 +157,15 @@ pub fn instruction_end(s: &[u8], at: usize) -> usize
     jump(s, e, INSTRUCTION_TAIL)
 }
 
+// The end of `count` instructions from `at` on.
 pub fn instructions_end(s: &[u8], at: usize, count: u32) -> usize
     ensures { result ≡ times (instruction_end s.now) count at }
 {
-    let mut left = count;
-    let mut o = at;
-    while 0 < left {
-        o = instruction_end(s, o);
-        left -= 1;
-    }
-    o
+    (0..count).fold(at, |at, _| instruction_end(s, at))
 }
 
 // The end of the list of vips at `at`.
+#[tactic(auto, unfolding(crate::specs::Ends::vips_end))]
 pub fn vips_end(s: &[u8], at: usize) -> usize
     ensures { result ≡ vips_end s.now at }
 {
@@ -202,34 +174,31 @@ pub fn vips_end(s: &[u8], at: usize) -> usize
     jump(s, a, VIP_SIZE * (count as usize))
 }
 
-// The end of the block at `at` where it has no instruction and no vips, as one length test and three loads tell; or 0.
-fn fast_block_end(s: &[u8], at: usize) -> usize
-    ensures { 0 < result → result ≡ block_end s.now at }
+// The end of the block at `at` where it has no instruction and no vips, as one length test and three loads tell.
+fn fast_block_end(s: &[u8], at: usize) -> Option<usize>
+    ensures { IfSome result (λ end. end ≡ block_end s.now at) }
 {
-    if s.len() < at {
-        return 0;
-    }
-    if s.len() - at < EMPTY_BLOCK_SIZE {
-        return 0;
+    if !fields::within(s, at, EMPTY_BLOCK_SIZE) {
+        return None;
     }
     if fields::four(s, at + BLOCK_HEAD_SIZE) != 0 {
-        return 0;
+        return None;
     }
     if fields::four(s, at + INSTRUCTIONS_AT) != 0 {
-        return 0;
+        return None;
     }
     if fields::four(s, at + LAST_COUNT_AT) != 0 {
-        return 0;
+        return None;
     }
-    at + EMPTY_BLOCK_SIZE
+    Some(at + EMPTY_BLOCK_SIZE)
 }
 
 // The end of the block at `at`.
+#[tactic(auto, unfolding(crate::specs::Ends::block_end))]
 pub fn block_end(s: &[u8], at: usize) -> usize
     ensures { result ≡ block_end s.now at }
 {
-    let end = fast_block_end(s, at);
-    if 0 < end {
+    if let Some(end) = fast_block_end(s, at) {
         return end;
     }
     let i = jump(s, at, BLOCK_HEAD_SIZE);
@@ -253,16 +222,11 @@ pub fn block_at(s: &[u8], at: usize) -> PassedBlock
 pub fn blocks_end(s: &[u8], at: usize, count: usize) -> usize
     ensures { result ≡ times (block_end s.now) count at }
 {
-    let mut left = count;
-    let mut o = at;
-    while 0 < left {
-        o = block_end(s, o);
-        left -= 1;
-    }
-    o
+    (0..count).fold(at, |at, _| block_end(s, at))
 }
 
 // The end of the list of registers at `at`.
+#[tactic(auto, unfolding(crate::specs::Ends::registers_end))]
 pub fn registers_end(s: &[u8], at: usize) -> usize
     ensures { result ≡ registers_end s.now at }
 {
@@ -272,6 +236,7 @@ pub fn registers_end(s: &[u8], at: usize) -> usize
 }
 
 // The end of the convention at `at`.
+#[tactic(auto, unfolding(crate::specs::Ends::convention_end))]
 pub fn convention_end(s: &[u8], at: usize) -> usize
     ensures { result ≡ convention_end s.now at }
 {
@@ -285,11 +250,5 @@ pub fn convention_end(s: &[u8], at: usize) -> usize
 pub fn conventions_end(s: &[u8], at: usize, count: usize) -> usize
     ensures { result ≡ times (convention_end s.now) count at }
 {
-    let mut left = count;
-    let mut o = at;
-    while 0 < left {
-        o = convention_end(s, o);
-        left -= 1;
-    }
-    o
+    (0..count).fold(at, |at, _| convention_end(s, at))
 }

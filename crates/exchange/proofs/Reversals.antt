@@ -1,20 +1,28 @@
--- A reversal goes on from both ends, and four reversals exchange two parts around a third. Both go over a list's parts: `reverse` of an append is the
--- parts reversed in the other order, and twice reversed is as it was.
+-- Four reversals exchange two parts around a third. It goes over a list's parts: `reverse` of an append is the parts reversed in the other order, and
+-- twice reversed is as it was.
 -- Assumes nothing.
-use mathlib.Core.Path.{◌≡◌, refl, sym, ap, ap₂, ◌∙◌}
-use mathlib.Core.List.{List, [], ◌∷◌, ◌++◌, append_assoc, append-nil}
-use Prim.Native.Nat.{ℕ, ◌+◌, ◌-◌, ◌≤◌, ◌<◌}
+use mathlib.Core.Path.{◌≡◌, refl, sym, ap, ◌∙◌}
+use mathlib.Core.List.{List, ◌++◌, append_assoc}
+use Prim.Native.Nat.{ℕ, ◌+◌, ◌-◌, ◌≤◌}
 use native.Mathlib.Omega.{arith}
-use native.Mathlib.Numerals.{add-one}
-use lib.ListN.{length, take, drop, get_or, set, length-append, length-take, take-append-drop, length-reverse, drop_of_length-le}
-use lib.Seq.{take_at, drop_at, length-slice, length-take-le, drop-append-le, drop-drop, take-suc, take_all}
+use lib.ListN.{length, take, drop, length-append, length-take, take-append-drop, length-reverse}
+use lib.Seq.{take_at, drop_at, length-slice, length-take-le, drop-append-le, drop-drop}
 use Rattle.std.specs.Prelude.{reverse}
 use Rattle.std.proofs.lemmas.List.{drop-take, reverse-reverse, reverse-append}
 use borrow.Rule.Slice.PartMut.{put_mid}
-use Rattle.fields.specs.Bytes.{put}
-use Rattle.exchange.specs.Parts.{slice, exchanged, reversed, swapped_back}
-use Rattle.buffer.proofs.Put.{length_part, length-put, put_nil, put-parts, put-put-before}
-use Rattle.buffer.proofs.Moves.{put_one}
+use Rattle.exchange.specs.Parts.{slice, exchanged}
+
+-- the part from f to t reversed
+abbrev pub reversed : ℕ → ℕ → List ℕ → List ℕ
+reversed f t a = take f a ++ (reverse (slice f t a) ++ drop t a)
+
+-- what the library's `reverse` of a part leaves, b
+pub reversed-part : {a b z : List ℕ} (i j : ℕ) → b ≡ a → i ≤ j → z ≡ reverse (take (j - i) (drop i b)) → put_mid i (j - i) b z ≡ reversed i j a
+unfolding slice
+reversed-part {a} {b} i j q h e =
+    let n : i + (j - i) ≡ j = omega arith in
+    let w : take (j - i) (drop i b) ≡ drop i (take j b) = sym (drop-take i (j - i) b) ∙ ap (λ (k : ℕ). drop i (take k b)) n in
+    rw (e, w, drop-drop (j - i) i b, n) (ap (reversed i j) q)
 
 length_rev : (l : List ℕ) → length (reverse l) ≡ length l
 length_rev l = length-reverse l
@@ -35,37 +43,6 @@ reversed-parts A M Z f t h k = rw (take_at A (M ++ Z) f h, slice_parts A M Z f t
 -- a part that stands reversed, reversed again
 reversed-back : (A M Z : List ℕ) (f t : ℕ) {a : List ℕ} → a ≡ A ++ (reverse M ++ Z) → length A ≡ f → f + length M ≡ t → reversed f t a ≡ A ++ (M ++ Z)
 reversed-back A M Z f t e h k = ap (reversed f t) e ∙ reversed-parts A (reverse M) Z f t h (omega (arith, length_rev M)) ∙ rw (reverse-reverse M)
-
--- the two ends swapped, of a list in parts: what is left to reverse is the middle, M
-module _ (A X M Y B : List ℕ) (i k n : ℕ) (hi : length A ≡ i) (hx : length X ≡ n) (hy : length Y ≡ n) (hk : i + n + length M ≡ k) where
-  ends_swapped : swapped_back i k n (A ++ (X ++ (M ++ (Y ++ B)))) ≡ A ++ (reverse Y ++ (M ++ (reverse X ++ B)))
-  ends_swapped =
-      let s : List ℕ = A ++ (X ++ (M ++ (Y ++ B))) in
-      let lx : length (reverse X) ≡ n = length_rev X ∙ hx in
-      let ly : length (reverse Y) ≡ n = length_rev Y ∙ hy in
-      let g : (W l : List ℕ) → A ++ (W ++ (M ++ l)) ≡ (A ++ (W ++ M)) ++ l = λ W l. simp append_assoc in
-      let w : (W : List ℕ) → length W ≡ n → length (A ++ (W ++ M)) ≡ k = λ W h. omega (arith, length-append A (W ++ M), length-append W M) in
-      let x : take n (drop i s) ≡ X = ap (take n) (drop_at A (X ++ (M ++ (Y ++ B))) i hi) ∙ take_at X (M ++ (Y ++ B)) n hx in
-      let y : take n (drop k s) ≡ Y = ap (λ (l : List ℕ). take n (drop k l)) (g X (Y ++ B)) ∙ ap (take n) (drop_at (A ++ (X ++ M)) (Y ++ B) k (w X hx)) ∙ take_at Y B n hy in
-      let p : put i (reverse Y) s ≡ A ++ (reverse Y ++ (M ++ (Y ++ B))) = put-parts A (reverse Y) X (M ++ (Y ++ B)) i hi (ly ∙ sym hx) in
-      ap₂ (λ (u v : List ℕ). put k (reverse u) (put i (reverse v) s)) x y
-      ∙ ap (put k (reverse X)) (p ∙ g (reverse Y) (Y ++ B))
-      ∙ put-parts (A ++ (reverse Y ++ M)) (reverse X) Y B k (w (reverse Y) ly) (lx ∙ sym hy)
-      ∙ sym (g (reverse Y) (reverse X ++ B))
-
-  swapped_parts : (j : ℕ) → k + n ≡ j → reversed (i + n) k (swapped_back i k n (A ++ (X ++ (M ++ (Y ++ B))))) ≡ reversed i j (A ++ (X ++ (M ++ (Y ++ B))))
-  swapped_parts j hj =
-      let lx : length (reverse X) ≡ n = length_rev X ∙ hx in
-      let ly : length (reverse Y) ≡ n = length_rev Y ∙ hy in
-      let f : length (A ++ reverse Y) ≡ i + n = omega (arith, length-append A (reverse Y)) in
-      let m : i + length (X ++ (M ++ Y)) ≡ j = omega (arith, length-append X (M ++ Y), length-append M Y) in
-      let v : reverse (X ++ (M ++ Y)) ++ B ≡ reverse Y ++ (reverse M ++ (reverse X ++ B)) = rw (reverse-append X (M ++ Y), reverse-append M Y) (simp append_assoc) in
-      let e : A ++ (X ++ (M ++ (Y ++ B))) ≡ A ++ ((X ++ (M ++ Y)) ++ B) = simp append_assoc in
-      ap (reversed (i + n) k) (ends_swapped ∙ sym (append_assoc A (reverse Y) (M ++ (reverse X ++ B))))
-      ∙ reversed-parts (A ++ reverse Y) M (reverse X ++ B) (i + n) k f hk
-      ∙ append_assoc A (reverse Y) (reverse M ++ (reverse X ++ B))
-      ∙ ap (λ (l : List ℕ). A ++ l) (sym v)
-      ∙ sym (ap (reversed i j) e ∙ reversed-parts A (X ++ (M ++ Y)) B i j hi m)
 
 module _ (A P Q R Z : List ℕ) (s b c e : ℕ) (hs : length A ≡ s) (hb : s + length P ≡ b) (hc : b + length Q ≡ c) (he : c + length R ≡ e) where
   -- the parts exchanged
@@ -119,59 +96,3 @@ module _ (a : List ℕ) (s b c e : ℕ) (hb : s ≤ b) (hc : b ≤ c) (he : c �
       q
       ∙ ap (λ (l : List ℕ). reversed (e - (b - s)) e (reversed (s + (e - c)) (e - (b - s)) (reversed s (s + (e - c)) (reversed s e l)))) cut
       ∙ four_parts (take s a) (slice s b a) (slice b c a) (slice c e a) (drop e a) s b c e la (omega arith) (omega arith) (omega arith) _ _ refl refl
-
--- a turn of the loop that reverses from both ends: to reverse what is left is to reverse all
-pub reversed-turn : (a : List ℕ) {z : List ℕ} (i j n : ℕ) → z ≡ swapped_back i (j - n) n a → i ≤ j → n + n ≤ j - i → j ≤ length a → reversed (i + n) (j - n) z ≡ reversed i j a
-unfolding slice
-reversed-turn a i j n q o h l =
-    let w : a ≡ take i a ++ (slice i (i + n) a ++ (slice (i + n) (j - n) a ++ (slice (j - n) j a ++ drop j a))) = cut a i (i + n) (j - n) j (omega arith) (omega arith) (omega arith) l in
-    let la : length (take i a) ≡ i = length-take-le i a (omega arith) in
-    let lx : length (slice i (i + n) a) ≡ n = length-slice i (i + n) a (omega arith) ∙ omega arith in
-    let lm : length (slice (i + n) (j - n) a) ≡ j - n - (i + n) = length-slice (i + n) (j - n) a (omega arith) in
-    let ly : length (slice (j - n) j a) ≡ n = length-slice (j - n) j a l ∙ omega arith in
-    ap (reversed (i + n) (j - n)) (q ∙ ap (swapped_back i (j - n) n) w)
-    ∙ swapped_parts (take i a) (slice i (i + n) a) (slice (i + n) (j - n) a) (slice (j - n) j a) (drop j a) i (j - n) n la lx ly (omega arith) j (omega arith)
-    ∙ ap (reversed i j) (sym w)
-
--- a part reversed in its place
-pub reversed-part : (a z : List ℕ) (i j : ℕ) → i ≤ j → z ≡ reverse (take (j - i) (drop i a)) → put_mid i (j - i) a z ≡ reversed i j a
-unfolding slice
-reversed-part a z i j h e =
-    let n : i + (j - i) ≡ j = omega arith in
-    let w : take (j - i) (drop i a) ≡ drop i (take j a) = sym (drop-take i (j - i) a) ∙ ap (λ (k : ℕ). drop i (take k a)) n in
-    rw (e, w, drop-drop (j - i) i a, n)
-
--- the loop that copies the last byte first, with i bytes copied: where it begins, and a turn of it
-pub back_none : (a b : List ℕ) (at : ℕ) → a ≡ put (at + length b - 0) (reverse (take 0 b)) a
-back_none a b at = sym (put_nil _ a)
-
-pub back_more : (a b s : List ℕ) (at i : ℕ) → s ≡ put (at + length b - i) (reverse (take i b)) a → at + length b ≤ length a → i < length b
-    → set s (at + length b - 1 - i) (get_or b i 0) ≡ put (at + length b - (i + 1)) (reverse (take (i + 1) b)) a
-back_more a b s at i e h l =
-    let o : ℕ = at + length b - (i + 1) in
-    let n : length (reverse (take i b)) ≡ i = length_rev (take i b) ∙ length-take-le i b (omega arith) in
-    let p : at + length b - i ≡ o + 1 = omega arith in
-    let q : at + length b - 1 - i ≡ o = omega arith in
-    let e' : s ≡ put (o + 1) (reverse (take i b)) a = e ∙ ap (λ (k : ℕ). put k (reverse (take i b)) a) p in
-    let m : length s ≡ length a = ap length e' ∙ length-put (o + 1) (reverse (take i b)) a (omega arith) in
-    let r : get_or b i 0 ∷ reverse (take i b) ≡ reverse (take (i + 1) b) = sym (ap reverse (ap (λ (k : ℕ). take k b) (add-one i) ∙ take-suc b i 0 l) ∙ reverse-append (take i b) (get_or b i 0 ∷ [])) in
-    ap (λ (k : ℕ). set s k (get_or b i 0)) q
-    ∙ put_one s o (get_or b i 0) (omega arith)
-    ∙ ap (put o (get_or b i 0 ∷ [])) e'
-    ∙ put-put-before o (get_or b i 0 ∷ []) (reverse (take i b)) a (omega arith)
-    ∙ ap (λ (k : List ℕ). put o k a) r
-
-pub back-all : (a b s : List ℕ) (at i : ℕ) → s ≡ put (at + length b - i) (reverse (take i b)) a → i ≤ length b → length b ≤ i → s ≡ put at (reverse b) a
-back-all a b s at i e h l =
-    let n : i ≡ length b = omega arith in
-    let p : at + length b - i ≡ at = omega arith in
-    e ∙ ap₂ (λ (k : ℕ) (u : List ℕ). put k (reverse u) a) p (take_all i b l)
-
--- a part copied over the whole of another list
-pub whole : (a x z : List ℕ) (f : ℕ) → z ≡ put 0 (take (f + length x - f) (drop f a)) x → f + length x ≤ length a → z ≡ take (length x) (drop f a)
-unfolding put
-whole a x z f e h =
-    let w : f + length x - f ≡ length x = omega arith in
-    let m : length x ≤ 0 + length (take (length x) (drop f a)) = omega (arith, length_part f (length x) a h) in
-    let n : drop (0 + length (take (length x) (drop f a))) x ≡ [] = drop_of_length-le x m in
-    e ∙ rw (w, n) (append-nil (take (length x) (drop f a)))

@@ -1,8 +1,11 @@
-pub mod Chain
 pub mod Invert
 pub mod Le
 pub mod Many
 pub mod Signed
-pub mod Steps
 pub mod Outcomes
 pub mod Only
+pub mod Read
+pub mod Tests
+pub mod Numbers
+pub mod Results
+pub mod Runs

@@ -1,6 +1,8 @@
 -- What a call answers: a value, or the number of a refusal. Tests and steps are written one after the other with `do`: the first that refuses gives the
 -- answer.
-use Rattle.std.specs.Prelude.{ℕ, Bool}
+use Rattle.std.specs.Prelude.{ℕ, Bool, Result, Ok, Err}
+use Rattle.fields.specs.Refusals.{number}
+use Rattle.fields.specs.declared.Refusal.{Refusal}
 use Rattle.fields.specs.Lists.{choose}
 use Rattle.fields.specs.Parse.{Res, ok, no}
 
@@ -43,3 +45,8 @@ refusal_of (refused e) = e
 unfoldable pub attempt : {A S : Type 0} → S → Outcome (A × S) → Outcome A × S
 attempt s (refused e) = (refused e, s)
 attempt s (accepted x) = (accepted x.0, x.1)
+
+-- what the code answers, as an outcome
+abbrev pub of_result : {A : Type 0} → Result A Refusal → Outcome A
+of_result (Ok a) = accepted a
+of_result (Err e) = refused (number e)

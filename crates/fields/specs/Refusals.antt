@@ -1,5 +1,7 @@
 -- The refusals: document 01's table and what document 02 adds to it, each number with its words.
 use Rattle.std.specs.Prelude.{ℕ}
+use Rattle.fields.specs.declared.Refusal.{Refusal}
+use Rattle.fields.specs.declared.Refusal.TheVariants as v
 
 -- a field or name passes the end
 abbrev pub short_file : ℕ
@@ -83,3 +85,27 @@ walk_open = 20
 -- none was started, or it has ended or was abandoned
 abbrev pub no_walk : ℕ
 no_walk = 21
+
+-- the number of each, as the code names them
+abbrev pub number : Refusal → ℕ
+number v.ShortFile = short_file
+number v.NameNotText = name_not_text
+number v.WrongMark = wrong_mark
+number v.UnknownMachine = unknown_machine
+number v.ForeignRegister = foreign_register
+number v.UnknownOperandKind = unknown_operand_kind
+number v.UnknownOperation = unknown_operation
+number v.WrongOperandCount = wrong_operand_count
+number v.RepeatedBlock = repeated_block
+number v.LendingTooLarge = lending_too_large
+number v.ImageFull = image_full
+number v.JournalFull = journal_full
+number v.SpoiledBook = spoiled_book
+number v.BlockPresent = block_present
+number v.NoSuchBlock = no_such_block
+number v.NothingToTakeBack = nothing_to_take_back
+number v.Leftover = leftover
+number v.ClosedBlock = closed_block
+number v.CrookedRegister = crooked_register
+number v.WalkOpen = walk_open
+number v.NoWalk = no_walk

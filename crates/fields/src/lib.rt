@@ -1,54 +1,72 @@
 // Little-endian fields at an offset of a slice: the value and the offset past it, or the refusal.
 #![tactic(auto)]
 
-ghost use Rattle.std.specs.Prelude.{◌≡◌, ◌+◌, ◌≤◌, length, take, drop, leb};
-ghost use Rattle.std.specs.Int.{w32, w64};
+ghost use Rattle.std.specs.Prelude.{◌≡◌, ◌+◌, ◌≤◌, length, take, drop, leb, ◌<◌, IfOk, IfErr, ℕ};
 ghost use Rattle.fields.specs.Bytes.{most_lent};
-ghost use Rattle.fields.specs.Parse.{le, int, uint, part, bind, span, u8, u32, u64, i32, i64, refusal_in};
-ghost use Rattle.fields.specs.Answers.{of_skip, of_walked, of_u8, of_u32, of_u64, of_i32, of_i64};
+ghost use Rattle.fields.specs.Parse.{Res, bind, le, uint, part, span, u8, u16, u32, u64, i32, i64};
+ghost use Rattle.fields.specs.declared.Sight.{Sight as SightValue};
+ghost use Rattle.fields.specs.Refusals.{number};
+ghost use Rattle.fields.specs.Sight.{of_both, run};
+ghost use Rattle.fields.specs.Answers.{of_read, of_skip};
 
-// The refusals of document 01's table.
-pub const SHORT_FILE: u8 = 1;
+// Why a file or a call is refused. The numbers are those that C sees.
+#[derive(Clone, Copy, Debug, PartialEq, Eq)]
+pub enum Refusal {
+    ShortFile = 1,
+    NameNotText = 2,
+    WrongMark = 3,
+    UnknownMachine = 4,
+    ForeignRegister = 5,
+    UnknownOperandKind = 6,
+    UnknownOperation = 7,
+    WrongOperandCount = 8,
+    RepeatedBlock = 9,
+    LendingTooLarge = 10,
+    ImageFull = 11,
+    JournalFull = 12,
+    SpoiledBook = 13,
+    BlockPresent = 14,
+    NoSuchBlock = 15,
+    NothingToTakeBack = 16,
+    Leftover = 17,
+    ClosedBlock = 18,
+    CrookedRegister = 19,
+    WalkOpen = 20,
+    NoWalk = 21,
+}
 
-pub const NAME_NOT_TEXT: u8 = 2;
+impl From<Refusal> for u64 {
+    ghost from_gives = { λ e n. n ≡ number e };
 
-pub const WRONG_MARK: u8 = 3;
+    fn from(refusal: Refusal) -> u64 {
+        refusal as u64
+    }
+}
 
-pub const UNKNOWN_MACHINE: u8 = 4;
+// What a reader answers: a value and the offset past it, or the refusal.
+pub type Parsed<T> = Result<(T, usize), Refusal>;
 
-pub const FOREIGN_REGISTER: u8 = 5;
+// What is answered of a part of the file that is passed over: the offset past it, or the refusal.
+pub type Skipped = Result<usize, Refusal>;
 
-pub const UNKNOWN_OPERAND_KIND: u8 = 6;
+// What a walk over a part saw on its way: whether the part's bytes are its written form, and whether every register in it is sound.
+#[derive(Clone, Copy, Debug, PartialEq, Eq)]
+pub struct Sight {
+    pub written: bool,
+    pub sound: bool,
+}
 
-pub const UNKNOWN_OPERATION: u8 = 7;
-
-pub const WRONG_OPERAND_COUNT: u8 = 8;
-
-pub const REPEATED_BLOCK: u8 = 9;
-
-pub const LENDING_TOO_LARGE: u8 = 10;
-
-pub const IMAGE_FULL: u8 = 11;
-
-pub const JOURNAL_FULL: u8 = 12;
-
-pub const SPOILED_BOOK: u8 = 13;
-
-pub const BLOCK_PRESENT: u8 = 14;
-
-pub const NO_SUCH_BLOCK: u8 = 15;
-
-pub const NOTHING_TO_TAKE_BACK: u8 = 16;
-
-pub const LEFTOVER: u8 = 17;
-
-pub const CLOSED_BLOCK: u8 = 18;
-
-pub const CROOKED_REGISTER: u8 = 19;
-
-pub const WALK_OPEN: u8 = 20;
-
-pub const NO_WALK: u8 = 21;
+impl Sight {
+    // What is seen of two parts, one after the other.
+    pub fn and(self, other: Sight) -> Sight
+        ensures { result ≡ of_both self other }
+    {
+        Sight {
+            written: self.written & other.written,
+            sound: self.sound & other.sound,
+        }
+    }
+}
 
 // An image or a journal is at most this long.
 pub const MOST_LENT: usize = 16_777_216;
@@ -60,140 +78,14 @@ pub fn is_lent(len: usize) -> bool
     len <= MOST_LENT
 }
 
-#[derive(Clone, Copy)]
-pub enum U8Read {
-    Value(u8, usize),
-    Refused(u8),
-}
-
-#[derive(Clone, Copy)]
-pub enum U32Read {
-    Value(u32, usize),
-    Refused(u8),
-}
-
-#[derive(Clone, Copy)]
-pub enum U64Read {
-    Value(u64, usize),
-    Refused(u8),
-}
-
-#[derive(Clone, Copy)]
-pub enum I32Read {
-    Value(i32, usize),
-    Refused(u8),
-}
-
-#[derive(Clone, Copy)]
-pub enum I64Read {
-    Value(i64, usize),
-    Refused(u8),
-}
-
-// A part of the file that is passed over: the offset past it, or the refusal.
-#[derive(Clone, Copy)]
-pub enum Skip {
-    Past(usize),
-    Refused(u8),
-}
-
-// A part with flags or registers in it that is walked over: the offset past it, whether its bytes are its written form, and whether every register in it
-// is sound; or the refusal.
-#[derive(Clone, Copy)]
-pub enum Walked {
-    Past(usize, bool, bool),
-    Refused(u8),
-}
-
-// The refusal of a field that was refused, and 0 of one with a value. They are pub for the readers above, which hand it on.
-pub fn u8_refusal(field: U8Read) -> u8
-    ensures { result ≡ refusal_in (of_u8 field) }
-{
-    if let U8Read::Refused(e) = field { e } else { 0 }
-}
-
-pub fn u32_refusal(field: U32Read) -> u8
-    ensures { result ≡ refusal_in (of_u32 field) }
-{
-    if let U32Read::Refused(e) = field {
-        e
-    } else {
-        0
-    }
-}
-
-pub fn u64_refusal(field: U64Read) -> u8
-    ensures { result ≡ refusal_in (of_u64 field) }
-{
-    if let U64Read::Refused(e) = field {
-        e
-    } else {
-        0
-    }
-}
-
-pub fn i32_refusal(field: I32Read) -> u8
-    ensures { result ≡ refusal_in (of_i32 field) }
-{
-    if let I32Read::Refused(e) = field {
-        e
-    } else {
-        0
-    }
-}
-
-pub fn i64_refusal(field: I64Read) -> u8
-    ensures { result ≡ refusal_in (of_i64 field) }
-{
-    if let I64Read::Refused(e) = field {
-        e
-    } else {
-        0
-    }
-}
-
-// The refusal of a part that was refused, and 0 of one that was passed over. They are pub for the callers whose own answer is of another type.
-pub fn skip_refusal(far: Skip) -> u8
-    ensures { result ≡ refusal_in (of_skip far) }
-{
-    if let Skip::Refused(e) = far { e } else { 0 }
-}
-
-pub fn walked_refusal(far: Walked) -> u8
-    ensures { result ≡ refusal_in (of_walked far) }
-{
-    if let Walked::Refused(e) = far { e } else { 0 }
-}
-
-// A number of `k` bytes. It is pub for the header's marks, of 4 and 2.
-pub fn uint_at(s: &[u8], at: usize, k: usize) -> U64Read
-    requires { k ≤ 8 }
-    ensures { of_u64 result ≡ uint k s.now at }
+// Whether `k` bytes from `at` stand in the file.
+pub fn within(s: &[u8], at: usize, k: usize) -> bool
+    ensures { result ≡ leb (at + k) (length s.now) }
 {
     if s.len() < at {
-        return U64Read::Refused(SHORT_FILE);
+        return false;
     }
-    if s.len() - at < k {
-        return U64Read::Refused(SHORT_FILE);
-    }
-    let mut v: u64 = 0;
-    let mut i = k;
-    while 0 < i {
-        i -= 1;
-        v = s[at + i] as u64 + 256 * v;
-    }
-    U64Read::Value(v, at + k)
-}
-
-pub fn u8_at(s: &[u8], at: usize) -> U8Read
-    ensures { of_u8 result ≡ u8 s.now at }
-{
-    let field = uint_at(s, at, 1);
-    if let U64Read::Value(v, n) = field {
-        U8Read::Value(v as u8, n)
-    } else {
-        U8Read::Refused(u64_refusal(field))
-    }
+    k <= s.len() - at
 }
 
 // The number of the 2, 4 and 8 bytes from `at`: without a loop, so that each is one load. Those of 4 and 8 are pub for the fast ways above, which have
@@ -219,77 +111,76 @@ pub fn eight(s: &[u8], at: usize) -> u64
     four(s, at) + 0x1_0000_0000 * four(s, at + 4)
 }
 
-// Whether `k` bytes from `at` stand in the file.
-pub fn within(s: &[u8], at: usize, k: usize) -> bool
-    ensures { result ≡ leb (at + k) (length s.now) }
+// The `k` bytes from `at` are passed over.
+pub fn skip(s: &[u8], at: usize, k: usize) -> Skipped
+    ensures field { of_skip result ≡ span (uint k s.now at) }
+    ensures bytes { of_skip result ≡ span (part k s.now at) }
+    ensures ok { IfOk result (λ end. (end ≡ at + k) × (end ≤ length s.now)) }
+    ensures err { IfErr result (λ refusal. (refusal ≡ Refusal.ShortFile) × (length s.now < at + k)) }
 {
-    if s.len() < at {
-        return false;
-    }
-    k <= s.len() - at
-}
-
-pub fn u32_at(s: &[u8], at: usize) -> U32Read
-    ensures { of_u32 result ≡ u32 s.now at }
-{
-    if within(s, at, 4) {
-        U32Read::Value(four(s, at) as u32, at + 4)
+    if within(s, at, k) {
+        Ok(at + k)
     } else {
-        U32Read::Refused(SHORT_FILE)
+        Err(Refusal::ShortFile)
     }
 }
 
-pub fn u64_at(s: &[u8], at: usize) -> U64Read
-    ensures { of_u64 result ≡ u64 s.now at }
+// A number of `k` bytes, whatever the field's size.
+pub fn uint_at(s: &[u8], at: usize, k: usize) -> Parsed<u64>
+    requires { k ≤ 8 }
+    ensures { of_read result ≡ uint k s.now at }
 {
-    if within(s, at, 8) {
-        U64Read::Value(eight(s, at), at + 8)
-    } else {
-        U64Read::Refused(SHORT_FILE)
+    let end = skip(s, at, k)?;
+    let mut v = 0;
+    for passed in 0..k {
+        v = s[end - 1 - passed] as u64 + 256 * v;
     }
+    Ok((v, end))
 }
 
-// A number of 32 bits in two's complement.
-pub fn signed32(v: u32) -> i32
-    ensures { result ≡ int w32 v }
+pub fn u8_at(s: &[u8], at: usize) -> Parsed<u8>
+    ensures { of_read result ≡ u8 s.now at }
 {
-    if v < 0x8000_0000 {
-        v as i32
-    } else {
-        -1 - ((0xffff_ffff - v) as i32)
-    }
+    let end = skip(s, at, 1)?;
+    Ok((s[at], end))
 }
 
-pub fn i32_at(s: &[u8], at: usize) -> I32Read
-    ensures { of_i32 result ≡ i32 s.now at }
+pub fn u16_at(s: &[u8], at: usize) -> Parsed<u16>
+    ensures { of_read result ≡ u16 s.now at }
 {
-    let field = u32_at(s, at);
-    if let U32Read::Value(v, n) = field {
-        I32Read::Value(signed32(v), n)
-    } else {
-        I32Read::Refused(u32_refusal(field))
-    }
+    let (v, end) = uint_at(s, at, 2)?;
+    Ok((v as u16, end))
 }
 
-pub fn signed64(v: u64) -> i64
-    ensures { result ≡ int w64 v }
+pub fn u32_at(s: &[u8], at: usize) -> Parsed<u32>
+    ensures { of_read result ≡ u32 s.now at }
 {
-    if v < 0x8000_0000_0000_0000 {
-        v as i64
-    } else {
-        -1 - ((0xffff_ffff_ffff_ffff - v) as i64)
-    }
+    let end = skip(s, at, 4)?;
+    Ok((four(s, at) as u32, end))
 }
 
-pub fn i64_at(s: &[u8], at: usize) -> I64Read
-    ensures { of_i64 result ≡ i64 s.now at }
+pub fn u64_at(s: &[u8], at: usize) -> Parsed<u64>
+    ensures { of_read result ≡ u64 s.now at }
 {
-    let field = u64_at(s, at);
-    if let U64Read::Value(v, n) = field {
-        I64Read::Value(signed64(v), n)
-    } else {
-        I64Read::Refused(u64_refusal(field))
-    }
+    let end = skip(s, at, 8)?;
+    Ok((eight(s, at), end))
+}
+
+// The signed numbers, in two's complement.
+#[tactic(auto, unfolding(crate::specs::Parse::bind, crate::specs::Parse::int))]
+pub fn i32_at(s: &[u8], at: usize) -> Parsed<i32>
+    ensures { of_read result ≡ i32 s.now at }
+{
+    let (v, end) = u32_at(s, at)?;
+    Ok((v.cast_signed(), end))
+}
+
+#[tactic(auto, unfolding(crate::specs::Parse::bind, crate::specs::Parse::int))]
+pub fn i64_at(s: &[u8], at: usize) -> Parsed<i64>
+    ensures { of_read result ≡ i64 s.now at }
+{
+    let (v, end) = u64_at(s, at)?;
+    Ok((v.cast_signed(), end))
 }
 
 // The `n` bytes from `at`. It is pub for the crates above, which have tested that they stand within.
@@ -301,29 +192,21 @@ pub fn part_of(s: &[u8], at: usize, n: usize) -> &[u8]
     &s[at..end]
 }
 
-// The `k` bytes from `at` are passed over. It is pub for the readers above, which take them by `part_of`.
-pub fn part_skip(s: &[u8], at: usize, k: usize) -> Skip
-    ensures { of_skip result ≡ span (part k s.now at) }
+// A list of parts: its count, and then as many, each walked over by `skip`. What is seen of all of them is said by what `walk` says of each.
+pub fn list_skip<F: Fn(usize) -> Parsed<Sight>>(s: &[u8], at: usize, skip: F) -> Parsed<Sight>
+    requires { F.IsAlwaysCallable skip }
+    ensures { (walk : ℕ → Res SightValue) → ((o : ℕ) (r : _) → F.post skip o r → of_read r ≡ walk o) → of_read result ≡ bind (u32 s.now at) (λ n o. run walk n o) }
 {
-    if within(s, at, k) {
-        Skip::Past(at + k)
-    } else {
-        Skip::Refused(SHORT_FILE)
+    let (count, start) = u32_at(s, at)?;
+    let mut end = start;
+    let mut seen = Sight {
+        written: true,
+        sound: true,
+    };
+    for passed in 0..count {
+        let (sight, next) = skip(end)?;
+        end = next;
+        seen = seen.and(sight);
     }
-}
-
-// A field of `k` bytes is passed over, after what was passed over so far. It is pub for the crates above, which ask for 1 to 8 bytes.
-pub fn then_uint(s: &[u8], far: Skip, k: usize) -> Skip
-    requires { k ≤ 8 }
-    ensures { of_skip result ≡ bind (of_skip far) (λ _ n. span (uint k s.now n)) }
-{
-    if let Skip::Past(at) = far {
-        if within(s, at, k) {
-            Skip::Past(at + k)
-        } else {
-            Skip::Refused(SHORT_FILE)
-        }
-    } else {
-        far
-    }
+    Ok((seen, end))
 }

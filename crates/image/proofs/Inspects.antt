@@ -10,6 +10,13 @@ use native.Mathlib.Omega.{arith}
 use lib.Dec.{eqb}
 use lib.ListN.{length, take, drop, take-append-drop}
 use borrow.Author.Tests.{le-leb, lt-leb, eq-eqb, ne_eqb, eqb-true, eqb-false}
+use Rattle.std.proofs.Common.{Result}
+use Rattle.std.specs.Result.{IsErrAnd}
+use Rattle.std.proofs.lemmas.Result.{err_from_is_err_and}
+use Rattle.fields.specs.Refusals.{number}
+use Rattle.fields.specs.Answers.{number_in}
+use Rattle.fields.specs.declared.Refusal.{Refusal}
+use Rattle.fields.proofs.Numbers.{not-zero}
 use Rattle.fields.specs.Bytes.{zeros, Bytes, most_lent}
 use Rattle.fields.specs.Parse.{Res, ok, no}
 use Rattle.fields.specs.Outcome.{Outcome, refused, accepted, after, ◌>>=◌, ◌>>◌, refuse_unless, refusal_of}
@@ -20,7 +27,8 @@ use Rattle.op.proofs.Same.{same-no}
 use Rattle.pod.specs.Values.{Routine}
 use Rattle.pod.specs.Layout.{routine, read_file}
 use Rattle.pod.specs.Sound.{routine_sound}
-use Rattle.fields.specs.Sight.{Sight, sight}
+use Rattle.fields.specs.declared.Sight.{Sight}
+use Rattle.fields.specs.Sight.{sight}
 use Rattle.pod.specs.Written.{routine_bytes, walked}
 use Rattle.laws.proofs.Layouts.{routine_layout, read-to, read-holds}
 use Rattle.laws.proofs.Walks.{spans-walked, walked_whole}
@@ -200,6 +208,13 @@ none_found s e z =
 -- no refusal is 0, so without one a routine is held
 pub inspected : (s : State) → refusal_of (held s) ≡ 0 → (r : Routine) × (held s ≡ accepted r)
 inspected s h = accepted-by (held s) (held_positive s) refl h
+
+-- where the test refuses, a `?` hands its refusal on
+pub unwalked-exit : (s : State) (r : Result (Unit {0}) Refusal) (e : Refusal) → IsErrAnd r (λ d. d ≡ e) → number e ≡ refusal_of (held s) → number_in r ≡ refusal_of (unwalked s)
+unfolding after refusal_of
+unwalked-exit s r e h g =
+    let q = err_from_is_err_and r h in
+    rw (q.1, q.2) (sym (ap (λ q. refusal_of (q >>= λ r. (refuse_unless (eqb s.book.walk 0) 20 >> accepted r))) (refused-by (held s) g (not-zero e))))
 
 -- 20 after 10 and 13, by what `held` was and by whether a walk is open
 module _ (s : State) {k : ℕ} (e : k ≡ refusal_of (held s)) where

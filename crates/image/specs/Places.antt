@@ -2,7 +2,7 @@
 use Rattle.std.specs.Prelude.{ℕ, zero, suc, ◌+◌, ◌-◌, ◌≡◌, Bool, false, ◌&&◌, List, eqb, length, take}
 use Rattle.fields.specs.Parse.{Res, ok, no}
 use Rattle.pod.specs.Values.{Routine}
-use Rattle.fields.specs.Sight.{Sight}
+use Rattle.fields.specs.declared.Sight.{Sight}
 use Rattle.pod.specs.Layout.{routine}
 use Rattle.pod.specs.Sound.{routine_sound}
 use Rattle.pod.specs.Written.{convention_bytes, instruction_bytes, many_bytes, routine_bytes, walked}

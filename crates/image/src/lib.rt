@@ -2,7 +2,8 @@
 // inspected before, so the walk that reads no name, text or register again is enough.
 #![tactic(auto)]
 
-ghost use Rattle.std.specs.Prelude.{◌≡◌, ◌-◌, ℕ, ◌≤◌, ◌<◌, length};
+ghost use Rattle.std.specs.Prelude.{◌≡◌, ◌-◌, ℕ, ◌≤◌, ◌<◌, length, IfOk};
+ghost use Rattle.fields.specs.Answers.{number_in};
 ghost use Rattle.pod.specs.Values.{Routine};
 ghost use Rattle.machine.specs.Edits.{block_at};
 ghost use Rattle.machine.specs.Look.{conventions};
@@ -14,8 +15,8 @@ ghost use Rattle.image.specs.Places.{is_routine, Finds, FindsLast, convention_st
 ghost use Rattle.image.specs.Inspected.{Notes, FindsBlock, unwalked};
 
 use book::Book;
+use fields::Refusal;
 use pod::Vip;
-use routine::Noted;
 
 // What the test for 13 says of bytes: whether they are exactly one accepted routine in written form; and where the block that was asked for begins and ends.
 #[derive(Clone, Copy)]
@@ -29,18 +30,17 @@ struct Passed {
 fn pass_image(s: &[u8], place: u64) -> Passed
     ensures { (result.whole ≡ is_routine s.now) × Notes s.now place result.from result.to }
 {
-    if let Noted::Past(end, written, _, from, to) = routine::routine_noting(s, 0, place) {
-        Passed {
-            whole: (end == s.len()) & written,
-            from,
-            to,
-        }
-    } else {
-        Passed {
+    match routine::routine_noting(s, 0, place) {
+        Ok(noted) => Passed {
+            whole: (noted.end == s.len()) & noted.sight.written,
+            from: noted.from,
+            to: noted.to,
+        },
+        Err(_) => Passed {
             whole: false,
             from: 0,
             to: 0,
-        }
+        },
     }
 }
 
@@ -62,83 +62,67 @@ fn walk_fits(image: &[u8], walk: u64) -> bool
     walk - 1 <= blocks.count as u64
 }
 
-// What a call on a book finds first: its refusal, or 0; and, where a walk is open, where the block begins and ends that next hands out, which are equal where
-// there is none.
+// What a call on a book that is not spoiled finds first: where a walk is open, where the block begins and ends that next hands out, which are equal where there
+// is none.
 #[derive(Clone, Copy)]
 pub struct Inspected {
-    pub refusal: u64,
     pub from: usize,
     pub to: usize,
 }
 
-// A refusal of the first tests.
-fn refuse(refusal: u64) -> Inspected
-    ensures { result.refusal ≡ refusal }
-{
-    Inspected {
-        refusal,
-        from: 0,
-        to: 0,
-    }
-}
-
 // The test that every call on a book makes first: 10, then 13. The walk over the image passes the block that next hands out on its way.
-pub fn inspect_at(book: Book, image: &[u8], journal: &[u8]) -> Inspected
-    ensures { (result.refusal ≡ refusal_of (held (state image.now journal.now book)))
-        × FindsBlock (state image.now journal.now book) result.from result.to }
+pub fn inspect_at(book: Book, image: &[u8], journal: &[u8]) -> Result<Inspected, Refusal>
+    ensures refusal { number_in result ≡ refusal_of (held (state image.now journal.now book)) }
+    ensures block { IfOk result (λ found. FindsBlock (state image.now journal.now book) found.from found.to) }
 {
     if !fields::is_lent(image.len()) {
-        return refuse(book::LENDING_TOO_LARGE);
+        return Err(Refusal::LendingTooLarge);
     }
     if !fields::is_lent(journal.len()) {
-        return refuse(book::LENDING_TOO_LARGE);
+        return Err(Refusal::LendingTooLarge);
     }
     let written = book.written;
     let used = book.used;
     if (image.len() as u64) < written {
-        return refuse(book::SPOILED_BOOK);
+        return Err(Refusal::SpoiledBook);
     }
     if (journal.len() as u64) < used {
-        return refuse(book::SPOILED_BOOK);
+        return Err(Refusal::SpoiledBook);
     }
     let end = written as usize;
     let passed = pass_image(&image[..end], place_of(book.walk));
     if !passed.whole {
-        return refuse(book::SPOILED_BOOK);
+        return Err(Refusal::SpoiledBook);
     }
     if !buffer::is_zero(image, end) {
-        return refuse(book::SPOILED_BOOK);
+        return Err(Refusal::SpoiledBook);
     }
     if !walk_fits(image, book.walk) {
-        return refuse(book::SPOILED_BOOK);
+        return Err(Refusal::SpoiledBook);
     }
-    Inspected {
-        refusal: 0,
+    Ok(Inspected {
         from: passed.from,
         to: passed.to,
-    }
+    })
 }
 
-// The refusal that every call on a book gives first, or 0: 10, then 13.
-pub fn inspect(book: Book, image: &[u8], journal: &[u8]) -> u64
-    ensures { result ≡ refusal_of (held (state image.now journal.now book)) }
+// The test alone.
+pub fn inspect(book: Book, image: &[u8], journal: &[u8]) -> Result<(), Refusal>
+    ensures { number_in result ≡ refusal_of (held (state image.now journal.now book)) }
 {
-    let found = inspect_at(book, image, journal);
-    found.refusal
+    inspect_at(book, image, journal)?;
+    Ok(())
 }
 
 // The same, and then 20 where a walk is open: what start, remove and undo test first.
-pub fn inspect_unwalked(book: Book, image: &[u8], journal: &[u8]) -> u64
-    ensures { result ≡ refusal_of (unwalked (state image.now journal.now book)) }
+pub fn inspect_unwalked(book: Book, image: &[u8], journal: &[u8]) -> Result<(), Refusal>
+    ensures { number_in result ≡ refusal_of (unwalked (state image.now journal.now book)) }
 {
-    let refusal = inspect(book, image, journal);
-    if refusal != 0 {
-        return refusal;
-    }
+    inspect(book, image, journal)?;
     if book.walk != 0 {
-        return book::WALK_OPEN;
+        return Err(Refusal::WalkOpen);
     }
-    0
+    Ok(())
 }
 
 // Where the blocks begin, and how many there are.
@@ -196,8 +180,7 @@ pub fn find(image: &[u8], vip: Vip) -> Found
     let n = count as usize;
     let v = vip.0;
     let mut at = blocks.start;
-    let mut i = 0;
-    while i < n {
+    for i in 0..n {
         if ends::word64(image, at) == v {
             return Found {
                 place: i,
@@ -206,7 +189,6 @@ pub fn find(image: &[u8], vip: Vip) -> Found
             };
         }
         at = ends::block_end(image, at);
-        i += 1;
     }
     Found {
         place: n,

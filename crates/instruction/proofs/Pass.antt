@@ -11,7 +11,7 @@ use Rattle.fields.specs.Parse.{Res, ok, bind, span, le, uint, many}
 use Rattle.fields.specs.Lists.{every}
 use Rattle.fields.proofs.Invert.{inv, inv_ok}
 use Rattle.fields.proofs.Le.{uint-ok, span-ok}
-use Rattle.fields.proofs.Steps.{on-check, on-part}
+use Rattle.fields.proofs.Read.{on-check, on-part}
 use Rattle.op.specs.Ops.{number, counts}
 use Rattle.op.specs.Packed.{Known}
 use Rattle.op.proofs.Packed.{text_of}
@@ -58,8 +58,7 @@ module _ (s : List ℕ) (k a o : ℕ) (g : o + 21 ≤ length s) (q : span (many 
   unfolding bind
   tail-ok =
       sym (after_skip operand k s a)
-      ∙ rw (q, span-ok 8 s o (omega arith), span-ok 8 s (o + 8) (omega arith), span-ok 4 s (o + 8 + 8) (omega arith), span-ok 1 s (o + 8 + 8 + 4) (omega arith))
-      (ap (λ x. ok tt x) (omega arith))
+      ∙ rw (q, span-ok 21 s o g)
 
   all-ok : (at : ℕ) → opcode s at ≡ ok k a → span (instruction s at) ≡ ok tt (o + 21)
   unfolding instruction bind

@@ -1,148 +1,97 @@
 // Instructions.
 #![tactic(auto)]
 
-ghost use Rattle.std.specs.Prelude.{◌≡◌, ℕ, ◌≤◌, ◌<◌};
-ghost use Rattle.fields.specs.Parse.{ok, bind, uint, many, span, refusal_in};
-ghost use Rattle.fields.specs.Sight.{sight};
-ghost use Rattle.fields.specs.Answers.{of_walked};
+ghost use Rattle.std.specs.Prelude.{◌≡◌, true, ℕ, ◌≤◌, IfSome};
+ghost use Rattle.fields.specs.Parse.{ok, many, span, uint};
+ghost use Rattle.fields.specs.Answers.{of_read, of_skip};
 ghost use Rattle.pod.specs.Values.{Instruction};
 ghost use Rattle.pod.specs.Layout.{operand, named, opcode, instruction};
 ghost use Rattle.pod.specs.Sound.{instruction_sound, sound_operand, appended};
+ghost use Rattle.pod.specs.Told.{asked};
 ghost use Rattle.pod.specs.Written.{instruction_bytes, walked};
-ghost use Rattle.instruction.specs.Answers.{of_op, Found, of_asked, when_asked};
+ghost use Rattle.instruction.specs.Answers.{Found, of_asked, when_asked};
 
-use fields::{Skip, U32Read, Walked};
-use pod::OperandRead;
+use fields::{Parsed, Refusal, Sight, Skipped};
 
-#[derive(Clone, Copy)]
-pub enum OpRead {
-    Value(usize, usize),
-    Refused(u8),
-}
+// In an instruction, the fields past its operands: vip 8, sp offset 8, sp index 4, sp reset 1.
+const TAIL_SIZE: usize = 21;
 
-// The refusal of an operation that was refused, and 0 of one with a number. It is pub for the reader of an instruction by value, which
-// hands it on.
-pub fn op_refusal(op: OpRead) -> u8
-    ensures { result ≡ refusal_in (of_op op) }
-{
-    if let OpRead::Refused(e) = op { e } else { 0 }
-}
-
-// Operands, or an instruction, that are passed over: the offset past them, and whether every register is sound; or the refusal, and whether every register
-// before the fault is. So the answer also says what append is refused, which asks a register as soon as it has been read.
-#[derive(Clone, Copy)]
-pub enum Asked {
-    Past(usize, bool),
-    Refused(u8, bool),
-}
-
-// The refusal of what was refused, and 0 of what was passed over: where no register is asked,
-fn plain_refusal(far: Asked) -> u8
-    ensures { result ≡ refusal_in (of_asked far) }
-{
-    if let Asked::Refused(e, _) = far { e } else { 0 }
-}
-
-// and where each is. It is pub for append.
-pub fn asked_refusal(far: Asked) -> u8
-    ensures { result ≡ refusal_in (when_asked far) }
-{
-    match far {
-        Asked::Past(_, sound) => { if sound { 0 } else { fields::CROOKED_REGISTER } }
-        Asked::Refused(e, sound) => { if sound { e } else { fields::CROOKED_REGISTER } }
-    }
-}
-
-// An instruction that is walked over the fast way: the offset past it, or 0 where this does not tell; whether it is in written form, and whether every
-// register in it is sound.
-#[derive(Clone, Copy)]
-pub struct FastInstruction {
-    pub end: usize,
-    pub written: bool,
+// Why operands, or an instruction, are refused, and whether every register before the fault is sound. So it also says what append is refused, which asks a
+// register as soon as it has been read.
+#[derive(Clone, Copy, Debug, PartialEq, Eq)]
+pub struct Fault {
+    pub refusal: Refusal,
     pub sound: bool,
 }
 
-// Where the fast way does not tell.
-const NOT_TOLD: FastInstruction = FastInstruction {
-    end: 0,
-    written: false,
-    sound: false,
-};
+// A fault before the first register.
+impl From<Refusal> for Fault {
+    ghost from_gives = { λ e fault. fault ≡ record { refusal = e; sound = true } };
+
+    fn from(refusal: Refusal) -> Fault {
+        Fault {
+            refusal,
+            sound: true,
+        }
+    }
+}
+
+// What is answered of operands, or of an instruction, that are passed over: whether every register is sound, and the offset past them; or the fault.
+pub type Asked = Result<(bool, usize), Fault>;
 
 // The operation with the name `name`, whose operand count stands at `at`.
-fn named_at(s: &[u8], name: &[u8], at: usize) -> OpRead
-    ensures { of_op result ≡ named name.now s.now at }
+#[tactic(auto, unfolding(fields::specs::Parse::bind, fields::specs::Lists::choose, pod::specs::Layout::named))]
+fn named_at(s: &[u8], name: &[u8], at: usize) -> Parsed<usize>
+    ensures { of_read result ≡ named name.now s.now at }
 {
-    if op::is_text(name) {
-        let count = fields::u32_at(s, at);
-        if let U32Read::Value(n, a) = count {
-            let k = op::number_of(name);
-            if k < 49 {
-                if n == op::operand_count(k) {
-                    OpRead::Value(k, a)
-                } else {
-                    OpRead::Refused(fields::WRONG_OPERAND_COUNT)
-                }
-            } else {
-                OpRead::Refused(fields::UNKNOWN_OPERATION)
-            }
-        } else {
-            OpRead::Refused(fields::u32_refusal(count))
-        }
-    } else {
-        OpRead::Refused(fields::NAME_NOT_TEXT)
+    if !op::is_text(name) {
+        return Err(Refusal::NameNotText);
     }
+    let (count, end) = fields::u32_at(s, at)?;
+    let Some(k) = op::number_of(name) else {
+        return Err(Refusal::UnknownOperation);
+    };
+    if count != op::operand_count(k) {
+        return Err(Refusal::WrongOperandCount);
+    }
+    Ok((k, end))
 }
 
 // Of the operation of the instruction at `at`: its operand count and four times its number, where it is found by the table and 128 bytes from there
-// stand in the file, which is more than an instruction has; else 256. It is pub for the fast way to an instruction by value.
-pub fn fast_code(s: &[u8], at: usize) -> u64
-    ensures { result < 256 → Found s.now at result }
+// stand in the file, which is more than an instruction has. It is pub for the fast way to an instruction by value.
+pub fn fast_code(s: &[u8], at: usize) -> Option<u64>
+    ensures { IfSome result (λ code. Found s.now at code) }
 {
-    if s.len() < at {
-        return 256;
-    }
-    if s.len() - at < 128 {
-        return 256;
+    if !fields::within(s, at, 128) {
+        return None;
     }
     let a = at + 4;
     let n = fields::four(s, at) as usize;
-    let code = op::fast_lookup(fields::eight(s, a), n);
-    if 255 < code {
-        return 256;
-    }
+    let code = op::fast_lookup(fields::eight(s, a), n)?;
     if fields::four(s, a + n) != code % 4 {
-        return 256;
+        return None;
     }
-    code
+    Some(code)
 }
 
 // The operation of the instruction at `at`, its name looked for among all.
-fn listed_op_at(s: &[u8], at: usize) -> OpRead
-    ensures { of_op result ≡ opcode s.now at }
+#[tactic(auto, unfolding(fields::specs::Parse::bind, pod::specs::Layout::opcode))]
+fn listed_op_at(s: &[u8], at: usize) -> Parsed<usize>
+    ensures { of_read result ≡ opcode s.now at }
 {
-    let size = fields::u32_at(s, at);
-    if let U32Read::Value(k, a) = size {
-        let n = k as usize;
-        let name = fields::part_skip(s, a, n);
-        if let Skip::Past(b) = name {
-            named_at(s, fields::part_of(s, a, n), b)
-        } else {
-            OpRead::Refused(fields::skip_refusal(name))
-        }
-    } else {
-        OpRead::Refused(fields::u32_refusal(size))
-    }
+    let (size, start) = fields::u32_at(s, at)?;
+    let n = size as usize;
+    let end = fields::skip(s, start, n)?;
+    named_at(s, fields::part_of(s, start, n), end)
 }
 
 // The operation of the instruction at `at`: by the table, or else its name is looked for among all.
-pub fn op_at(s: &[u8], at: usize) -> OpRead
-    ensures { of_op result ≡ opcode s.now at }
+pub fn op_at(s: &[u8], at: usize) -> Parsed<usize>
+    ensures { of_read result ≡ opcode s.now at }
 {
-    let code = fast_code(s, at);
-    if code < 256 {
+    if let Some(code) = fast_code(s, at) {
         let n = fields::four(s, at) as usize;
-        return OpRead::Value((code / 4) as usize, at + 4 + n + 4);
+        return Ok(((code / 4) as usize, at + 4 + n + 4));
     }
     listed_op_at(s, at)
 }
@@ -152,51 +101,74 @@ pub fn op_at(s: &[u8], at: usize) -> OpRead
 pub fn op_of(s: &[u8], at: usize) -> usize
     ensures { (i : Instruction) (n : ℕ) → instruction s.now at ≡ ok i n → result ≡ i.op }
 {
-    let code = fast_code(s, at);
-    if code < 256 {
+    if let Some(code) = fast_code(s, at) {
         return (code / 4) as usize;
     }
-    if let OpRead::Value(op, _) = op_at(s, at) {
-        op
-    } else {
-        0
+    match op_at(s, at) {
+        Ok((k, _)) => k,
+        Err(_) => 0,
     }
 }
 
 // `count` operands.
 fn operands_run(s: &[u8], at: usize, count: u32) -> Asked
-    ensures { (of_asked result ≡ span (many operand count s.now at)) × (when_asked result ≡ span (many sound_operand count s.now at)) }
+    ensures plain { of_asked result ≡ span (many operand count s.now at) }
+    ensures asked { when_asked result ≡ span (many sound_operand count s.now at) }
 {
-    let mut left = count;
-    let mut o = at;
+    let mut end = at;
     let mut sound = true;
-    while 0 < left {
-        let operand = pod::operand_at(s, o);
-        if let OperandRead::Value(_, n, t) = operand {
-            o = n;
-            sound = sound & t;
-        } else {
-            return Asked::Refused(pod::operand_refusal(operand), sound);
+    for passed in 0..count {
+        match pod::operand_at(s, end) {
+            Ok((operand, next)) => {
+                let register = operand.is_sound();
+                end = next;
+                sound &= register;
+            }
+            Err(refusal) => return Err(Fault { refusal, sound }),
         }
-        left -= 1;
     }
-    Asked::Past(o, sound)
+    Ok((sound, end))
 }
 
-// A field of `k` bytes is passed over, after what was passed over so far: it is no register, so what was told stays.
-fn then_uint(s: &[u8], far: Asked, k: usize) -> Asked
-    requires { k ≤ 8 }
-    ensures { (of_asked result ≡ bind (of_asked far) (λ _ n. span (uint k s.now n)))
-        × (when_asked result ≡ bind (when_asked far) (λ _ n. span (uint k s.now n))) }
+// The fields past the operands are passed over, of which it was told whether every register is sound.
+fn tail_past(s: &[u8], at: usize, sound: bool) -> Asked
+    ensures plain { of_asked result ≡ span (uint 21 s.now at) }
+    ensures asked { when_asked result ≡ asked sound (span (uint 21 s.now at)) }
 {
-    if let Asked::Past(at, sound) = far {
-        if fields::within(s, at, k) {
-            Asked::Past(at + k, sound)
-        } else {
-            Asked::Refused(fields::SHORT_FILE, sound)
-        }
+    match fields::skip(s, at, TAIL_SIZE) {
+        Ok(end) => Ok((sound, end)),
+        Err(refusal) => Err(Fault { refusal, sound }),
+    }
+}
+
+// The instruction at `at` is passed over, field by field.
+fn instruction_past(s: &[u8], at: usize) -> Asked
+    ensures plain { of_asked result ≡ span (instruction s.now at) }
+    ensures asked { when_asked result ≡ span (appended s.now at) }
+{
+    let (k, start) = op_at(s, at)?;
+    let (sound, end) = operands_run(s, start, op::operand_count(k))?;
+    tail_past(s, end, sound)
+}
+
+// An answer where registers are asked: 19 unless they are sound.
+fn if_sound(sound: bool, answer: Skipped) -> Skipped
+    ensures { of_skip result ≡ asked sound (of_skip answer) }
+{
+    if sound {
+        answer
     } else {
-        far
+        Err(Refusal::CrookedRegister)
+    }
+}
+
+// The instruction at `at` is passed over as append reads it, which asks each register as soon as it has been read.
+pub fn appended_past(s: &[u8], at: usize) -> Skipped
+    ensures { of_skip result ≡ span (appended s.now at) }
+{
+    match instruction_past(s, at) {
+        Ok((sound, end)) => if_sound(sound, Ok(end)),
+        Err(fault) => if_sound(fault.sound, Err(fault.refusal)),
     }
 }
 
@@ -204,69 +176,40 @@ fn then_uint(s: &[u8], far: Asked, k: usize) -> Asked
 // walk over a block, which asks it first: asked by `instruction_skip`, whose answers go through memory, it makes the walk over a file half as long again. It
 // has the tests of `fast_code` a second time: the walk over a file spends its time here, and shared they slow it by a tenth and more. The loop goes by the
 // count in the file, which is at hand before the table's.
-pub fn fast_skip(s: &[u8], at: usize) -> FastInstruction
-    ensures { 0 < result.end → walked instruction instruction_bytes instruction_sound s.now at ≡ ok (sight result.written result.sound) result.end }
+pub fn fast_skip(s: &[u8], at: usize) -> Option<(Sight, usize)>
+    ensures { IfSome result (λ x. walked instruction instruction_bytes instruction_sound s.now at ≡ ok x.0 x.1) }
 {
-    if s.len() < at {
-        return NOT_TOLD;
-    }
-    if s.len() - at < 128 {
-        return NOT_TOLD;
+    if !fields::within(s, at, 128) {
+        return None;
     }
     let a = at + 4;
     let n = fields::four(s, at) as usize;
-    let code = op::fast_lookup(fields::eight(s, a), n);
-    if 255 < code {
-        return NOT_TOLD;
-    }
+    let code = op::fast_lookup(fields::eight(s, a), n)?;
     let b = a + n;
     let count = fields::four(s, b);
     if count != code % 4 {
-        return NOT_TOLD;
+        return None;
     }
-    let mut o = b + 4;
-    let mut left = count;
+    let mut end = b + 4;
     let mut sound = true;
-    while 0 < left {
-        let operand = pod::fast_operand(s, o);
-        o = operand.end;
-        if o == 0 {
-            return NOT_TOLD;
-        }
-        sound = sound & operand.sound;
-        left -= 1;
+    for passed in 0..count {
+        let (told, next) = pod::fast_operand(s, end)?;
+        end = next;
+        sound &= told;
     }
-    FastInstruction {
-        end: o + 21,
-        written: s[o + 20] <= 1,
-        sound,
-    }
-}
-
-// The instruction at `at` is passed over, field by field. It is pub for append, which asks its registers.
-pub fn instruction_past(s: &[u8], at: usize) -> Asked
-    ensures { (of_asked result ≡ span (instruction s.now at)) × (when_asked result ≡ span (appended s.now at)) }
-{
-    let op = op_at(s, at);
-    if let OpRead::Value(k, a) = op {
-        let o = operands_run(s, a, op::operand_count(k));
-        let v = then_uint(s, o, 8);
-        let f = then_uint(s, v, 8);
-        let i = then_uint(s, f, 4);
-        then_uint(s, i, 1)
-    } else {
-        Asked::Refused(op_refusal(op), true)
-    }
+    let written = s[end + 20] <= 1;
+    Some((Sight { written, sound }, end + TAIL_SIZE))
 }
 
 // The instruction at `at` is walked over, field by field. Its flag, sp reset, is its last byte: in written form it is at most 1.
-pub fn instruction_skip(s: &[u8], at: usize) -> Walked
-    ensures { of_walked result ≡ walked instruction instruction_bytes instruction_sound s.now at }
+pub fn instruction_skip(s: &[u8], at: usize) -> Parsed<Sight>
+    ensures { of_read result ≡ walked instruction instruction_bytes instruction_sound s.now at }
 {
-    let far = instruction_past(s, at);
-    if let Asked::Past(end, sound) = far {
-        Walked::Past(end, s[end - 1] <= 1, sound)
-    } else {
-        Walked::Refused(plain_refusal(far))
+    match instruction_past(s, at) {
+        Ok((sound, end)) => {
+            let written = s[end - 1] <= 1;
+            Ok((Sight { written, sound }, end))
+        }
+        Err(fault) => Err(fault.refusal),
     }
 }

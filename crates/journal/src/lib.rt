@@ -4,57 +4,80 @@
 // length.
 #![tactic(auto)]
 
-ghost use Rattle.std.specs.Prelude.{◌≡◌, ◌+◌, ◌-◌, ◌≤◌, length};
+ghost use Rattle.std.specs.Prelude.{◌≡◌, ◌+◌, ◌-◌, ◌≤◌, length, MatchOption};
 ghost use Rattle.machine.specs.Trailer.{trailer, trailer_bytes};
 ghost use Rattle.fields.specs.Parse.{ok};
 ghost use Rattle.fields.specs.Bytes.{put, zeros};
-ghost use Rattle.journal.specs.Says.{trailer_with, trailer_of};
+ghost use Rattle.journal.specs.Says.{kind_of, trailer_of, IsOf, IsOfNone, ReadsNone};
 
 use pod::Vip;
 
-// `place` is the block's, and `len`, document 01's length, the size of what was removed or appended.
+// The edits that have an entry, each with the number that stands in its trailer.
+#[derive(Clone, Copy, Debug, PartialEq, Eq)]
+pub enum Edit {
+    Create = 1,
+    Remove = 2,
+    Append = 3,
+}
+
+impl From<Edit> for u32 {
+    ghost from_gives = { λ e n. n ≡ kind_of e };
+
+    fn from(edit: Edit) -> u32 {
+        edit as u32
+    }
+}
+
+// `place` is the block's, and `len` the size of what was removed or appended; 0 at a create.
 #[derive(Clone, Copy)]
 pub struct Trailer {
     pub vip: Vip,
     pub place: u32,
     pub len: u32,
-    pub kind: u32,
+    pub kind: Edit,
 }
 
 // The bytes of a trailer.
 pub const TRAILER_SIZE: usize = 20;
 
-// The kinds of entries, by the edit that wrote them.
-pub const CREATE: u32 = 1;
-
-pub const REMOVE: u32 = 2;
-
-pub const APPEND: u32 = 3;
-
-pub fn put_trailer(journal: &mut [u8], at: usize, vip: Vip, place: u32, size: u32, kind: u32)
+pub fn put_trailer(journal: &mut [u8], at: usize, trailer: Trailer)
     requires { at + 20 ≤ length journal.old }
-    ensures { journal.new ≡ put at (trailer_bytes (trailer_with vip.0 place size kind)) journal.old }
+    ensures { journal.new ≡ put at (trailer_bytes (trailer_of trailer)) journal.old }
 {
-    buffer::put_u64(journal, at, vip.0);
-    buffer::put_u32(journal, at + 8, place);
-    buffer::put_u32(journal, at + 12, size);
-    buffer::put_u32(journal, at + 16, kind);
+    buffer::put_u64(journal, at, trailer.vip.0);
+    buffer::put_u32(journal, at + 8, trailer.place);
+    buffer::put_u32(journal, at + 12, trailer.len);
+    buffer::put_u32(journal, at + 16, u32::from(trailer.kind));
 }
 
-pub fn read_trailer(journal: &[u8], at: usize) -> Trailer
+// The edit whose number stands in a trailer.
+fn edit_of(kind: u32) -> Option<Edit>
+    ensures { MatchOption result (IsOfNone kind) (IsOf kind) }
+{
+    match kind {
+        1 => Some(Edit::Create),
+        2 => Some(Edit::Remove),
+        3 => Some(Edit::Append),
+        _ => None,
+    }
+}
+
+// None where the kind is none of the three.
+pub fn read_trailer(journal: &[u8], at: usize) -> Option<Trailer>
     requires { at + 20 ≤ length journal.now }
-    ensures { trailer journal.now at ≡ ok (trailer_of result) (at + 20) }
+    ensures { MatchOption result (ReadsNone journal.now at) (λ t. trailer journal.now at ≡ ok (trailer_of t) (at + 20)) }
 {
     let vip = Vip(fields::eight(journal, at));
     let place = fields::four(journal, at + 8) as u32;
     let len = fields::four(journal, at + 12) as u32;
     let kind = fields::four(journal, at + 16) as u32;
-    Trailer {
+    let kind = edit_of(kind)?;
+    Some(Trailer {
         vip,
         place,
         len,
         kind,
-    }
+    })
 }
 
 // The trailer at the end of the used part becomes zeros. Answers how much is used before it.

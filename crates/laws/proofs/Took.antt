@@ -23,7 +23,7 @@ use Rattle.pod.specs.Written.{bytes, bit, many_bytes, counted_bytes}
 use Rattle.laws.specs.Holds.{ListHolds}
 use Rattle.laws.specs.Normal.{Role, keep, normalise, keeps, last_flag, many_roles, counted_roles}
 use Rattle.laws.specs.Normal as N
-use Rattle.laws.proofs.At.{fits, none, Spans, within, ◌then◌}
+use Rattle.laws.proofs.At.{none, Spans, within, ◌then◌}
 use Rattle.laws.proofs.Back.{length-bytes}
 use Rattle.laws.proofs.Post.{Post, give, step, either, never, so}
 

@@ -3,7 +3,7 @@
 -- each's are of it. That its registers are sound is seen as it is said of what was read.
 -- Assumes nothing.
 use mathlib.Core.Path.{◌≡◌, refl, sym, ap, ap₂, ◌∙◌}
-use mathlib.Core.Bool.{Bool, true, false, ◌&&◌, not, and-true, and_assoc}
+use mathlib.Core.Bool.{Bool, true, false, ◌&&◌, not}
 use mathlib.Core.List.{List, [], ◌∷◌, ◌++◌}
 use Prim.Native.Nat.{ℕ, zero, suc, ◌+◌, ◌-◌, ◌^◌, ◌≤◌, ◌<◌}
 use native.Mathlib.Omega.{arith}
@@ -13,7 +13,8 @@ use lib.Seq.{take-add, drop-drop, take_at, take-length, get_or-take, get_or-drop
 use borrow.Author.Tests.{eq-eqb, ne_eqb, lt-leb}
 use Rattle.fields.specs.Parse.{Res, ok, no, Reader, bind, span, many, counted, u32}
 use Rattle.fields.specs.Lists.{choose, same, every}
-use Rattle.fields.specs.Sight.{Sight, sight, of_both}
+use Rattle.fields.specs.declared.Sight.{Sight}
+use Rattle.fields.specs.Sight.{sight, of_both, run}
 use Rattle.fields.specs.Bytes.{Bytes}
 use Rattle.op.proofs.Same.{same-yes, same_eq}
 use Rattle.pod.specs.Values.{Instruction, RoutineConvention}
@@ -28,14 +29,11 @@ use Rattle.laws.proofs.At.{Spans, within}
 use Rattle.laws.proofs.Post.{Post, give, step, so}
 use Rattle.laws.proofs.Place.{many-length}
 use Rattle.fields.proofs.Invert.{inv, inv_ok, inv_span, inv_span_no}
+use Rattle.fields.proofs.Read.{bind_assoc, bind_span}
 use Rattle.laws.proofs.Took.{Took, normal-kept, took-to, took-within, took-normal, uint-took}
 use Rattle.laws.proofs.Sizes.{instruction-size, convention-size, header-size}
 use Rattle.laws.proofs.Consumed.{header-took}
 use Rattle.laws.proofs.Layouts.{Layout, read-to, read-within, instruction_layout, convention_layout}
-
--- of three parts it is the same which two are put together first
-pub both_assoc : (x y z : Sight) → of_both (of_both x y) z ≡ of_both x (of_both y z)
-both_assoc x y z = ap₂ sight (and_assoc x.written y.written z.written) (and_assoc x.sound y.sound z.sound)
 
 -- two lists, each in two parts
 same-append : (a x b y : List ℕ) → length a ≡ length b → same (a ++ x) (b ++ y) ≡ (same a b && same x y)
@@ -271,7 +269,19 @@ module _ {A : Type 0} (p : Reader A) (w : A → List ℕ) {s : List ℕ} (f : Fi
         one (ok x m) u = let h = u.when x m refl in others x m h (many p k s m) (many_fills k m h.fits)
         one (no e) u = refl
 
-    pub walked_counted : Bytes s → (o : ℕ) → walked (counted p) (counted_bytes w) (every T) s o ≡ bind (u32 s o) (λ k n. walked (many p k) (many_bytes w) (every T) s n)
+    -- a run of them, one after the other
+    pub walked_run : (k o : ℕ) → run (walked p w T s) k o ≡ walked (many p k) (many_bytes w) (every T) s o
+    unfolding run walked many bind many_bytes same every both
+    walked_run zero o = let z : o - o ≡ 0 = omega arith in rw z
+    walked_run (suc k) o = go (walked_run k) (walked p w T s o) ∙ sym (walked_more k o)
+      where
+        go : ((m : ℕ) → run (walked p w T s) k m ≡ walked (many p k) (many_bytes w) (every T) s m) → (r : Res Sight)
+            → bind r (λ x m. bind (run (walked p w T s) k m) (λ y e. ok (of_both x y) e)) ≡ both r (walked (many p k) (many_bytes w) (every T) s)
+        go h (ok x m) = ap (λ q. bind q (λ y e. ok (of_both x y) e)) (h m)
+        go h (no e) = refl
+
+    -- a list of them
+    pub walked_counted : Bytes s → (o : ℕ) → walked (counted p) (counted_bytes w) (every T) s o ≡ bind (u32 s o) (run (walked p w T s))
     unfolding walked bind counted_bytes
     walked_counted b o = one (u32 s o) (uint-took b o 4)
       where
@@ -286,78 +296,39 @@ module _ {A : Type 0} (p : Reader A) (w : A → List ℕ) {s : List ℕ} (f : Fi
 
         one : (r : Res ℕ) → Post r (λ k n. (k < 2 ^ 32) × Spans s o (bytes 4 k) n)
             → bind (bind r (λ k n. many p k s n)) (λ xs n. ok (sight (same (from_to s o n) (bytes 4 (length xs) ++ many_bytes w xs)) (every T xs)) n)
-            ≡ bind r (λ k m. bind (many p k s m) (λ xs n. ok (sight (same (from_to s m n) (many_bytes w xs)) (every T xs)) n))
+            ≡ bind r (run (walked p w T s))
         one (ok k m) u =
             let h = (u.when k m refl).1 in
-            others k m h (many p k s m) (record { when = λ xs n e. (many-length p k s m e, (many_fills k m (within h)).when xs n e) })
+            others k m h (many p k s m) (record { when = λ xs n e. (many-length p k s m e, (many_fills k m (within h)).when xs n e) }) ∙ sym (walked_run k m)
         one (no e) u = refl
 
-    -- a loop over n of them: what was seen so far and what is left to see make what is seen of all
-    pub walk_start : (n o : ℕ) → both (ok (sight true true) o) (walked (many p n) (many_bytes w) (every T) s) ≡ walked (many p n) (many_bytes w) (every T) s o
-    unfolding both bind
-    walk_start n o = go (walked (many p n) (many_bytes w) (every T) s o)
-      where
-        go : (r : Res Sight) → bind r (λ y m. ok (of_both (sight true true) y) m) ≡ r
-        go (ok y m) = refl
-        go (no e) = refl
-
-    module _ (n o : ℕ) (x : Sight) {q : Res Sight} (inv : both (ok x o) (walked (many p n) (many_bytes w) (every T) s) ≡ q) where
-      pub walk_end : n ≤ 0 → ok x o ≡ q
-      unfolding both walked many bind many_bytes same every
-      walk_end h =
-          let e : n ≡ 0 = omega arith in
-          let z : o - o ≡ 0 = omega arith in
-          sym (ap₂ (λ t u. ok (sight t u) o) (and-true x.written) (and-true x.sound)) ∙ (rw (e, z) at inv)
-
-      left : 0 < n → both (ok x o) (λ i. both (walked p w T s i) (walked (many p (n - 1)) (many_bytes w) (every T) s)) ≡ q
-      unfolding both bind
-      left h =
-          let e : n ≡ suc (n - 1) = omega arith in
-          ap (λ r. bind r (λ y m. ok (of_both x y) m)) (sym (walked_more (n - 1) o) ∙ ap (λ k. walked (many p k) (many_bytes w) (every T) s o) (sym e)) ∙ inv
-
-      pub walk_next : 0 < n → {y : Sight} {m : ℕ} → walked p w T s o ≡ ok y m → both (ok (of_both x y) m) (walked (many p (n - 1)) (many_bytes w) (every T) s) ≡ q
-      unfolding both bind
-      walk_next h {y} {m} e = go (walked (many p (n - 1)) (many_bytes w) (every T) s m) ∙ (rw e at (left h))
-        where
-          go : (r : Res Sight) → bind r (λ z k. ok (of_both (of_both x y) z) k) ≡ bind (bind r (λ z k. ok (of_both y z) k)) (λ z k. ok (of_both x z) k)
-          go (ok z k) = ap (λ v. ok v k) (both_assoc x y z)
-          go (no c) = refl
-
-      pub walk_stop : 0 < n → {c : ℕ} → walked p w T s o ≡ no c → no c ≡ q
-      unfolding both bind
-      walk_stop h e = rw e at (left h)
-
--- Parts one after the other, in code with no branch: K is what the code makes of how far one part went, or of what was seen of it.
+-- Parts one after the other: g is what the code makes of what one part answered, of where it ended, or of what was seen of it.
 module _ (s : List ℕ) (o : ℕ) {B : Type 0} (w : B → List ℕ) (U : B → Bool) where
   -- what is seen of all from o on
   abbrev pub seen : Res B → Res Sight
   seen r = bind r (λ b n. ok (sight (same (from_to s o n) (w b)) (U b)) n)
 
-  pub link : {A : Type 0} {Q : A → ℕ → Type 0} {r : Res A} → Post r Q → (f : A → ℕ → Res B) (K : Res Unit → Res Sight) → ((e : ℕ) → K (no e) ≡ no e)
-      → ((a : A) (n : ℕ) → Q a n → K (ok tt n) ≡ seen (f a n)) → K (span r) ≡ seen (bind r f)
-  unfolding bind span
-  link {A} {Q} {r} h f K z g = go r h
+  pub link-read : {A : Type 0} {Q : A → ℕ → Type 0} {r : Res A} → Post r Q → (f : A → ℕ → Res B) (g : A → ℕ → Res Sight)
+      → ((a : A) (n : ℕ) → Q a n → g a n ≡ seen (f a n)) → bind r g ≡ seen (bind r f)
+  unfolding bind
+  link-read {A} {Q} {r} h f g k = go r h
     where
-      go : (r : Res A) → Post r Q → K (span r) ≡ seen (bind r f)
-      go (ok a n) h = g a n (h.when a n refl)
-      go (no e) h = z e
+      go : (r : Res A) → Post r Q → bind r g ≡ seen (bind r f)
+      go (ok a n) h = k a n (h.when a n refl)
+      go (no e) h = refl
+
+  pub link : {A : Type 0} {Q : A → ℕ → Type 0} {r : Res A} → Post r Q → (f : A → ℕ → Res B) (g : Unit {0} → ℕ → Res Sight)
+      → ((a : A) (n : ℕ) → Q a n → g tt n ≡ seen (f a n)) → bind (span r) g ≡ seen (bind r f)
+  link {r = r} h f g k = bind_span r g ∙ link-read h f (λ a n. g tt n) k
 
   -- where the value is turned into another, as a signed field's is
-  pub link-map : {A C : Type 0} {Q : C → ℕ → Type 0} (r : Res A) (g : A → C) → Post (bind r (λ a n. ok (g a) n)) Q → (f : C → ℕ → Res B) (K : Res Unit → Res Sight)
-      → ((e : ℕ) → K (no e) ≡ no e) → ((c : C) (n : ℕ) → Q c n → K (ok tt n) ≡ seen (f c n)) → K (span r) ≡ seen (bind (bind r (λ a n. ok (g a) n)) f)
-  unfolding bind span
-  link-map {A} {C} {Q} r g h f K z k = go r h
-    where
-      go : (r : Res A) → Post (bind r (λ a n. ok (g a) n)) Q → K (span r) ≡ seen (bind (bind r (λ a n. ok (g a) n)) f)
-      go (ok a n) h = k (g a) n (h.when (g a) n refl)
-      go (no e) h = z e
+  pub link-map : {A C : Type 0} {Q : C → ℕ → Type 0} (r : Res A) (t : A → C) → Post (bind r (λ a n. ok (t a) n)) Q → (f : C → ℕ → Res B) (g : Unit {0} → ℕ → Res Sight)
+      → ((c : C) (n : ℕ) → Q c n → g tt n ≡ seen (f c n)) → bind (span r) g ≡ seen (bind (bind r (λ a n. ok (t a) n)) f)
+  unfolding bind
+  link-map r t h f g k = bind_span r g ∙ sym (bind_assoc r (λ a n. ok (t a) n) (λ c n. g tt n)) ∙ link-read h f (λ c n. g tt n) k
 
   -- a part that is itself walked over
-  pub link-walked : {A : Type 0} {Q : A → ℕ → Type 0} (p : Reader A) (v : A → List ℕ) (T : A → Bool) (m : ℕ) → Post (p s m) Q → (f : A → ℕ → Res B) (K : Res Sight → Res Sight)
-      → ((e : ℕ) → K (no e) ≡ no e) → ((a : A) (n : ℕ) → Q a n → K (ok (sight (same (from_to s m n) (v a)) (T a)) n) ≡ seen (f a n)) → K (walked p v T s m) ≡ seen (bind (p s m) f)
+  pub link-walked : {A : Type 0} {Q : A → ℕ → Type 0} (p : Reader A) (v : A → List ℕ) (T : A → Bool) (m : ℕ) → Post (p s m) Q → (f : A → ℕ → Res B) (g : Sight → ℕ → Res Sight)
+      → ((a : A) (n : ℕ) → Q a n → g (sight (same (from_to s m n) (v a)) (T a)) n ≡ seen (f a n)) → bind (walked p v T s m) g ≡ seen (bind (p s m) f)
   unfolding bind walked
-  link-walked {A} {Q} p v T m h f K z g = go (p s m) h
-    where
-      go : (r : Res A) → Post r Q → K (bind r (λ a n. ok (sight (same (from_to s m n) (v a)) (T a)) n)) ≡ seen (bind r f)
-      go (ok a n) h = g a n (h.when a n refl)
-      go (no e) h = z e
+  link-walked p v T m h f g k = bind_assoc (p s m) (λ a n. ok (sight (same (from_to s m n) (v a)) (T a)) n) g ∙ link-read h f _ k

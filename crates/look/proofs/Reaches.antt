@@ -5,8 +5,13 @@ use mathlib.Core.Path.{◌≡◌, refl, ap, ◌∙◌}
 use mathlib.Core.List.{List, [], ◌∷◌}
 use Prim.Native.Nat.{ℕ, zero, suc, ◌≤◌, ◌<◌}
 use native.Mathlib.Nat.{not-suc-le-zero, le_of_suc-le-suc}
-use native.Mathlib.Omega.{arith}
 use lib.ListN.{length}
+use Rattle.std.proofs.Common.{Result}
+use Rattle.std.specs.Result.{IsErrAnd}
+use Rattle.std.proofs.lemmas.Result.{err_from_is_err_and}
+use Rattle.fields.specs.Refusals.{number}
+use Rattle.fields.specs.declared.Refusal.{Refusal}
+use Rattle.fields.proofs.Numbers.{not-zero}
 use Rattle.fields.specs.Outcome.{Outcome, refused, accepted, after}
 use Rattle.fields.specs.Parse.{Reader, ok, many}
 use Rattle.fields.proofs.Invert.{inv}
@@ -15,7 +20,6 @@ use Rattle.book.specs.Says.{refusal_of}
 use Rattle.ends.specs.Ends.{times}
 use Rattle.image.proofs.Inspects.{refused-by}
 use Rattle.look.specs.Reached.{Standing, Reaches}
-use Rattle.look.specs.declared.Reached.{Reached}
 
 pub element-no : {A : Type 0} (i : ℕ) (xs : List A) → length xs ≤ i → element i xs ≡ refused 15
 unfolding element
@@ -49,12 +53,8 @@ module _ {A B : Type 0} (l : Outcome A) (f : A → Outcome B) where
   unfolding after
   goes_on e = rw e
 
-  module _ {p : Reader B} {s : List ℕ} where
-    pub hands_on : {r : Reached} → r.refusal ≡ refusal_of l → 0 < r.refusal → Reaches p s (after l f) r
-    hands_on e n = record { refuses = λ m. refused_on (refused-by l e (λ z. omega arith)); there = λ z. absurd (omega arith) }
+  pub hands_on : (p : Reader B) (s : List ℕ) (r : Result ℕ Refusal) (e : Refusal) → IsErrAnd r (λ d. d ≡ e) → number e ≡ refusal_of l → Reaches p s (after l f) r
+  hands_on p s r e h g = let q = err_from_is_err_and r h in rw (q.1, q.2) (refused_on (refused-by l g (not-zero e)))
 
-    pub finds_none : {x : A} → l ≡ accepted x → f x ≡ refused 15 → Reaches p s (after l f) (record { refusal = 15; at = 0 })
-    finds_none e g = record { refuses = λ n. goes_on e ∙ g; there = λ z. absurd (omega arith) }
-
-    pub comes_to : {x : A} {o : ℕ} → l ≡ accepted x → Standing p s (f x) o → Reaches p s (after l f) (record { refusal = 0; at = o })
-    comes_to e t = record { refuses = λ n. absurd (omega arith); there = λ z. record { it = t.it; end = t.end; is = goes_on e ∙ t.is; reads = t.reads } }
+  pub comes_to : {p : Reader B} {s : List ℕ} {x : A} {o : ℕ} → l ≡ accepted x → Standing p s (f x) o → Standing p s (after l f) o
+  comes_to e t = record { it = t.it; end = t.end; is = goes_on e ∙ t.is; reads = t.reads }

@@ -1,9 +1,10 @@
 -- Where what is looked at stands: the offset at which its layout reads it.
-use Rattle.std.specs.Prelude.{ℕ, ◌<◌, ◌≡◌, List, length}
+use Rattle.std.specs.Prelude.{ℕ, ◌≡◌, List, length, Result, Ok, Err}
+use Rattle.fields.specs.Refusals.{number}
+use Rattle.fields.specs.declared.Refusal.{Refusal}
 use Rattle.fields.specs.Outcome.{Outcome, refused, accepted, after}
 use Rattle.fields.specs.Parse.{Reader, ok, many}
 use Rattle.machine.specs.Look.{element}
-use Rattle.look.specs.declared.Reached.{Reached}
 use Rattle.look.specs.declared.Elements.{Elements}
 
 module _ {A : Type 0} (p : Reader A) (s : List ℕ) where
@@ -14,10 +15,10 @@ module _ {A : Type 0} (p : Reader A) (s : List ℕ) where
     pub is : l ≡ accepted it
     pub reads : p s o ≡ ok it end
 
-  -- the refusal of a look l; or 0, and the offset of what it accepts
-  pub record Reaches (l : Outcome A) (r : Reached) : Type 0 where
-    pub refuses : 0 < r.refusal → l ≡ refused r.refusal
-    pub there : r.refusal ≡ 0 → Standing l r.at
+  -- the offset of what a look l accepts, or its refusal
+  abbrev pub Reaches : Outcome A → Result ℕ Refusal → Type 0
+  Reaches l (Ok o) = Standing l o
+  Reaches l (Err e) = l ≡ refused (number e)
 
   -- the list that a look l accepts, whose elements p reads one after the other; a list that is not there has none
   pub record Lists (l : Outcome (List A)) (r : Elements) : Type 0 where

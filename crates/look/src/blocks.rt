@@ -1,6 +1,7 @@
 // Looking at a block, and at its instructions and vips.
 ghost use Rattle.std.specs.Prelude.{◌≡◌, ℕ};
 ghost use Rattle.fields.specs.Parse.{ok, u64};
+ghost use Rattle.fields.specs.Refusals.{number};
 ghost use Rattle.pod.specs.Values.{BasicBlock};
 ghost use Rattle.pod.specs.Layout.{block};
 ghost use Rattle.machine.specs.Look.{look_block, look_instruction, vip_list, look_vip};
@@ -8,32 +9,30 @@ ghost use Rattle.book.specs.Says.{state};
 ghost use Rattle.look.specs.Answers.{block_look, instruction_look, vip_look, no_block, no_instruction, no_vip};
 ghost use Rattle.look.specs.Reached.{Reaches, Lists};
 
-use crate::{BlockLook, Elements, InstructionLook, Reached, VipLook};
+use crate::{BlockLook, Elements, InstructionLook, VipLook};
 use book::Book;
+use fields::Refusal;
 use pod::Vip;
 
 // The block at a place: where it stands, or why there is none to look at.
-fn reach_block(book: Book, image: &[u8], journal: &[u8], place: u64) -> Reached
+fn reach_block(book: Book, image: &[u8], journal: &[u8], place: u64) -> Result<usize, Refusal>
     ensures { Reaches block image.now (look_block place (state image.now journal.now book)) result }
 {
-    let refusal = image::inspect(book, image, journal);
-    if refusal != 0 {
-        return Reached { refusal, at: 0 };
-    }
+    image::inspect(book, image, journal)?;
     let blocks = image::blocks_of(image);
     if (blocks.count as u64) <= place {
-        return crate::NOWHERE;
+        return Err(Refusal::NoSuchBlock);
     }
     let at = ends::blocks_end(image, blocks.start, place as usize);
-    Reached { refusal: 0, at }
+    Ok(at)
 }
 
 // A refusal, and zeros.
-fn no_block(refusal: u64) -> BlockLook
-    ensures { result ≡ no_block refusal }
+fn no_block(refusal: Refusal) -> BlockLook
+    ensures { result ≡ no_block (number refusal) }
 {
     BlockLook {
-        refusal,
+        refusal: u64::from(refusal),
         vip: Vip(0),
         sp_offset: 0,
         sp_index: 0,
@@ -48,11 +47,11 @@ fn no_block(refusal: u64) -> BlockLook
 pub fn look_block(book: Book, image: &[u8], journal: &[u8], place: u64) -> BlockLook
     ensures { result ≡ block_look (look_block place (state image.now journal.now book)) }
 {
-    let b = reach_block(book, image, journal, place);
-    if b.refusal != 0 {
-        return no_block(b.refusal);
-    }
-    let block = pread::block_at(image, b.at);
+    let start = match reach_block(book, image, journal, place) {
+        Ok(start) => start,
+        Err(refusal) => return no_block(refusal),
+    };
+    let block = pread::block_at(image, start);
     let vip = block.vip;
     BlockLook {
         refusal: 0,
@@ -67,14 +66,13 @@ pub fn look_block(book: Book, image: &[u8], journal: &[u8], place: u64) -> Block
 }
 
 // A refusal, and zeros.
-fn no_instruction(refusal: u64) -> InstructionLook
-    ensures { result ≡ no_instruction refusal }
+#[tactic(auto, unfolding(pod::specs::Descs::places))]
+fn no_instruction(refusal: Refusal) -> InstructionLook
+    ensures { result ≡ no_instruction (number refusal) }
 {
-    let none = value::refused(0);
-    let instruction = none.instruction;
     InstructionLook {
-        refusal,
-        instruction,
+        refusal: u64::from(refusal),
+        instruction: value::NO_INSTRUCTION,
     }
 }
 
@@ -88,14 +86,13 @@ pub fn look_instruction(
 ) -> InstructionLook
     ensures { result ≡ instruction_look (look_instruction block place (state image.now journal.now book)) }
 {
-    let b = reach_block(book, image, journal, block);
-    if b.refusal != 0 {
-        return no_instruction(b.refusal);
-    }
-    let start = b.at;
+    let start = match reach_block(book, image, journal, block) {
+        Ok(start) => start,
+        Err(refusal) => return no_instruction(refusal),
+    };
     let count = ends::word32(image, start + ends::BLOCK_HEAD_SIZE);
     if (count as u64) <= place {
-        return no_instruction(book::NO_SUCH_BLOCK);
+        return no_instruction(Refusal::NoSuchBlock);
     }
     let at = ends::instructions_end(image, start + ends::INSTRUCTIONS_AT, place as u32);
     let found = value::instruction_by_fields(image, at);
@@ -111,27 +108,25 @@ fn vips_of(image: &[u8], at: usize, list: u64) -> Elements
     ensures { (b : BasicBlock) (n : ℕ) → block image.now at ≡ ok b n → Lists u64 image.now (vip_list list b) result }
 {
     let block = pread::block_at(image, at);
-    if list == 0 {
-        return Elements {
+    match list {
+        0 => Elements {
             first: block.prev_at,
             count: block.prev_vips,
-        };
-    }
-    if list == 1 {
-        return Elements {
+        },
+        1 => Elements {
             first: block.next_at,
             count: block.next_vips,
-        };
+        },
+        _ => crate::NO_ELEMENTS,
     }
-    crate::NO_ELEMENTS
 }
 
 // A refusal, and zeros.
-fn no_vip(refusal: u64) -> VipLook
-    ensures { result ≡ no_vip refusal }
+fn no_vip(refusal: Refusal) -> VipLook
+    ensures { result ≡ no_vip (number refusal) }
 {
     VipLook {
-        refusal,
+        refusal: u64::from(refusal),
         vip: Vip(0),
     }
 }
@@ -147,13 +142,13 @@ pub fn look_vip(
 ) -> VipLook
     ensures { result ≡ vip_look (look_vip block list place (state image.now journal.now book)) }
 {
-    let b = reach_block(book, image, journal, block);
-    if b.refusal != 0 {
-        return no_vip(b.refusal);
-    }
-    let vips = vips_of(image, b.at, list);
+    let start = match reach_block(book, image, journal, block) {
+        Ok(start) => start,
+        Err(refusal) => return no_vip(refusal),
+    };
+    let vips = vips_of(image, start, list);
     if vips.count <= place {
-        return no_vip(book::NO_SUCH_BLOCK);
+        return no_vip(Refusal::NoSuchBlock);
     }
     let found = pread::vip_at(image, vips.first + ends::VIP_SIZE * (place as usize));
     let vip = found.vip;

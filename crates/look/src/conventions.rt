@@ -1,6 +1,7 @@
 // Looking at a convention, and at its registers. Convention 0 is the routine's, 1 the subroutine's, then the special ones.
 ghost use Rattle.std.specs.Prelude.{◌≡◌, ℕ};
 ghost use Rattle.fields.specs.Parse.{ok};
+ghost use Rattle.fields.specs.Refusals.{number};
 ghost use Rattle.pod.specs.Values.{RoutineConvention};
 ghost use Rattle.pod.specs.Layout.{convention, register};
 ghost use Rattle.machine.specs.Look.{look_convention, register_list, look_register};
@@ -8,31 +9,29 @@ ghost use Rattle.book.specs.Says.{state};
 ghost use Rattle.look.specs.Answers.{convention_look, register_look, no_convention, no_register};
 ghost use Rattle.look.specs.Reached.{Reaches, Lists};
 
-use crate::{ConventionLook, Elements, Reached, RegisterLook};
+use crate::{ConventionLook, Elements, RegisterLook};
 use book::Book;
+use fields::Refusal;
 
 // The convention at a place: where it stands, or why there is none to look at.
-fn reach_convention(book: Book, image: &[u8], journal: &[u8], place: u64) -> Reached
+fn reach_convention(book: Book, image: &[u8], journal: &[u8], place: u64) -> Result<usize, Refusal>
     ensures { Reaches convention image.now (look_convention place (state image.now journal.now book)) result }
 {
-    let refusal = image::inspect(book, image, journal);
-    if refusal != 0 {
-        return Reached { refusal, at: 0 };
-    }
+    image::inspect(book, image, journal)?;
     let special = image::special_count(image);
     if special as u64 + 2 <= place {
-        return crate::NOWHERE;
+        return Err(Refusal::NoSuchBlock);
     }
     let at = image::convention_offset(image, place as usize);
-    Reached { refusal: 0, at }
+    Ok(at)
 }
 
 // A refusal, and zeros.
-fn no_convention(refusal: u64) -> ConventionLook
-    ensures { result ≡ no_convention refusal }
+fn no_convention(refusal: Refusal) -> ConventionLook
+    ensures { result ≡ no_convention (number refusal) }
 {
     ConventionLook {
-        refusal,
+        refusal: u64::from(refusal),
         frame_register: pod::NO_REGISTER,
         shadow_space: 0,
         purge_stack: 0,
@@ -46,11 +45,11 @@ fn no_convention(refusal: u64) -> ConventionLook
 pub fn look_convention(book: Book, image: &[u8], journal: &[u8], place: u64) -> ConventionLook
     ensures { result ≡ convention_look (look_convention place (state image.now journal.now book)) }
 {
-    let c = reach_convention(book, image, journal, place);
-    if c.refusal != 0 {
-        return no_convention(c.refusal);
-    }
-    let convention = pread::convention_at(image, c.at);
+    let start = match reach_convention(book, image, journal, place) {
+        Ok(start) => start,
+        Err(refusal) => return no_convention(refusal),
+    };
+    let convention = pread::convention_at(image, start);
     let frame_register = convention.frame_register;
     ConventionLook {
         refusal: 0,
@@ -68,33 +67,29 @@ fn registers_of(image: &[u8], at: usize, list: u64) -> Elements
     ensures { (c : RoutineConvention) (n : ℕ) → convention image.now at ≡ ok c n → Lists register image.now (register_list list c) result }
 {
     let convention = pread::convention_at(image, at);
-    if list == 0 {
-        return Elements {
+    match list {
+        0 => Elements {
             first: convention.volatile_at,
             count: convention.volatile_registers,
-        };
-    }
-    if list == 1 {
-        return Elements {
+        },
+        1 => Elements {
             first: convention.param_at,
             count: convention.param_registers,
-        };
-    }
-    if list == 2 {
-        return Elements {
+        },
+        2 => Elements {
             first: convention.retval_at,
             count: convention.retval_registers,
-        };
+        },
+        _ => crate::NO_ELEMENTS,
     }
-    crate::NO_ELEMENTS
 }
 
 // A refusal, and zeros.
-fn no_register(refusal: u64) -> RegisterLook
-    ensures { result ≡ no_register refusal }
+fn no_register(refusal: Refusal) -> RegisterLook
+    ensures { result ≡ no_register (number refusal) }
 {
     RegisterLook {
-        refusal,
+        refusal: u64::from(refusal),
         register: pod::NO_REGISTER,
     }
 }
@@ -110,13 +105,13 @@ pub fn look_register(
 ) -> RegisterLook
     ensures { result ≡ register_look (look_register convention list place (state image.now journal.now book)) }
 {
-    let c = reach_convention(book, image, journal, convention);
-    if c.refusal != 0 {
-        return no_register(c.refusal);
-    }
-    let registers = registers_of(image, c.at, list);
+    let start = match reach_convention(book, image, journal, convention) {
+        Ok(start) => start,
+        Err(refusal) => return no_register(refusal),
+    };
+    let registers = registers_of(image, start, list);
     if registers.count <= place {
-        return no_register(book::NO_SUCH_BLOCK);
+        return no_register(Refusal::NoSuchBlock);
     }
     let found = pread::register_at(
         image,

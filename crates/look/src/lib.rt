@@ -73,19 +73,6 @@ pub struct RegisterLook {
     pub register: RegisterDesc,
 }
 
-// Refusal 0, and the offset of what stands at a place; or the refusal.
-#[derive(Clone, Copy)]
-struct Reached {
-    pub refusal: u64,
-    pub at: usize,
-}
-
-// There is nothing at the place.
-const NOWHERE: Reached = Reached {
-    refusal: book::NO_SUCH_BLOCK,
-    at: 0,
-};
-
 // A list of vips or registers: where its first element begins, and how many there are.
 #[derive(Clone, Copy)]
 struct Elements {
@@ -100,10 +87,9 @@ const NO_ELEMENTS: Elements = Elements { first: 0, count: 0 };
 pub fn look_routine(book: Book, image: &[u8], journal: &[u8]) -> RoutineLook
     ensures { result ≡ routine_look (look_routine (state image.now journal.now book)) }
 {
-    let refusal = image::inspect(book, image, journal);
-    if refusal != 0 {
+    if let Err(refusal) = image::inspect(book, image, journal) {
         return RoutineLook {
-            refusal,
+            refusal: u64::from(refusal),
             arch_id: 0,
             vip: Vip(0),
             spec_conventions: 0,

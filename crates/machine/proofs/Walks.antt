@@ -1,21 +1,21 @@
 -- A walk stays within the routine's blocks: where a call leaves the routine as it was, by what the call is; and where an edit that an open walk allows
 -- changes it, since create adds a block and append none goes.
 -- Assumes nothing.
-use mathlib.Core.Path.{◌≡◌, refl, sym, ap, ◌∙◌}
+use mathlib.Core.Path.{◌≡◌, refl, ap}
 use mathlib.Core.Bool.{Bool, true, false}
-use mathlib.Core.List.{List, [], ◌∷◌, ◌++◌}
-use Prim.Native.Nat.{ℕ, zero, suc, ◌+◌, ◌-◌, ◌≤◌, ◌<◌}
+use mathlib.Core.List.{[], ◌∷◌}
+use Prim.Native.Nat.{ℕ, zero, suc, ◌+◌, ◌-◌, ◌≤◌}
 use native.Mathlib.Omega.{arith}
 use lib.ListN.{length, length-append}
 use lib.Dec.{leb, ltb, eqb}
 use borrow.Author.Tests.{le-leb, leb-true, ltb-true, eqb-true}
 use Rattle.fields.specs.Lists.{choose}
-use Rattle.fields.specs.Outcome.{Outcome, refused, accepted, refuse_unless}
+use Rattle.fields.specs.Outcome.{accepted, refuse_unless}
 use Rattle.fields.proofs.Outcomes.{not-both}
 use Rattle.pod.specs.Values.{Routine}
 use Rattle.machine.specs.Edits.{Edit, create, remove, append, empty_block, append_to, place}
 use Rattle.machine.specs.Walk.{Walk, walk_start, walk_next, walk_abandon, walk_fits, Part, no_part, block_part, hand_out, walked_on}
-use Rattle.machine.specs.Machine.{Call, edit, undo, walking, permit}
+use Rattle.machine.specs.Machine.{edit, undo, permit}
 use Rattle.machine.proofs.Lists.{length_change}
 use Rattle.machine.proofs.Keeps.{Did}
 

@@ -2,15 +2,12 @@
 -- Assumes nothing.
 use mathlib.Core.Path.{◌≡◌, refl, sym, ap, ap₂, ◌∙◌}
 use mathlib.Core.List.{List, [], ◌∷◌, ◌++◌}
-use mathlib.Core.Bool.{Bool, true, false}
 use Prim.Native.Nat.{ℕ, zero, suc, ◌+◌, ◌-◌, ◌≤◌, ◌<◌}
 use native.Mathlib.Omega.{arith}
 use lib.ListN.{length, get_or, take, drop, set, length-append, length-set, length-replicate, take-append-drop}
 use lib.Seq.{drop_at, drop-drop, get_or-drop, take_at, set-append_left, take-set-le, drop-set-add}
-use mir.Val.{bool_byte}
 use Rattle.fields.specs.Parse.{ok, Reader}
 use Rattle.fields.specs.Bytes.{put, Bytes}
-use Rattle.pod.specs.Written.{bit}
 use Rattle.laws.specs.Moved.{moved}
 use Rattle.laws.specs.Normal.{Role, keep, flag, normal, normalise, keeps, last_flag}
 use Rattle.laws.proofs.At.{Spans, fits}
@@ -93,11 +90,6 @@ changed {s} {o} {n} {l} m i j {t} k e =
     in_first [] r i h = absurd (omega arith)
     in_first (x ∷ f) r zero h = refl
     in_first (x ∷ f) r (suc i) h = in_first f r i (omega arith)
-
--- a truth value as a byte is a flag's written form
-pub byte-is-bit : (t : Bool) → bool_byte t ≡ bit t
-byte-is-bit true = refl
-byte-is-bit false = refl
 
 -- a value whose last byte is a flag, the others kept
 pub flagged : {A : Type 0} {p : Reader A} {H : A → Type 0} {m : A → List Role} {w : A → List ℕ} (k : Layout p H m w)

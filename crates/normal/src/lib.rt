@@ -5,14 +5,17 @@
 // Bytes that are no routine come to no harm, and only of accepted bytes is anything promised. What adds up blocks requires that the whole fits.
 #![tactic(auto)]
 
-ghost use Rattle.std.specs.Prelude.{◌≡◌, ◌-◌, ◌≤◌, ◌<◌, ◌^◌, length, get_or, set};
+ghost use Rattle.std.specs.Prelude.{◌≡◌, ℕ, List, ◌+◌, ◌-◌, ◌≤◌, ◌<◌, ◌^◌, length, get_or, set};
 ghost use Rattle.fields.specs.Parse.{counted};
 ghost use Rattle.pod.specs.Layout.{instruction, convention, block, routine};
 ghost use Rattle.pod.specs.Written.{counted_bytes, instruction_bytes, convention_bytes, block_bytes, routine_bytes};
 ghost use Rattle.laws.specs.Normal.{normal, flag};
 ghost use Rattle.machine.specs.Charge.{total};
 ghost use Rattle.charge.specs.Sums.{in_table, block_in, routine_in};
+ghost use Rattle.ends.specs.Ends.{jump, word};
 ghost use Rattle.normal.specs.Over.{Normalised, nothing, Countable};
+ghost use Rattle.normal.specs.Chains.{Chain};
+ghost use denote.Ref.{MutBor};
 
 use charge::Summed;
 
@@ -30,6 +33,23 @@ fn normalise_flag(a: &mut [u8], end: usize)
         return;
     }
     a[end - 1] = (a[end - 1] != 0) as u8;
+}
+
+// The list at `at`, each part by `one`. A sum of parts that were normalised so far has to leave room for the next part.
+fn normalise_each<F: Fn(&mut [u8], usize) -> Summed>(a: &mut [u8], at: usize, one: F) -> Summed
+    requires { (n : ℕ) (s : List ℕ) (o sum : ℕ) → n < word 4 a.old at → Chain (F.post one) n a.old (jump a.old at 4) s o sum → (x : MutBor (List ℕ)) → x.now ≡ s
+        → F.pre one x o × ((r : Summed) (y : MutBor (List ℕ)) → F.post one x o r y → sum + r.sum < 2 ^ 64) }
+    ensures { Chain (F.post one) (word 4 a.old at) a.old (jump a.old at 4) a.new result.end result.sum }
+{
+    let count = ends::word32(a, at);
+    let mut end = ends::jump(a, at, ends::COUNT_SIZE);
+    let mut sum = 0;
+    for part in 0..count {
+        let passed = one(a, end);
+        sum += passed.sum;
+        end = passed.end;
+    }
+    Summed { sum, end }
 }
 
 // Sp reset is an instruction's last byte.
@@ -54,62 +74,16 @@ fn normalise_convention(a: &mut [u8], at: usize) -> usize
     end
 }
 
-// The list of instructions at `at`. A count of 32 bits times a rate of 32 bits fits 64 bits, whatever the bytes are.
-fn normalise_instructions(a: &mut [u8], at: usize, table: &[u32]) -> Summed
-    ensures { Normalised (counted instruction) (counted_bytes instruction_bytes) (total (in_table table.now)) a.old at result.end result.sum a.new }
-{
-    let mut left = ends::word32(a, at);
-    let mut o = ends::jump(a, at, ends::COUNT_SIZE);
-    let mut sum = 0;
-    while 0 < left {
-        let passed = normalise_instruction(a, o, table);
-        sum += passed.sum;
-        o = passed.end;
-        left -= 1;
-    }
-    Summed { sum, end: o }
-}
-
 // A block's vips are written as they were read, and the numbers before its lists too.
 fn normalise_block(a: &mut [u8], at: usize, table: &[u32]) -> Summed
     ensures { Normalised block block_bytes (block_in table.now) a.old at result.end result.sum a.new }
 {
     let list = ends::jump(a, at, ends::BLOCK_HEAD_SIZE);
-    let instructions = normalise_instructions(a, list, table);
+    let instructions = normalise_each(a, list, |a, at| normalise_instruction(a, at, table));
     let sum = instructions.sum;
     let next = ends::vips_end(a, instructions.end);
     let end = ends::vips_end(a, next);
     Summed { sum, end }
-}
-
-// The list of conventions at `at`.
-fn normalise_conventions(a: &mut [u8], at: usize) -> usize
-    ensures { Normalised (counted convention) (counted_bytes convention_bytes) nothing a.old at result 0 a.new }
-{
-    let mut left = ends::word32(a, at);
-    let mut o = ends::jump(a, at, ends::COUNT_SIZE);
-    while 0 < left {
-        o = normalise_convention(a, o);
-        left -= 1;
-    }
-    o
-}
-
-// The list of blocks at `at`.
-fn normalise_blocks(a: &mut [u8], at: usize, table: &[u32]) -> Summed
-    requires { Countable (counted block) (total (block_in table.now)) a.old at }
-    ensures { Normalised (counted block) (counted_bytes block_bytes) (total (block_in table.now)) a.old at result.end result.sum a.new }
-{
-    let mut left = ends::word32(a, at);
-    let mut o = ends::jump(a, at, ends::COUNT_SIZE);
-    let mut sum = 0;
-    while 0 < left {
-        let passed = normalise_block(a, o, table);
-        sum += passed.sum;
-        o = passed.end;
-        left -= 1;
-    }
-    Summed { sum, end: o }
 }
 
 // The routine at the start of `a`: answers its end, and what its instructions come to.
@@ -124,6 +98,13 @@ pub fn normalise_routine(a: &mut [u8], table: &[u32]) -> Summed
     a[PAD] = 0;
     let sub = normalise_convention(a, ends::CONVENTIONS_AT);
     let special = normalise_convention(a, sub);
-    let blocks = normalise_conventions(a, special);
-    normalise_blocks(a, blocks, table)
+    let conventions = normalise_each(
+        a,
+        special,
+        |a, at| Summed {
+            sum: 0,
+            end: normalise_convention(a, at),
+        },
+    );
+    normalise_each(a, conventions.end, |a, at| normalise_block(a, at, table))
 }

@@ -2,11 +2,13 @@
 -- Assumes nothing.
 use mathlib.Core.Path.{◌≡◌, refl, ap₂, ◌∙◌}
 use mathlib.Core.List.{List, [], ◌∷◌}
-use mathlib.Core.Bool.{Bool, true, false}
+use mathlib.Core.Bool.{Bool, true, false, ◌&&◌}
 use Prim.Native.Nat.{ℕ, ◌+◌, ◌*◌, ◌/◌, ◌%◌, ◌≤◌, ◌<◌}
 use native.Mathlib.Omega.{arith}
 use lib.Dec.{eqb, leb, leb→le}
-use lib.ListN.{length, get_or}
+use lib.ListN.{length, get_or, take, drop, length-take, length-drop}
+use lib.Seq.{ext_get_or, get_or-take, get_or-drop}
+use Rattle.std.specs.Cmp.Lexicographic.{pointwise}
 use borrow.Author.Tests.{eq-eqb, eqb-true}
 use Rattle.fields.specs.Lists.{choose, same}
 use Rattle.op.specs.Ops.{names}
@@ -61,3 +63,23 @@ in_six_at k j h l =
 pub in_six_many : length (in_six names) ≡ 294
 unfolding names in_six
 in_six_many = refl
+
+-- as long as the name, from its first byte on
+pub spelt_at : (k n : ℕ) (t : List ℕ) → t ≡ in_six names → k < 49 → n ≡ length (get_or names k []) → take n (drop (k * 6) t) ≡ get_or names k []
+spelt_at k n t w h e =
+    let l : n ≤ 6 = omega (arith, short k) in
+    rw w
+    (ext_get_or 0 _ _ (simp (length-take, length-drop, in_six_many) (omega (arith, e)))
+    (λ j m. let i : j < n = omega (arith, length-take n (drop (k * 6) (in_six names))) in rw (get_or-take, get_or-drop) (in_six_at k j h (omega arith))))
+
+-- the library's comparison is the same
+pub same-eq : (a b : List ℕ) → pointwise eqb a b ≡ same a b
+unfolding same choose
+same-eq [] [] = refl
+same-eq [] (y ∷ ys) = refl
+same-eq (x ∷ xs) [] = refl
+same-eq (x ∷ xs) (y ∷ ys) = go (eqb x y) (same-eq xs ys)
+  where
+    go : (t : Bool) → pointwise eqb xs ys ≡ same xs ys → (t && pointwise eqb xs ys) ≡ choose t (same xs ys) false
+    go true e = e
+    go false e = refl

@@ -2,7 +2,7 @@
 use Rattle.std.specs.Prelude.{ℕ, ◌+◌, ◌-◌, ◌<◌, ◌≤◌, ◌≡◌, List, [], ◌∷◌, ◌++◌, Bool, true, eqb, length, get_or, take, drop}
 use Rattle.fields.specs.Lists.{choose}
 use Rattle.op.specs.Ops.{names}
-use Rattle.op.specs.declared.Part.{Part}
+use Rattle.std.specs.declared.ops.Range.{Range}
 
 -- the list: those with names of 2 bytes, then those with names of 3, up to 6
 unfoldable pub by_length : List ℕ
@@ -76,10 +76,10 @@ pub record Exactly (f : ℕ → Bool) (ks : List ℕ) : Type 0 where
 abbrev pub has_length : ℕ → ℕ → Bool
 has_length n k = eqb (length (get_or names k [])) n
 
--- p is the part of the list for names of n bytes: it holds exactly the operations with names that long, each once, and no others
-pub record ForLength (n : ℕ) (p : Part) : Type 0 where
+-- p has the places for names of n bytes: there are exactly the operations with names that long, each once, and no others
+pub record ForLength (n : ℕ) (p : Range ℕ) : Type 0 where
   pub within : p.end ≤ 49
-  pub holds : Exactly (has_length n) (between p.first p.end)
+  pub holds : Exactly (has_length n) (between p.start p.end)
 
 -- the whole list holds the operations, each once, and nothing else
 abbrev pub Complete : Type 0

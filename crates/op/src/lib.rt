@@ -1,14 +1,16 @@
 // The names of the operations, and text.
 #![tactic(auto)]
 
-ghost use Rattle.std.specs.Prelude.{◌≡◌, List, [], ℕ, ◌<◌, ◌≤◌, ◌+◌, ◌*◌, ◌/◌, ◌%◌, ◌^◌, length, get_or, take, drop};
+ghost use Rattle.std.specs.Prelude.{◌≡◌, List, [], ℕ, ◌<◌, ◌≤◌, ◌+◌, ◌*◌, ◌/◌, ◌%◌, ◌^◌, length, get_or, take, drop, IfSome, MatchOption};
 ghost use Rattle.fields.specs.Bytes.{Bytes};
 ghost use Rattle.fields.specs.Lists.{same};
 ghost use Rattle.fields.specs.Parse.{le};
 ghost use Rattle.op.specs.Packed.{bits, Entry, Known};
 ghost use Rattle.op.specs.Ops.{names, counts, number};
 ghost use Rattle.op.specs.ByLength.{by_length, ForLength, in_six};
-ghost use Rattle.op.specs.Text.{lead, next_state, is_text};
+ghost use Rattle.op.specs.Text.{is_text};
+
+use std::ops::Range;
 
 // Six bytes for each name, with zeros after it.
 const NAMES: [u8; 294] = *b"mov\0\0\0movsx\0str\0\0\0ldd\0\0\0neg\0\0\0add\0\0\0sub\0\0\0\
@@ -114,57 +116,43 @@ fn listed_at(i: usize) -> usize
     BY_LENGTH[i] as usize
 }
 
-// A part of the list by length, from place `first` to before place `end`.
-#[derive(Clone, Copy)]
-struct Part {
-    first: usize,
-    end: usize,
-}
-
-// The part with the operations whose names have `n` bytes. No name has fewer than 2 or more than 6.
-fn with_length(n: usize) -> Part
+// The places in the list by length of the operations whose names have `n` bytes. No name has fewer than 2 or more than 6.
+fn with_length(n: usize) -> Range<usize>
     ensures { ForLength n result }
 {
     match n {
-        2 => Part { first: 0, end: 5 },
-        3 => Part { first: 5, end: 31 },
-        4 => Part { first: 31, end: 36 },
-        5 => Part { first: 36, end: 42 },
-        6 => Part { first: 42, end: 49 },
-        _ => Part { first: 0, end: 0 },
+        2 => 0..5,
+        3 => 5..31,
+        4 => 31..36,
+        5 => 36..42,
+        6 => 42..49,
+        _ => 0..0,
     }
 }
 
 // Whether `w` is the name of operation `k`, which is as long as `w`. `table` is `NAMES`, lent so that it is built once for all comparisons.
 fn name_is(w: &[u8], k: usize, table: &[u8]) -> bool
-    requires { (k < 49) × ((length w.now ≡ length (get_or names k [])) × (table.now ≡ in_six names)) }
+    requires listed { k < 49 }
+    requires as_long { length w.now ≡ length (get_or names k []) }
+    requires whole { table.now ≡ in_six names }
     ensures { result ≡ same w.now (get_or names k []) }
 {
-    let mut j = 0;
-    while j < w.len() {
-        if w[j] != table[k * 6 + j] {
-            return false;
-        }
-        j += 1;
-    }
-    true
+    w == fields::part_of(table, k * 6, w.len())
 }
 
-// The number of the operation with the name `w`, or 49. Only names as long as `w` are compared with it.
-pub fn number_of(w: &[u8]) -> usize
-    ensures { result ≡ number w.now }
+// The number of the operation with the name `w`. Only names as long as `w` are compared with it.
+pub fn number_of(w: &[u8]) -> Option<usize>
+    ensures { MatchOption result (number w.now ≡ 49) (λ k. (k < 49) × (number w.now ≡ k)) }
 {
-    let part = with_length(w.len());
     let table = NAMES;
-    let mut i = part.first;
-    while i < part.end {
+    let places = with_length(w.len());
+    for i in places.start..places.end {
         let k = listed_at(i);
         if name_is(w, k, &table) {
-            return k;
+            return Some(k);
         }
-        i += 1;
     }
-    49
+    None
 }
 
 // An entry of the table. Of an operation, the key is its name as one number, the bytes from the lowest up, and the code is its operand count and four times
@@ -319,131 +307,20 @@ fn bits_of(v: u64, n: usize) -> u64
     32 * (n as u64) + f * 55733 / 0x1_0000 % 32
 }
 
-// The code of the entry `found` where its key is the number `v`, else 256. Only an entry for names as long, of `n` bytes, may be asked.
-fn code_of(found: Slot, v: u64, n: usize) -> u64
-    requires { Entry n (bits n v) found }
-    ensures { result < 256 → (found.key ≡ v) × (found.code ≡ result) }
+// Of the operation whose name is the lowest `n` bytes of `word`: its operand count and four times its number, where the table tells. It is pub for the fast
+// ways over an instruction, which have loaded the word. It is given no slice, so that a call costs little.
+pub fn fast_lookup(word: u64, n: usize) -> Option<u64>
+    ensures { IfSome result (λ code. (s : List ℕ) (o : ℕ) → Bytes s → o + 8 ≤ length s → word ≡ le 8 s o → Known (take n (drop o s)) n code) }
 {
-    if found.key == v { found.code } else { 256 }
-}
-
-// Of the operation whose name is the lowest `n` bytes of `word`: its operand count and four times its number, found by a table, or 256 where the
-// table does not tell. It is pub for the fast ways over an instruction, which have loaded the word. It is given no slice, so that a call costs little.
-pub fn fast_lookup(word: u64, n: usize) -> u64
-    ensures { result < 256 → (s : List ℕ) (o : ℕ) → Bytes s → o + 8 ≤ length s → word ≡ le 8 s o → Known (take n (drop o s)) n result }
-{
-    if n < 2 {
-        return 256;
-    }
-    if 6 < n {
-        return 256;
+    if n < 2 || 6 < n {
+        return None;
     }
     let v = low(word, n);
-    code_of(slot_of(bits_of(v, n)), v, n)
-}
-
-// A place in a text: how many bytes the sequence begun there still has, and the range of the next. With 4 there is no such sequence.
-#[derive(Clone, Copy)]
-pub struct Utf8State {
-    pub more: u8,
-    pub low: u8,
-    pub high: u8,
-}
-
-// The state after the first byte of a sequence.
-fn lead_of(b: u8) -> Utf8State
-    ensures { result ≡ lead b }
-{
-    if b <= 0x7f {
-        Utf8State {
-            more: 0,
-            low: 0x80,
-            high: 0xbf,
-        }
-    } else if b < 0xc2 {
-        Utf8State {
-            more: 4,
-            low: 0x80,
-            high: 0xbf,
-        }
-    } else if b <= 0xdf {
-        Utf8State {
-            more: 1,
-            low: 0x80,
-            high: 0xbf,
-        }
-    } else if b == 0xe0 {
-        Utf8State {
-            more: 2,
-            low: 0xa0,
-            high: 0xbf,
-        }
-    } else if b == 0xed {
-        Utf8State {
-            more: 2,
-            low: 0x80,
-            high: 0x9f,
-        }
-    } else if b <= 0xef {
-        Utf8State {
-            more: 2,
-            low: 0x80,
-            high: 0xbf,
-        }
-    } else if b == 0xf0 {
-        Utf8State {
-            more: 3,
-            low: 0x90,
-            high: 0xbf,
-        }
-    } else if b <= 0xf3 {
-        Utf8State {
-            more: 3,
-            low: 0x80,
-            high: 0xbf,
-        }
-    } else if b == 0xf4 {
-        Utf8State {
-            more: 3,
-            low: 0x80,
-            high: 0x8f,
-        }
+    let found = slot_of(bits_of(v, n));
+    if found.key == v {
+        Some(found.code)
     } else {
-        Utf8State {
-            more: 4,
-            low: 0x80,
-            high: 0xbf,
-        }
-    }
-}
-
-// The state after one byte more.
-fn next_state(d: Utf8State, b: u8) -> Utf8State
-    ensures { result ≡ next_state d b }
-{
-    if d.more == 0 {
-        return lead_of(b);
-    }
-    if d.low <= b {
-        if b <= d.high {
-            Utf8State {
-                more: d.more - 1,
-                low: 0x80,
-                high: 0xbf,
-            }
-        } else {
-            Utf8State {
-                more: 4,
-                low: 0x80,
-                high: 0xbf,
-            }
-        }
-    } else {
-        Utf8State {
-            more: 4,
-            low: 0x80,
-            high: 0xbf,
-        }
+        None
     }
 }
 
@@ -451,18 +328,5 @@ fn next_state(d: Utf8State, b: u8) -> Utf8State
 pub fn is_text(s: &[u8]) -> bool
     ensures { result ≡ is_text s.now }
 {
-    let mut d = Utf8State {
-        more: 0,
-        low: 0x80,
-        high: 0xbf,
-    };
-    let mut i = 0;
-    while i < s.len() {
-        d = next_state(d, s[i]);
-        if 3 < d.more {
-            return false;
-        }
-        i += 1;
-    }
-    d.more == 0
+    std::str::from_utf8(s).is_ok()
 }

@@ -17,7 +17,7 @@ use Rattle.fields.specs.Lists.{choose}
 use Rattle.pod.specs.Values.{Routine}
 use Rattle.pod.specs.Layout.{routine, read_file}
 use Rattle.pod.specs.Sound.{routine_sound}
-use Rattle.fields.specs.Sight.{Sight}
+use Rattle.fields.specs.declared.Sight.{Sight}
 use Rattle.pod.specs.Written.{routine_bytes, walked}
 use Rattle.laws.proofs.Layouts.{routine_layout, read-to, read-within, read-holds}
 use Rattle.laws.proofs.Every.{a-routine}

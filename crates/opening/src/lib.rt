@@ -11,11 +11,11 @@ ghost use Rattle.pod.specs.Layout.{read_file};
 ghost use Rattle.pod.specs.Written.{routine_bytes};
 ghost use Rattle.machine.specs.Charge.{sum};
 ghost use Rattle.machine.specs.Book.{unopened, opened, open_book};
-ghost use Rattle.book.specs.Says.{outcome};
+ghost use Rattle.book.specs.Says.{opens};
 ghost use Rattle.opening.specs.Said.{Said};
 
-use book::{Answer, Rates};
-use fields::Walked;
+use book::{Answered, Book, Rates};
+use fields::Refusal;
 
 // The written form of the routine that the file's first `n` bytes say, over the first `n` of the image. Answers what the routine comes to: the walk that
 // brings the copy to written form adds it up.
@@ -32,36 +32,38 @@ fn put_written(file: &[u8], image: &mut [u8], n: usize, rates: Rates) -> u64
 
 // The routine that the file's first `n` bytes say goes into the image where there is room for it. A written form is as long as what it was read
 // from, so its size is `n`, whatever the file has after it.
-fn fill(file: &[u8], image: &mut [u8], journal: &mut [u8], n: usize, rates: Rates) -> Answer
+fn fill(file: &[u8], image: &mut [u8], journal: &mut [u8], n: usize, rates: Rates) -> Answered
     requires { (n ≤ length file.now) × Said file.now image.old n }
     ensures { (x : Routine) → read_file file.now ≡ ok x n
-        → outcome result image.new journal.new ≡ attempt (unopened image.old journal.old) (opened image.old journal.old rates.rate x) }
+        → opens result image.new journal.new ≡ attempt (unopened image.old journal.old) (opened image.old journal.old rates.rate x) }
 {
     let room = image.len();
     if room < n {
-        return book::refuse_opening(book::IMAGE_FULL);
+        return Err(Refusal::ImageFull);
     }
     let sum = put_written(file, image, n, rates);
     buffer::clear(image, n, room);
     let all = journal.len();
     buffer::clear(journal, 0, all);
-    book::accept(n, 0, rates, sum, 0)
+    Ok(Book {
+        written: n as u64,
+        used: 0,
+        rates,
+        sum,
+        walk: 0,
+    })
 }
 
 // Document 01's opening, at rates.
-pub fn open(file: &[u8], image: &mut [u8], journal: &mut [u8], rates: Rates) -> Answer
-    ensures { outcome result image.new journal.new ≡ open_book file.now image.old journal.old rates.rate }
+pub fn open(file: &[u8], image: &mut [u8], journal: &mut [u8], rates: Rates) -> Answered
+    ensures { opens result image.new journal.new ≡ open_book file.now image.old journal.old rates.rate }
 {
     if !fields::is_lent(image.len()) {
-        return book::refuse_opening(book::LENDING_TOO_LARGE);
+        return Err(Refusal::LendingTooLarge);
     }
     if !fields::is_lent(journal.len()) {
-        return book::refuse_opening(book::LENDING_TOO_LARGE);
+        return Err(Refusal::LendingTooLarge);
     }
-    let far = reader::pass_file(file);
-    if let Walked::Past(n, _, _) = far {
-        fill(file, image, journal, n, rates)
-    } else {
-        book::refuse_opening(fields::walked_refusal(far) as u64)
-    }
+    let (_, n) = reader::pass_file(file)?;
+    fill(file, image, journal, n, rates)
 }

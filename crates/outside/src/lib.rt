@@ -4,19 +4,22 @@
 // The walk knows that a written form stands where it goes, so it tests no length on its way.
 #![tactic(auto)]
 
-ghost use Rattle.std.specs.Prelude.{◌≡◌, ◌≤◌, map, length};
-ghost use Rattle.fields.specs.Outcome.{refused};
+ghost use Rattle.std.specs.Prelude.{◌≡◌, ℕ, List, ◌≤◌, ◌<◌, length};
+ghost use Rattle.fields.specs.Outcome.{of_result};
 ghost use Rattle.pod.specs.Values.{Routine};
-ghost use Rattle.pod.specs.Written.{many_bytes, operand_bytes, instruction_bytes, block_bytes};
+ghost use Rattle.pod.specs.Written.{operand_bytes, instruction_bytes, block_bytes};
 ghost use Rattle.laws.specs.Holds.{OperandHolds, InstructionHolds, BlockHolds};
 ghost use Rattle.machine.specs.Book.{in_image};
 ghost use Rattle.machine.specs.Outside.{mask_operand, mask_instruction, mask_block, masked, outside_copy};
 ghost use Rattle.book.specs.Says.{state};
 ghost use Rattle.image.specs.Filled.{IsFilled, Filled};
 ghost use Rattle.writer.specs.Answers.{write_answer};
-ghost use Rattle.outside.specs.Masks.{Stands, Masks, SoMany};
+ghost use Rattle.outside.specs.Masks.{Stands, Masks};
+ghost use Rattle.outside.specs.Chains.{Chain};
+ghost use denote.Ref.{MutBor};
 
 use book::Book;
+use fields::Refusal;
 use writer::Written;
 
 // In an operand, its kind stands before the immediate or the register. An immediate begins with its value.
@@ -26,6 +29,18 @@ const IMMEDIATE_OPERAND: usize = VALUE_AT + ends::IMMEDIATE_SIZE;
 
 // How much longer a register is.
 const REGISTER_MORE: usize = ends::REGISTER_SIZE - ends::IMMEDIATE_SIZE;
+
+// `count` parts from `at` on, each masked by `one`, which answers its end. Answers the end of the last.
+fn mask_each<F: Fn(&mut [u8], usize) -> usize>(a: &mut [u8], at: usize, count: u64, one: F) -> usize
+    requires { (n : ℕ) (s : List ℕ) (o : ℕ) → n < count → Chain (F.post one) n a.old at s o → (x : MutBor (List ℕ)) → x.now ≡ s → F.pre one x o }
+    ensures { Chain (F.post one) count a.old at a.new result }
+{
+    let mut end = at;
+    for part in 0..count {
+        end = one(a, end);
+    }
+    end
+}
 
 // The operand at `at`: of an immediate the value becomes 0, and its width stays. Answers its end, as all of these do. The kind is 0 of an immediate and 1 of
 // a register, so it is a factor and no branch: a file's operands follow no pattern that a processor foresees.
@@ -40,20 +55,6 @@ fn mask_operand(a: &mut [u8], at: usize) -> usize
     at + IMMEDIATE_OPERAND + more
 }
 
-// `count` operands from `at` on.
-fn mask_operands(a: &mut [u8], at: usize, count: u64) -> usize
-    requires { Stands (SoMany OperandHolds count) (many_bytes operand_bytes) a.old at }
-    ensures { Masks (SoMany OperandHolds count) (many_bytes operand_bytes) (map mask_operand) a.old at result a.new }
-{
-    let mut operands = count;
-    let mut o = at;
-    while 0 < operands {
-        o = mask_operand(a, o);
-        operands -= 1;
-    }
-    o
-}
-
 // The instruction at `at`: its operands stand after its name, which follows the name's size, and after their count.
 fn mask_instruction(a: &mut [u8], at: usize) -> usize
     requires { Stands InstructionHolds instruction_bytes a.old at }
@@ -63,22 +64,8 @@ fn mask_instruction(a: &mut [u8], at: usize) -> usize
     let counted = name + fields::four(a, at) as usize;
     let count = fields::four(a, counted);
     let operands = counted + ends::COUNT_SIZE;
-    let tail = mask_operands(a, operands, count);
+    let tail = mask_each(a, operands, count, mask_operand);
     tail + ends::INSTRUCTION_TAIL
-}
-
-// `count` instructions from `at` on.
-fn mask_instructions(a: &mut [u8], at: usize, count: u64) -> usize
-    requires { Stands (SoMany InstructionHolds count) (many_bytes instruction_bytes) a.old at }
-    ensures { Masks (SoMany InstructionHolds count) (many_bytes instruction_bytes) (map mask_instruction) a.old at result a.new }
-{
-    let mut instructions = count;
-    let mut o = at;
-    while 0 < instructions {
-        o = mask_instruction(a, o);
-        instructions -= 1;
-    }
-    o
 }
 
 // The block at `at`: the numbers before its lists and its vips stay.
@@ -89,23 +76,9 @@ fn mask_block(a: &mut [u8], at: usize) -> usize
     let counted = at + ends::BLOCK_HEAD_SIZE;
     let count = fields::four(a, counted);
     let first = counted + ends::COUNT_SIZE;
-    let prev = mask_instructions(a, first, count);
+    let prev = mask_each(a, first, count, mask_instruction);
     let next = ends::vips_end(a, prev);
     ends::vips_end(a, next)
-}
-
-// `count` blocks from `at` on.
-fn mask_blocks(a: &mut [u8], at: usize, count: u64) -> usize
-    requires { Stands (SoMany BlockHolds count) (many_bytes block_bytes) a.old at }
-    ensures { Masks (SoMany BlockHolds count) (many_bytes block_bytes) (map mask_block) a.old at result a.new }
-{
-    let mut blocks = count;
-    let mut o = at;
-    while 0 < blocks {
-        o = mask_block(a, o);
-        blocks -= 1;
-    }
-    o
 }
 
 // The routine whose written form is the image's first `n` bytes, masked, at the start of a second image that has room for it; then zeros.
@@ -117,35 +90,29 @@ fn put_masked(image: &[u8], copy: &mut [u8], n: usize)
     buffer::copy_at(copy, 0, &image[..n]);
     buffer::clear(copy, n, all);
     let blocks = image::blocks_of(copy);
-    mask_blocks(copy, blocks.start, blocks.count as u64);
+    mask_each(copy, blocks.start, blocks.count as u64, mask_block);
 }
 
-// A refused call answers its number, and no size.
-fn refuse(refusal: u64) -> Written
-    ensures { result ≡ write_answer (refused refusal) }
+// How many bytes were copied: 10 for any of the three lendings, 13, then 11. A masked routine is as long as it was, so its size is the book's.
+fn masked_copy(book: Book, image: &[u8], journal: &[u8], copy: &mut [u8]) -> Result<u64, Refusal>
+    ensures { (of_result result, copy.new) ≡ outside_copy (state image.now journal.now book) copy.old }
 {
-    Written { refusal, size: 0 }
+    if !fields::is_lent(copy.len()) {
+        return Err(Refusal::LendingTooLarge);
+    }
+    image::inspect(book, image, journal)?;
+    let written = book.written;
+    if (copy.len() as u64) < written {
+        return Err(Refusal::ImageFull);
+    }
+    put_masked(image, copy, written as usize);
+    Ok(written)
 }
 
-// The call: 10 for any of the three lendings, 13, then 11. A masked routine is as long as it was, so its size is the book's.
+// The call, as C sees it.
 pub fn outside_copy(book: Book, image: &[u8], journal: &[u8], copy: &mut [u8]) -> Written
     ensures { (result ≡ write_answer (outside_copy (state image.now journal.now book) copy.old).0)
         × (copy.new ≡ (outside_copy (state image.now journal.now book) copy.old).1) }
 {
-    if !fields::is_lent(copy.len()) {
-        return refuse(book::LENDING_TOO_LARGE);
-    }
-    let refusal = image::inspect(book, image, journal);
-    if refusal != 0 {
-        return refuse(refusal);
-    }
-    let written = book.written;
-    if (copy.len() as u64) < written {
-        return refuse(book::IMAGE_FULL);
-    }
-    put_masked(image, copy, written as usize);
-    Written {
-        refusal: 0,
-        size: written,
-    }
+    masked_copy(book, image, journal, copy).into()
 }

@@ -4,5 +4,4 @@ pub mod Layout
 pub mod Sound
 pub mod Told
 pub mod Written
-pub mod Answers
 pub mod Descs

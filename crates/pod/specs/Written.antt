@@ -3,7 +3,8 @@ use Rattle.std.specs.Prelude.{ℕ, zero, suc, ◌-◌, ◌/◌, ◌%◌, List, [
 use Rattle.std.specs.Int.{w32, w64}
 use Rattle.std.proofs.Common.{of_z}
 use Rattle.fields.specs.Parse.{Res, ok, Reader, bind}
-use Rattle.fields.specs.Sight.{Sight, sight, of_both}
+use Rattle.fields.specs.declared.Sight.{Sight}
+use Rattle.fields.specs.Sight.{sight, of_both}
 use Rattle.fields.specs.Lists.{same}
 use Rattle.op.specs.Ops.{names}
 use Rattle.pod.specs.Values.{Instruction, RoutineConvention, BasicBlock, Routine}

@@ -42,11 +42,6 @@ block_list o r = o + length (routine_head_bytes r)
 abbrev pub first : ℕ → ℕ
 first o = o + 4
 
--- the offset past a part, and 0 where it is refused
-abbrev pub end_of : {A : Type 0} → Res A → ℕ
-end_of (ok a n) = n
-end_of (no e) = 0
-
 -- a refusal, and zeros
 abbrev pub no_routine : ℕ → RoutineRead
 no_routine e =

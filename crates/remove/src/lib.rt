@@ -11,11 +11,13 @@ ghost use Rattle.machine.specs.Trailer.{trailer_with, trailer_bytes};
 ghost use Rattle.machine.specs.Edits.{remove, remove_at, with_blocks};
 ghost use Rattle.machine.specs.Machine.{edit};
 ghost use Rattle.machine.specs.Book.{in_image, step};
-ghost use Rattle.book.specs.Says.{state, outcome};
+ghost use Rattle.book.specs.Says.{state, leaves};
 ghost use Rattle.book.specs.Holding.{IsUnwalked};
 ghost use Rattle.remove.specs.Removable.{Removable, HasRemovable};
 
-use book::{Answer, Book};
+use book::{Answered, Book};
+use fields::Refusal;
+use journal::{Edit, Trailer};
 use pod::Vip;
 
 // The block from `at` to `end` leaves the routine that ends at `written`, and the last block takes its place: no other block moves further than by
@@ -50,13 +52,19 @@ fn put_entry(journal: &mut [u8], used: usize, block: &[u8], vip: Vip, place: u32
     let size = block.len();
     let end = used + size;
     buffer::copy_at(journal, used, block);
-    journal::put_trailer(journal, end, vip, place, size as u32, journal::REMOVE);
+    let trailer = Trailer {
+        vip,
+        place,
+        len: size as u32,
+        kind: Edit::Remove,
+    };
+    journal::put_trailer(journal, end, trailer);
 }
 
 // The block with the vip goes, into the journal: 15, then 12, and 13 where the sum is smaller than what the block comes to.
-pub fn remove_block(book: Book, image: &mut [u8], journal: &mut [u8], vip: Vip) -> Answer
+pub fn remove_block(book: Book, image: &mut [u8], journal: &mut [u8], vip: Vip) -> Answered
     requires { IsUnwalked (state image.old journal.old book) }
-    ensures { outcome result image.new journal.new ≡ step (edit (remove vip.0)) (state image.old journal.old book) }
+    ensures { leaves book result image.new journal.new ≡ step (edit (remove vip.0)) (state image.old journal.old book) }
 {
     let written = book.written as usize;
     let used = book.used as usize;
@@ -64,22 +72,24 @@ pub fn remove_block(book: Book, image: &mut [u8], journal: &mut [u8], vip: Vip) 
     let place = found.place;
     let at = found.at;
     if found.count as usize <= place {
-        return book::refuse(book, book::NO_SUCH_BLOCK);
+        return Err(Refusal::NoSuchBlock);
     }
     let end = ends::block_end(image, at);
     let size = end - at;
     let left = written - size;
     let spent = used + size + journal::TRAILER_SIZE;
-    let refusal = book::admit(image.len(), journal.len(), left, spent);
-    if refusal != 0 {
-        return book::refuse(book, refusal);
-    }
+    book::admit(image.len(), journal.len(), left, spent)?;
     let sum = book.sum;
     let less = charge::sum_of_block(image, at, book.rates);
     if sum < less {
-        return book::refuse(book, book::SPOILED_BOOK);
+        return Err(Refusal::SpoiledBook);
     }
     put_entry(journal, used, &image[at..end], vip, place as u32);
     swap_remove(image, at, end, written);
-    book::accept(left, spent, book.rates, sum - less, book.walk)
+    Ok(Book {
+        written: left as u64,
+        used: spent as u64,
+        sum: sum - less,
+        ..book
+    })
 }

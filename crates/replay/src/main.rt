@@ -14,57 +14,22 @@ const RECORDS: usize = 10;
 
 const DIFFERENCES: usize = 11;
 
-fn wide(x: u8) -> u64 {
-    x as u64
-}
-
-fn number(b: &[u8; 8]) -> u64 {
-    wide(b[0])
-        | (wide(b[1]) << 8)
-        | (wide(b[2]) << 16)
-        | (wide(b[3]) << 24)
-        | (wide(b[4]) << 32)
-        | (wide(b[5]) << 40)
-        | (wide(b[6]) << 48)
-        | (wide(b[7]) << 56)
-}
-
-fn size_of(b: &[u8; 4]) -> usize {
-    number(&[b[0], b[1], b[2], b[3], 0, 0, 0, 0]) as usize
-}
-
 // The refusal that a record's answer stands for, or 0 where that is a length.
-fn refusal_of(answer: u64) -> u64
+fn refusal_of(answer: i64) -> usize
     ensures { result ≤ 9 }
 {
-    let minus = 0u64.wrapping_sub(answer);
-    if minus > 9 {
-        return 0;
+    match answer {
+        -1 => 1,
+        -2 => 2,
+        -3 => 3,
+        -4 => 4,
+        -5 => 5,
+        -6 => 6,
+        -7 => 7,
+        -8 => 8,
+        -9 => 9,
+        _ => 0,
     }
-    minus
-}
-
-// A record's answer as the library gives it. No file is as long as 2^63 bytes, and none consumes 0.
-fn due(answer: u64) -> i64 {
-    match refusal_of(answer) {
-        0 => length_of(answer),
-        1 => -1,
-        2 => -2,
-        3 => -3,
-        4 => -4,
-        5 => -5,
-        6 => -6,
-        7 => -7,
-        8 => -8,
-        _ => -9,
-    }
-}
-
-fn length_of(answer: u64) -> i64 {
-    if answer < 0x8000_0000_0000_0000 {
-        return answer as i64;
-    }
-    0
 }
 
 fn count(counts: &mut [u64; 12], i: usize)
@@ -73,15 +38,15 @@ fn count(counts: &mut [u64; 12], i: usize)
     counts[i] = counts[i].wrapping_add(1);
 }
 
-fn compare(counts: &mut [u64; 12], got: i64, answer: u64) {
+fn compare(counts: &mut [u64; 12], got: i64, answer: i64) {
     count(counts, RECORDS);
-    count(counts, refusal_of(answer) as usize);
-    if got != due(answer) {
+    count(counts, refusal_of(answer));
+    if got != answer {
         count(counts, DIFFERENCES);
     }
 }
 
-// Reads until `buf` is full or the file ends, and answers how many bytes that were.
+// Reads until `buf` is full or the file ends, and answers how many bytes that were. A loop by hand: std's `read_exact` does not say how many came.
 fn read_full(answers: &mut File, buf: &mut [u8]) -> io::Result<usize>
     ensures { IfOk result (λ n. n ≤ length buf.new) }
 {
@@ -104,7 +69,7 @@ fn replay_file(answers: &mut File, file: &mut [u8], counts: &mut [u64; 12]) -> i
     if got < file.len() || ended < 8 {
         return Ok(false);
     }
-    compare(counts, vtil::vtil_check(file), number(&tail));
+    compare(counts, vtil::vtil_check(file), i64::from_le_bytes(tail));
     Ok(true)
 }
 
@@ -117,7 +82,7 @@ fn replay_one(answers: &mut File, counts: &mut [u64; 12]) -> io::Result<bool> {
         return Ok(false);
     }
     let mut room = [0u8; 4096];
-    let size = size_of(&head);
+    let size = u32::from_le_bytes(head) as usize;
     if size <= 4096 {
         if replay_file(answers, &mut room[..size], counts)? {
             return Ok(true);
@@ -127,12 +92,12 @@ fn replay_one(answers: &mut File, counts: &mut [u64; 12]) -> io::Result<bool> {
     Ok(false)
 }
 
-// A proved loop has to end, and nothing says that a file does: the turns are counted down, from a number that no run
-// uses up.
+// A proved loop has to end, and nothing says that a file does: so it goes over more turns than any run uses up.
 fn replay_all(answers: &mut File, counts: &mut [u64; 12]) -> io::Result<()> {
-    let mut turns = u64::MAX;
-    while turns > 0 && replay_one(answers, counts)? {
-        turns -= 1;
+    for _ in 0..u64::MAX {
+        if !replay_one(answers, counts)? {
+            break;
+        }
     }
     Ok(())
 }
@@ -141,7 +106,7 @@ fn print_line(rt: &impl Print, text: &str, n: u64) -> io::Result<()> {
     println!(rt; "{text}{n}")
 }
 
-fn print_refused(rt: &impl Print, refusal: u64, n: u64) -> io::Result<()> {
+fn print_refused(rt: &impl Print, refusal: usize, n: u64) -> io::Result<()> {
     print!(rt; "refused {refusal}")?;
     print_line(rt, ": ", n)
 }
@@ -150,15 +115,10 @@ fn print_counts(rt: &impl Print, counts: &[u64; 12]) -> io::Result<()> {
     print_line(rt, "records ", counts[RECORDS])?;
     print_line(rt, "differences ", counts[DIFFERENCES])?;
     print_line(rt, "accepted ", counts[0])?;
-    print_refused(rt, 1, counts[1])?;
-    print_refused(rt, 2, counts[2])?;
-    print_refused(rt, 3, counts[3])?;
-    print_refused(rt, 4, counts[4])?;
-    print_refused(rt, 5, counts[5])?;
-    print_refused(rt, 6, counts[6])?;
-    print_refused(rt, 7, counts[7])?;
-    print_refused(rt, 8, counts[8])?;
-    print_refused(rt, 9, counts[9])
+    for refusal in 1..RECORDS {
+        print_refused(rt, refusal, counts[refusal])?;
+    }
+    Ok(())
 }
 
 fn main(rt: HostRuntime) -> io::Result<()> {

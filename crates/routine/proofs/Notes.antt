@@ -1,92 +1,57 @@
--- What a walk notes of the block at a place. A run counts the blocks that are left: as long as these are more than the block's turn it has noted nothing, at its
--- turn it notes where it stands and where the block ended, and then it keeps that. And a routine's blocks stand where its head ends, after their count.
+-- What a walk notes of the block at a place. A run counts the blocks that it has passed: as long as these are no more than the place it has noted nothing, at
+-- the block there it notes where it stands and where the block ended, and then it keeps that. And a routine's blocks stand where its head ends, after their
+-- count.
 -- Assumes nothing.
 use mathlib.Core.Path.{◌≡◌, refl, sym, ap, ◌∙◌}
-use mathlib.Core.Bool.{Bool, true, false}
+use Rattle.std.proofs.Common.{Ok}
 use mathlib.Core.List.{List}
-use Prim.Native.Nat.{ℕ, suc, ◌+◌, ◌-◌, ◌≤◌, ◌<◌}
+use Prim.Native.Nat.{ℕ, suc, ◌+◌, ◌≤◌, ◌<◌}
 use native.Mathlib.Omega.{arith}
-use lib.Dec.{eqb}
 use lib.ListN.{length}
-use borrow.Author.Tests.{eqb-true, eqb-false}
-use Rattle.fields.specs.Parse.{Res, ok, no, bind, span, uint, counted, u32}
-use Rattle.fields.specs.Lists.{choose, every}
-use Rattle.fields.specs.Sight.{sight}
+use Rattle.fields.specs.Parse.{Res, ok, bind, span, uint, counted, u32}
+use Rattle.fields.specs.declared.Sight.{Sight}
 use Rattle.fields.specs.Bytes.{Bytes}
 use Rattle.fields.proofs.Invert.{inv_ok, inv_span}
 use Rattle.fields.proofs.Le.{uint-is}
 use Rattle.pod.specs.Values.{RoutineConvention, BasicBlock, Routine}
 use Rattle.pod.specs.Layout.{header, convention, block, blocks, routine}
-use Rattle.pod.specs.Sound.{block_sound, routine_sound}
-use Rattle.pod.specs.Written.{counted_bytes, convention_bytes, block_bytes, routine_head_bytes, routine_bytes, walked, both, passing}
+use Rattle.pod.specs.Written.{convention_bytes, routine_head_bytes, walked}
 use Rattle.laws.specs.Normal.{convention_roles}
 use Rattle.laws.proofs.Post.{Post, give, step, test}
 use Rattle.laws.proofs.Took.{kept, ◌also◌, took-to, uint-took, counted-took}
 use Rattle.laws.proofs.Consumed.{header-took, convention_took}
 use Rattle.laws.proofs.Place.{counted_is}
 use Rattle.ends.specs.Ends.{times, block_end}
-use Rattle.ends.proofs.Steps.{times-last}
+use Rattle.ends.proofs.Steps.{times_more}
 use Rattle.ends.proofs.Same.{block_ends}
 use Rattle.routine.specs.Head.{head_walked}
-use Rattle.routine.specs.Noted.{Note, of_noted, seen_before, RunNotes, BlocksNote, RoutineNotes}
-use Rattle.routine.specs.declared.BlocksSkip.{BlocksSkip}
-use Rattle.routine.specs.declared.BlocksSkip.TheVariants as run_is
-use Rattle.routine.specs.declared.Noted.{Noted}
-use Rattle.routine.specs.declared.Noted.TheVariants.{Past, Refused}
-use Rattle.routine.proofs.Walk.{routine-walked}
+use Rattle.routine.specs.Noted.{Note, BlocksNote}
 
-module _ (s : List ℕ) (at count turn : ℕ) where
-  -- what is noted where `left` blocks are left
-  pub record Noting (left o from to : ℕ) : Type 0 where
-    pub some : left ≤ count
-    pub here : o ≡ times (block_end s) (count - left) at
-    pub before : turn ≤ left → (from ≡ 0) × (to ≡ 0)
-    pub after : left < turn → (from ≡ times (block_end s) (count - turn) at) × (to ≡ times (block_end s) (suc (count - turn)) at)
+module _ (s : List ℕ) (at place : ℕ) where
+  -- what is noted where `passed` blocks are passed, up to o
+  pub record Noting (passed o from to : ℕ) : Type 0 where
+    pub here : o ≡ times (block_end s) passed at
+    pub before : passed ≤ place → (from ≡ 0) × (to ≡ 0)
+    pub after : place < passed → (from ≡ times (block_end s) place at) × (to ≡ times (block_end s) (suc place) at)
 
-  -- all are left
-  pub noting_start : turn ≤ count → Noting count at 0 0
+  pub noting_start : Noting 0 at 0 0
   unfolding times
-  noting_start h =
-      let z : count - count ≡ 0 = omega arith in
-      record { some = omega arith; here = rw z; before = λ l. (refl, refl); after = λ l. absurd (omega arith) }
+  noting_start = record { here = refl; before = λ l. (refl, refl); after = λ l. absurd (omega arith) }
 
-  module _ {left o from to : ℕ} (h : Noting left o from to) where
+  module _ {passed o from to n : ℕ} (h : Noting passed o from to) (e : ok tt n ≡ span (block s o)) where
     -- one more was walked over
-    pub noting_more : 0 < left → {n f t : ℕ} → ok tt n ≡ span (block s o) → f ≡ choose (eqb left turn) o from → t ≡ choose (eqb left turn) n to → Noting (left - 1) n f t
-    unfolding choose
-    noting_more l {n} {f} {t} e p q = go (eqb left turn) refl p q
-      where
-        some : left ≤ count
-        some = h.some
+    past : n ≡ times (block_end s) (passed + 1) at
+    past = times_more (block_end s) passed at h.here (sym (block_ends s o (inv_span (block s o) e).1))
 
-        past : n ≡ times (block_end s) (suc (count - left)) at
-        past = sym (block_ends s o (inv_span (block s o) e).1) ∙ ap (block_end s) h.here ∙ sym (times-last (block_end s) (count - left) at)
+    -- the one at the place
+    pub noting_there : passed ≡ place → Noting (passed + 1) n o n
+    noting_there now =
+        let one : passed + 1 ≡ suc place = omega arith in
+        record { here = past; before = λ g. absurd (omega arith); after = λ g. (rw (← now) h.here, rw (← one) past) }
 
-        next : n ≡ times (block_end s) (count - (left - 1)) at
-        next = let z : suc (count - left) ≡ count - (left - 1) = omega arith in rw z at past
-
-        go : (b : Bool) → eqb left turn ≡ b → f ≡ choose b o from → t ≡ choose b n to → Noting (left - 1) n f t
-        go true z p q =
-            let now : left ≡ turn = eqb-true left turn z in
-            record { some = omega arith; here = next; before = λ g. absurd (omega arith); after = λ g. rw (← now) (p ∙ h.here, q ∙ past) }
-        go false z p q =
-            let other : left ≡ turn → ⊥ = eqb-false left turn z in
-            record { some = omega arith; here = next; before = λ g. rw (p, q) (h.before (omega arith)); after = λ g. rw (p, q) (h.after (omega arith)) }
-
-    -- none is left
-    pub noting_end : {place : ℕ} → turn ≡ count - place → left ≤ 0 → Note s at count place from to
-    noting_end {place} e l =
-        record {
-          there = λ g. let z : count - turn ≡ place = omega arith in rw z at (h.after (omega arith));
-          none = λ g. h.before (omega arith);
-        }
-
--- of the blocks whose count was read: it is read once
-pub blocks_noted : (s : List ℕ) (o place : ℕ) {c a : ℕ} → u32 s o ≡ ok c a → {n start end : ℕ} {x y z : Bool} {r : BlocksSkip} → r ≡ run_is.Past n x y z start end
-    → RunNotes s a c place r → (count b : ℕ) → u32 s o ≡ ok count b → Note s b count place start end
-blocks_noted s o place u e h count b v =
-    let i = inv_ok (sym u ∙ v) in
-    rw (e, i.0, i.1) at h
+    -- another
+    pub noting_other : (passed ≡ place → ⊥) → Noting (passed + 1) n from to
+    noting_other other = record { here = past; before = λ g. h.before (omega arith); after = λ g. h.after (omega arith) }
 
 -- of a routine that was read
 module _ (s : List ℕ) (b : Bytes s) where
@@ -103,7 +68,7 @@ module _ (s : List ℕ) (b : Bytes s) where
       → header s o ≡ ok m n₁ → uint 8 s n₁ ≡ ok v n₂ → convention s n₂ ≡ ok c₁ n₃ → convention s n₃ ≡ ok c₂ n₄
       → counted convention s n₄ ≡ ok cs n₅ → counted block s n₅ ≡ ok bs n₆
       → HeadAt o (record { arch_id = m; vip = v; routine_convention = c₁; subroutine_convention = c₂; spec_subroutine_conventions = cs; explored_blocks = bs })
-  unfolding head_walked both passing walked bind span routine_head_bytes
+  unfolding head_walked walked bind span routine_head_bytes
   head_made o {n₁ = n₁} {n₂ = n₂} {n₃ = n₃} {n₄ = n₄} {n₅ = n₅} e₁ e₂ e₃ e₄ e₅ e₆ =
       let u₁ = ((header-took b o).when _ _ e₁).1 in
       let u₂ = ((uint-took b n₁ 8).when _ _ e₂).1 in
@@ -134,26 +99,10 @@ module _ (s : List ℕ) (b : Bytes s) where
       give (head_made o e₁ e₂ e₃ e₄ e₅ e₆)
 
   -- its head was walked over, and then its blocks
-  module _ (o : ℕ) {n : ℕ} {w t : Bool} (h : ok (sight w t) n ≡ head_walked s o) where
-    pub routine_noted : (place : ℕ) (next : Noted) → BlocksNote s n place next → RoutineNotes s o place (seen_before w t next)
-    unfolding span
-    routine_noted place (Past m x y start end) k = λ r l e.
-        let a = (head_at o).when r l e in
-        let z : n ≡ ends o r = (inv_ok (ap span h ∙ a.walks)).1 in
-        k _ _ (rw z a.count)
-    routine_noted place (Refused e) k = tt
-
-    pub routine_seen : (next : Noted) → of_noted next ≡ walked blocks (counted_bytes block_bytes) (every block_sound) s n
-        → of_noted (seen_before w t next) ≡ walked routine routine_bytes routine_sound s o
-    unfolding both bind head_walked
-    routine_seen next e = go next e ∙ ap (λ q. both q (walked blocks (counted_bytes block_bytes) (every block_sound) s)) h ∙ routine-walked s b o
-      where
-        go : (next : Noted) → of_noted next ≡ walked blocks (counted_bytes block_bytes) (every block_sound) s n
-            → of_noted (seen_before w t next) ≡ both (ok (sight w t) n) (walked blocks (counted_bytes block_bytes) (every block_sound) s)
-        go (Past m x y start end) e = rw (← e)
-        go (Refused k) e = rw (← e)
-
-  -- its head was refused
-  pub routine_refused : (o : ℕ) {e : ℕ} → no e ≡ head_walked s o → no e ≡ walked routine routine_bytes routine_sound s o
-  unfolding both bind head_walked
-  routine_refused o h = ap (λ q. both q (walked blocks (counted_bytes block_bytes) (every block_sound) s)) h ∙ routine-walked s b o
+  pub routine_noted : (o place : ℕ) {n : ℕ} {x : Sight} → ok x n ≡ head_walked s o → {start end : ℕ} → BlocksNote s n place (Ok (record { sight = x; end = n; from = start; to = end }))
+      → (r : Routine) (m : ℕ) → routine s o ≡ ok r m → Note s (o + length (routine_head_bytes r) + 4) (length r.explored_blocks) place start end
+  unfolding span
+  routine_noted o place {n} h k r m e =
+      let a = (head_at o).when r m e in
+      let z : n ≡ ends o r = (inv_ok (ap span h ∙ a.walks)).1 in
+      k _ _ (rw z a.count)

@@ -39,25 +39,29 @@ module _ (s : List ℕ) where
   pub RisesFrom : ℕ → ℕ → ℕ → Type 0
   RisesFrom n o floor = (bs : List BasicBlock) (end : ℕ) → many block n s o ≡ ok bs end → Rises floor (vips bs)
 
+  -- none is passed yet
+  pub rises-start : (n o floor : ℕ) → RisesFrom (n - 0) o floor → RisesFrom n o floor
+  rises-start n o floor r = let e : n - 0 ≡ n = omega arith in rw e at r
+
   -- one block more, whose vip is not below the floor
-  pub rises-more : (n o floor m x : ℕ) → 0 < n → ok tt m ≡ span (block s o) → x ≡ word 8 s o → floor ≤ x
-      → RisesFrom (n - 1) m (x + 1) → RisesFrom n o floor
+  pub rises-more : (n i o floor m x : ℕ) → i < n → ok tt m ≡ span (block s o) → x ≡ word 8 s o → floor ≤ x
+      → RisesFrom (n - (i + 1)) m (x + 1) → RisesFrom (n - i) o floor
   unfolding RisesFrom Rises many span
-  rises-more n o floor m x h e w l r bs end q =
-      let z : n ≡ suc (n - 1) = omega arith in
-      let q' : many block (suc (n - 1)) s o ≡ ok bs end = ap (λ k. many block k s o) (sym z) ∙ q in
+  rises-more n i o floor m x h e w l r bs end q =
+      let z : n - i ≡ suc (n - (i + 1)) = omega arith in
+      let q' : many block (suc (n - (i + 1))) s o ≡ ok bs end = ap (λ k. many block k s o) (sym z) ∙ q in
       let a = inv (block s o) _ q' in
-      let t = inv (many block (n - 1) s a.1) _ a.3 in
+      let t = inv (many block (n - (i + 1)) s a.1) _ a.3 in
       let at : m ≡ a.1 = (inv_ok (e ∙ ap span a.2)).1 in
       let vip : x ≡ a.0.vip = w ∙ block_vip s o a.2 in
       let all : a.0 ∷ t.0 ≡ bs = (inv_ok t.3).0 in
       rw (← all, ← vip) (l, r t.0 t.1 (rw at t.2))
 
   -- no block is left
-  pub rises-end : (n o floor : ℕ) → n ≤ 0 → RisesFrom n o floor
+  pub rises-end : (n i o floor : ℕ) → n ≤ i → RisesFrom (n - i) o floor
   unfolding RisesFrom Rises many span
-  rises-end n o floor h bs end q =
-      let z : n ≡ 0 = omega arith in
+  rises-end n i o floor h bs end q =
+      let z : n - i ≡ 0 = omega arith in
       let q' : many block 0 s o ≡ ok bs end = ap (λ k. many block k s o) (sym z) ∙ q in
       rw (← (inv_ok q').0) tt
 

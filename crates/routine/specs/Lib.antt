@@ -1,4 +1,3 @@
-pub mod Header
 pub mod Head
 pub mod Rising
 pub mod Noted

@@ -10,13 +10,14 @@ ghost use Rattle.pod.specs.Values.{Routine};
 ghost use Rattle.machine.specs.Edits.{block_at};
 ghost use Rattle.machine.specs.Journal.{last_size_is, undo_append};
 ghost use Rattle.machine.specs.Book.{held, in_image};
-ghost use Rattle.book.specs.Says.{state, outcome, taking_back};
+ghost use Rattle.book.specs.Says.{state, leaves, taking_back};
 ghost use Rattle.book.specs.Holding.{IsSound};
 ghost use Rattle.journal.specs.Says.{trailer_of};
 ghost use Rattle.image.specs.Places.{FindsLast};
 ghost use Rattle.undo_append.specs.Last.{LastIn, HasLast, shortened};
 
-use book::{Answer, Book};
+use book::{Answered, Book};
+use fields::Refusal;
 use image::LastInstruction;
 use journal::Trailer;
 
@@ -44,33 +45,38 @@ fn drop_instruction(image: &mut [u8], at: usize, end: usize, size: usize, writte
 
 // Taking back an append: the last instruction of the block, which must have the size that was appended, goes, and what stands after it moves down. 13 where
 // the entry does not fit, and then where the sum is smaller than what the instruction comes to. One walk over the block tells where the instruction is.
-pub fn undo_append(book: Book, image: &mut [u8], journal: &mut [u8], last: Trailer) -> Answer
+pub fn undo_append(book: Book, image: &mut [u8], journal: &mut [u8], last: Trailer) -> Answered
     requires { IsSound (state image.old journal.old book) × (20 ≤ book.used) }
     ensures { (r : Routine) → held (state image.old journal.old book) ≡ accepted r
-        → outcome result image.new journal.new ≡ taking_back (state image.old journal.old book) r (undo_append r (trailer_of last)) }
+        → leaves book result image.new journal.new ≡ taking_back (state image.old journal.old book) r (undo_append r (trailer_of last)) }
 {
     let place = last.place;
     let blocks = image::blocks_of(image);
     if blocks.count <= place {
-        return book::refuse(book, book::SPOILED_BOOK);
+        return Err(Refusal::SpoiledBook);
     }
     let at = image::block_offset(image, place as usize);
     if ends::word64(image, at) != last.vip.0 {
-        return book::refuse(book, book::SPOILED_BOOK);
+        return Err(Refusal::SpoiledBook);
     }
     let instruction = image::last_instruction(image, at);
     let size = last.len as usize;
     if !has_size(instruction, size) {
-        return book::refuse(book, book::SPOILED_BOOK);
+        return Err(Refusal::SpoiledBook);
     }
     let sum = book.sum;
     let less = charge::sum_of_instruction(image, instruction.from, book.rates);
     if sum < less {
-        return book::refuse(book, book::SPOILED_BOOK);
+        return Err(Refusal::SpoiledBook);
     }
     let written = book.written as usize;
     let left = written - size;
     drop_instruction(image, at, instruction.end, size, written);
     let before = journal::clear_trailer(journal, book.used as usize);
-    book::accept(left, before, book.rates, sum - less, book.walk)
+    Ok(Book {
+        written: left as u64,
+        used: before as u64,
+        sum: sum - less,
+        ..book
+    })
 }

@@ -12,12 +12,13 @@ ghost use Rattle.laws.specs.Holds.{BlockHolds};
 ghost use Rattle.laws.specs.At.{At};
 ghost use Rattle.machine.specs.Journal.{is_fresh, undo_create};
 ghost use Rattle.machine.specs.Book.{held, in_image};
-ghost use Rattle.book.specs.Says.{state, outcome, taking_back};
+ghost use Rattle.book.specs.Says.{state, leaves, taking_back};
 ghost use Rattle.book.specs.Holding.{IsSound};
 ghost use Rattle.journal.specs.Says.{trailer_of};
 ghost use Rattle.undo_create.specs.Last.{EndsWith, up_to};
 
-use book::{Answer, Book};
+use book::{Answered, Book};
+use fields::Refusal;
 use journal::Trailer;
 
 // Whether the block at `at` is as create left it: no list has an element, and the fields before them but the vip are 0. Where a list is empty, the
@@ -55,27 +56,31 @@ fn drop_block(image: &mut [u8], start: usize, at: usize, written: usize, place: 
 
 // Taking back a create: the last block, which must be the one that was created and as it was then, becomes zeros. It has no instructions, so the sum stays,
 // whatever it is.
-pub fn undo_create(book: Book, image: &mut [u8], journal: &mut [u8], last: Trailer) -> Answer
+pub fn undo_create(book: Book, image: &mut [u8], journal: &mut [u8], last: Trailer) -> Answered
     requires { IsSound (state image.old journal.old book) × (20 ≤ book.used) }
     ensures { (r : Routine) → held (state image.old journal.old book) ≡ accepted r
-        → outcome result image.new journal.new ≡ taking_back (state image.old journal.old book) r (undo_create r (trailer_of last)) }
+        → leaves book result image.new journal.new ≡ taking_back (state image.old journal.old book) r (undo_create r (trailer_of last)) }
 {
     let place = last.place;
     if last.len != 0 {
-        return book::refuse(book, book::SPOILED_BOOK);
+        return Err(Refusal::SpoiledBook);
     }
     let blocks = image::blocks_of(image);
     if place as usize + 1 != blocks.count as usize {
-        return book::refuse(book, book::SPOILED_BOOK);
+        return Err(Refusal::SpoiledBook);
     }
     let at = image::block_offset(image, place as usize);
     if ends::word64(image, at) != last.vip.0 {
-        return book::refuse(book, book::SPOILED_BOOK);
+        return Err(Refusal::SpoiledBook);
     }
     if !is_fresh(image, at) {
-        return book::refuse(book, book::SPOILED_BOOK);
+        return Err(Refusal::SpoiledBook);
     }
     drop_block(image, blocks.start, at, book.written as usize, place);
     let before = journal::clear_trailer(journal, book.used as usize);
-    book::accept(at, before, book.rates, book.sum, book.walk)
+    Ok(Book {
+        written: at as u64,
+        used: before as u64,
+        ..book
+    })
 }

@@ -13,7 +13,8 @@ use Rattle.fields.specs.Parse.{ok, no, le}
 use Rattle.fields.specs.Lists.{choose}
 use Rattle.fields.specs.Outcome.{Outcome, refused, accepted}
 use Rattle.pod.specs.Values.{BasicBlock}
-use Rattle.fields.specs.Sight.{Sight, sight}
+use Rattle.fields.specs.declared.Sight.{Sight}
+use Rattle.fields.specs.Sight.{sight}
 use Rattle.fields.proofs.Invert.{inv_ok}
 use Rattle.pod.specs.Layout.{block}
 use Rattle.pod.specs.Sound.{block_sound}

@@ -4,21 +4,22 @@
 #![tactic(auto)]
 
 ghost use Rattle.std.specs.Prelude.{◌≡◌, ◌-◌, ◌≤◌, length, take};
+ghost use Rattle.fields.specs.Answers.{number_in};
 ghost use Rattle.fields.specs.Outcome.{accepted};
 ghost use Rattle.pod.specs.Values.{BasicBlock, Routine};
 ghost use Rattle.pod.specs.Written.{block_bytes};
 ghost use Rattle.machine.specs.Edits.{insert_at, with_blocks, size};
 ghost use Rattle.machine.specs.Journal.{undo_remove};
 ghost use Rattle.machine.specs.Book.{in_image, held};
-ghost use Rattle.book.specs.Says.{state, outcome, taking_back, refusal_of};
+ghost use Rattle.book.specs.Says.{state, leaves, taking_back, refusal_of};
 ghost use Rattle.book.specs.Holding.{Holding};
 ghost use Rattle.journal.specs.Says.{trailer_of};
 ghost use Rattle.book.specs.Holding.{IsSound};
 ghost use Rattle.undo_remove.specs.Blocks.{is_block};
 ghost use Rattle.undo_remove.specs.Insertable.{Insertable, HasInsertable};
 
-use book::{Answer, Book};
-use fields::Walked;
+use book::{Answered, Book};
+use fields::Refusal;
 use journal::Trailer;
 use pod::Vip;
 
@@ -26,14 +27,15 @@ use pod::Vip;
 fn is_block(s: &[u8], vip: Vip) -> bool
     ensures { result ≡ is_block vip.0 s.now }
 {
-    if let Walked::Past(end, written, _) = block::block_skip(s, 0) {
-        if (end == s.len()) & written {
-            fields::eight(s, 0) == vip.0
-        } else {
-            false
+    match block::block_skip(s, 0) {
+        Ok((sight, end)) => {
+            if (end == s.len()) & sight.written {
+                fields::eight(s, 0) == vip.0
+            } else {
+                false
+            }
         }
-    } else {
-        false
+        Err(_) => false,
     }
 }
 
@@ -61,61 +63,59 @@ fn swap_insert(image: &mut [u8], place: usize, written: usize, block: &[u8])
     buffer::put_u32(image, count_at, more);
 }
 
-// Why the removal whose entry ends in the trailer `last`, after `entries`, is not taken back, or 0: the block's bytes are one written block with the
-// vip, no block has it, the place is one of the blocks' or the next, and there is room. What `last` says comes from the journal, so it is compared
+// Whether the removal whose entry ends in the trailer `last`, after `entries`, is taken back: the block's bytes are one written block with the vip, no block has it, the place is one of the blocks' or the next, and there is room. What `last` says comes from the journal, so it is compared
 // before it is subtracted.
-fn entry_refusal(image: &[u8], written: usize, entries: &[u8], last: Trailer) -> u64
+fn entry_fits(image: &[u8], written: usize, entries: &[u8], last: Trailer) -> Result<(), Refusal>
     requires { written ≤ length image.now }
-    ensures { (r : Routine) → Holding image.now r → written ≡ size r → result ≡ refusal_of (undo_remove (length image.now) r entries.now (trailer_of last)) }
+    ensures { (r : Routine) → Holding image.now r → written ≡ size r → number_in result ≡ refusal_of (undo_remove (length image.now) r entries.now (trailer_of last)) }
 {
     let vip = last.vip;
     let size = last.len as usize;
     let place = last.place as usize;
     if entries.len() < size {
-        return book::SPOILED_BOOK;
+        return Err(Refusal::SpoiledBook);
     }
     let from = entries.len() - size;
     if !is_block(&entries[from..], vip) {
-        return book::SPOILED_BOOK;
+        return Err(Refusal::SpoiledBook);
     }
     let found = image::find(image, vip);
     let count = found.count as usize;
     if found.place < count {
-        return book::SPOILED_BOOK;
+        return Err(Refusal::SpoiledBook);
     }
     if count < place {
-        return book::SPOILED_BOOK;
+        return Err(Refusal::SpoiledBook);
     }
     if image.len() - written < size {
-        return book::SPOILED_BOOK;
+        return Err(Refusal::SpoiledBook);
     }
-    0
+    Ok(())
 }
 
 // The removal whose entry ends in the trailer `last` is taken back, or refused with 13 where the entry does not fit, and then where the sum is too large for
 // what the block comes to.
-pub fn undo_remove(book: Book, image: &mut [u8], journal: &mut [u8], last: Trailer) -> Answer
+pub fn undo_remove(book: Book, image: &mut [u8], journal: &mut [u8], last: Trailer) -> Answered
     requires { (IsSound (state image.old journal.old book)) × (20 ≤ book.used) }
     ensures { (r : Routine) → held (state image.old journal.old book) ≡ accepted r
-        → outcome result image.new journal.new
+        → leaves book result image.new journal.new
         ≡ taking_back (state image.old journal.old book) r (undo_remove (length image.old) r (take (book.used - 20) journal.old) (trailer_of last)) }
 {
     let written = book.written as usize;
     let used = book.used as usize;
     let before = used - journal::TRAILER_SIZE;
-    let refusal = entry_refusal(image, written, &journal[..before], last);
-    if refusal != 0 {
-        return book::refuse(book, refusal);
-    }
+    entry_fits(image, written, &journal[..before], last)?;
     let size = last.len as usize;
     let from = before - size;
-    let sum = book.sum;
     let more = charge::sum_of_block(&journal[from..before], 0, book.rates);
-    if !book::can_add(sum, more) {
-        return book::refuse(book, book::SPOILED_BOOK);
-    }
+    let sum = book::carry(book.sum, more)?;
     swap_insert(image, last.place as usize, written, &journal[from..before]);
     buffer::clear(journal, from, used);
     let grown = written + size;
-    book::accept(grown, from, book.rates, sum + more, book.walk)
+    Ok(Book {
+        written: grown as u64,
+        used: from as u64,
+        sum,
+        ..book
+    })
 }

@@ -1,5 +1,5 @@
 pub mod Gather
-pub mod Places
 pub mod Refusal
 pub mod Parts
 pub mod Fast
+pub mod Seen

@@ -7,7 +7,7 @@ use Rattle.pod.specs.Descs.{operand_desc, unused}
 use Rattle.pod.specs.declared.ImmediateDesc.{ImmediateDesc}
 use Rattle.pod.specs.declared.RegisterDesc.{RegisterDesc}
 use Rattle.pod.specs.declared.Operand.{Operand}
-use Rattle.value.specs.declared.Filled.{Filled}
+use Rattle.pod.specs.declared.OperandDesc.{OperandDesc}
 
 -- the immediate and the register whose fields stand from o on
 abbrev pub immediate_from : List ℕ → ℕ → ImmediateDesc
@@ -23,7 +23,7 @@ register_from s o =
     }
 
 -- a used place holds the operand at o, and the offset is the one past it; an unused one is empty, and the offset is o
-pub record Fills (s : List ℕ) (o : ℕ) (used : Bool) (r : Filled) : Type 0 where
-  pub near : r.next ≤ o + 28
-  pub there : used ≡ true → (x : Operand) × (operand s o ≡ ok x r.next) × (r.place ≡ operand_desc x)
-  pub empty : used ≡ false → (r.next ≡ o) × (r.place ≡ unused)
+pub record Fills (s : List ℕ) (o : ℕ) (used : Bool) (place : OperandDesc) (next : ℕ) : Type 0 where
+  pub near : next ≤ o + 28
+  pub there : used ≡ true → (x : Operand) × (operand s o ≡ ok x next) × (place ≡ operand_desc x)
+  pub empty : used ≡ false → (next ≡ o) × (place ≡ unused)

@@ -10,6 +10,9 @@ use borrow.Author.Tests.{le-ltb, lt-ltb}
 use mir.Syntax.{w64}
 use mir.Val.{SFits, to_z, of_z}
 use mir.ValLaws.{to_z_pos, to_z-of_z}
+use Rattle.fields.specs.Refusals.{number}
+use Rattle.fields.specs.declared.Refusal.{Refusal}
+use Rattle.fields.specs.declared.Refusal.TheVariants as v
 use Rattle.fields.specs.Parse.{Res, ok, no, span}
 use Rattle.fields.proofs.Invert.{inv_span, inv_span_no}
 use Rattle.fields.specs.Lists.{choose}
@@ -49,3 +52,27 @@ within_limit s h = rw (le-ltb _ _ h)
 pub over_limit : (s : List ℕ) → 2 ^ 63 - 1 < length s → neg_ℤ (pos 10) ≡ check_file s
 unfolding check_file choose
 over_limit s h = rw (lt-ltb _ _ h)
+
+-- the numbers of the refusals are small
+pub at_most_21 : (e : Refusal) → number e ≤ 21
+at_most_21 v.ShortFile = omega arith
+at_most_21 v.NameNotText = omega arith
+at_most_21 v.WrongMark = omega arith
+at_most_21 v.UnknownMachine = omega arith
+at_most_21 v.ForeignRegister = omega arith
+at_most_21 v.UnknownOperandKind = omega arith
+at_most_21 v.UnknownOperation = omega arith
+at_most_21 v.WrongOperandCount = omega arith
+at_most_21 v.RepeatedBlock = omega arith
+at_most_21 v.LendingTooLarge = omega arith
+at_most_21 v.ImageFull = omega arith
+at_most_21 v.JournalFull = omega arith
+at_most_21 v.SpoiledBook = omega arith
+at_most_21 v.BlockPresent = omega arith
+at_most_21 v.NoSuchBlock = omega arith
+at_most_21 v.NothingToTakeBack = omega arith
+at_most_21 v.Leftover = omega arith
+at_most_21 v.ClosedBlock = omega arith
+at_most_21 v.CrookedRegister = omega arith
+at_most_21 v.WalkOpen = omega arith
+at_most_21 v.NoWalk = omega arith

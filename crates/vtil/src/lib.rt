@@ -25,7 +25,7 @@ ghost use Rattle.vtil.specs.Check.{check_file};
 use book::{Answer, Book, Rates, WalkAnswer};
 use call_list::RunAnswer;
 use charge::ChargeLook;
-use fields::Walked;
+use fields::Refusal;
 use look::{BlockLook, ConventionLook, InstructionLook, RegisterLook, RoutineLook, VipLook};
 use pod::{InstructionDesc, Vip};
 use pread::{BlockRead, ConventionRead, RegisterRead, RoutineRead, VipRead};
@@ -48,13 +48,11 @@ pub fn vtil_check(file: &[u8]) -> i64
     ensures { result ≡ check_file file.now }
 {
     if file.len() > MOST_LENGTH {
-        return 0 - (fields::LENDING_TOO_LARGE as i64);
+        return 0 - (Refusal::LendingTooLarge as i64);
     }
-    let far = reader::pass_file(file);
-    if let Walked::Past(n, _, _) = far {
-        signed(n)
-    } else {
-        0 - (fields::walked_refusal(far) as i64)
+    match reader::pass_file(file) {
+        Ok((_, n)) => signed(n),
+        Err(refusal) => 0 - (u64::from(refusal) as i64),
     }
 }
 
@@ -62,42 +60,42 @@ pub fn vtil_check(file: &[u8]) -> i64
 pub fn vtil_read_routine(file: &[u8]) -> RoutineRead
     ensures { result ≡ routine_read 0 (read_file file.now) }
 {
-    reader::routine_at(file, 0)
+    reader::read_at(file, 0)
 }
 
 // and what stands at an offset: a convention,
 pub fn vtil_read_convention(file: &[u8], at: usize) -> ConventionRead
     ensures { result ≡ convention_read at (convention file.now at) }
 {
-    reader::convention_at(file, at)
+    reader::read_at(file, at)
 }
 
 // a register,
 pub fn vtil_read_register(file: &[u8], at: usize) -> RegisterRead
     ensures { result ≡ register_read (register file.now at) }
 {
-    reader::register_at(file, at)
+    reader::read_at(file, at)
 }
 
 // a block,
 pub fn vtil_read_block(file: &[u8], at: usize) -> BlockRead
     ensures { result ≡ block_read at (block file.now at) }
 {
-    reader::block_at(file, at)
+    reader::read_at(file, at)
 }
 
 // an instruction,
 pub fn vtil_read_instruction(file: &[u8], at: usize) -> InstructionRead
     ensures { result ≡ instruction_read (instruction file.now at) }
 {
-    reader::instruction_at(file, at)
+    reader::read_at(file, at)
 }
 
 // a vip.
 pub fn vtil_read_vip(file: &[u8], at: usize) -> VipRead
     ensures { result ≡ vip_read (u64 file.now at) }
 {
-    reader::vip_at(file, at)
+    reader::read_at(file, at)
 }
 
 // Opening: the file's written form into the image, zeros after it and into the journal, and a fresh book, which carries the rates and what the routine comes
@@ -105,7 +103,7 @@ pub fn vtil_read_vip(file: &[u8], at: usize) -> VipRead
 pub fn vtil_open(file: &[u8], image: &mut [u8], journal: &mut [u8], rates: Rates) -> Answer
     ensures { outcome result image.new journal.new ≡ open_book file.now image.old journal.old rates.rate }
 {
-    opening::open(file, image, journal, rates)
+    Answer::opening(opening::open(file, image, journal, rates))
 }
 
 // The writer of an instruction value.
@@ -188,13 +186,13 @@ pub fn vtil_charge(book: Book, image: &[u8], journal: &[u8], rates: Rates) -> Ch
 pub fn vtil_create_block(book: Book, image: &mut [u8], journal: &mut [u8], vip: u64) -> Answer
     ensures { outcome result image.new journal.new ≡ step (edit (create vip)) (state image.old journal.old book) }
 {
-    calls::create_block(book, image, journal, Vip(vip))
+    Answer::new(book, calls::create_block(book, image, journal, Vip(vip)))
 }
 
 pub fn vtil_remove_block(book: Book, image: &mut [u8], journal: &mut [u8], vip: u64) -> Answer
     ensures { outcome result image.new journal.new ≡ step (edit (remove vip)) (state image.old journal.old book) }
 {
-    calls::remove_block(book, image, journal, Vip(vip))
+    Answer::new(book, calls::remove_block(book, image, journal, Vip(vip)))
 }
 
 pub fn vtil_append(
@@ -206,34 +204,37 @@ pub fn vtil_append(
 ) -> Answer
     ensures { outcome result image.new journal.new ≡ step (edit (append vip instruction.now)) (state image.old journal.old book) }
 {
-    calls::append(book, image, journal, Vip(vip), instruction)
+    Answer::new(
+        book,
+        calls::append(book, image, journal, Vip(vip), instruction),
+    )
 }
 
 pub fn vtil_undo(book: Book, image: &mut [u8], journal: &mut [u8]) -> Answer
     ensures { outcome result image.new journal.new ≡ step undo (state image.old journal.old book) }
 {
-    calls::undo(book, image, journal)
+    Answer::new(book, calls::undo(book, image, journal))
 }
 
 // Sending block by block: a walk begins,
 pub fn vtil_walk_start(book: Book, image: &[u8], journal: &[u8]) -> Answer
     ensures { outcome result image.now journal.now ≡ step (walking walk_start) (state image.now journal.now book) }
 {
-    walk::start(book, image, journal)
+    Answer::new(book, walk::start(book, image, journal))
 }
 
 // hands out the next block, or says end,
 pub fn vtil_walk_next(book: Book, image: &[u8], journal: &[u8]) -> WalkAnswer
     ensures { walk_outcome result image.now journal.now ≡ told_step (walking walk_next) (state image.now journal.now book) }
 {
-    walk::next(book, image, journal)
+    WalkAnswer::new(book, walk::next(book, image, journal))
 }
 
 // or is abandoned.
 pub fn vtil_walk_abandon(book: Book, image: &[u8], journal: &[u8]) -> Answer
     ensures { outcome result image.now journal.now ≡ step (walking walk_abandon) (state image.now journal.now book) }
 {
-    walk::abandon(book, image, journal)
+    Answer::new(book, walk::abandon(book, image, journal))
 }
 
 // A copy for outside reviewers: the routine without the values of its immediates, in a second image.

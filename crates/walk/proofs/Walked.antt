@@ -5,27 +5,44 @@ use mathlib.Core.Path.{◌≡◌, refl, sym, ap, ◌∙◌}
 use mathlib.Core.Bool.{Bool, true, false}
 use Prim.Native.Nat.{ℕ, suc, ◌+◌, ◌-◌, ◌≤◌, ◌<◌, ◌^◌}
 use native.Mathlib.Omega.{arith}
+use Rattle.std.proofs.Common.{List, Result}
+use Rattle.std.specs.Result.{IsErrAnd}
+use Rattle.std.proofs.lemmas.Result.{err_from_is_err_and}
 use lib.Dec.{ltb}
 use lib.ListN.{length}
 use borrow.Author.Tests.{ltb-true, ltb-false}
 use Rattle.fields.specs.Bytes.{Bytes}
 use Rattle.fields.specs.Lists.{choose}
 use Rattle.fields.specs.Outcome.{refused}
+use Rattle.fields.specs.Refusals.{number}
+use Rattle.fields.specs.declared.Refusal.{Refusal}
 use Rattle.pod.specs.Values.{Routine}
 use Rattle.pod.specs.Written.{block_bytes}
 use Rattle.laws.proofs.Sizes.{block-least}
 use Rattle.machine.specs.Edits.{block_at}
 use Rattle.machine.specs.Walk.{walk_start, walk_next, walk_abandon, Part, no_part, block_part, hand_out, walked_on}
-use Rattle.machine.specs.Machine.{Call, walking}
+use Rattle.machine.specs.Machine.{Answer, Call, walking}
 use Rattle.machine.specs.Book.{State, with_walk, held, step}
-use Rattle.machine.specs.CallList.{told, told_step}
+use Rattle.machine.specs.CallList.{Told, told, told_step}
 use Rattle.machine.proofs.Keeps.{blocks-few}
 use Rattle.machine.proofs.Walks.{below-fits}
 use Rattle.machine.proofs.Calls.{step-refused, step-barred, walk-done, start_permitted, start-barred, next_permitted, next-barred, abandon_permitted, abandon_barred}
-use Rattle.book.specs.Says.{leaving, handing, refusal_of}
+use Rattle.book.specs.Says.{state, leaving, handing, hands, refusal_of}
+use Rattle.book.specs.declared.Book.{Book}
+use Rattle.book.specs.declared.HandedOut.{HandedOut}
 use Rattle.image.specs.Inspected.{FindsBlock, unwalked}
 use Rattle.image.proofs.Inspects.{Ready, ready, refused-by, sound-held, unwalked_ready, unwalked-step}
 use Rattle.image.proofs.Stands.{block-next}
+
+-- what is said of a refused call, which hands out nothing
+pub told-refused : {k : ℕ} {s : State} {x : Answer × State} → (refused k, s) ≡ x → ◌≡◌ {A = Told × State} (record { refusal = k; part = no_part }, s) (told x.0, x.1)
+unfolding told
+told-refused e = ap (λ y. (told y.0, y.1)) e
+
+-- the exit of a `?` in a call that may hand out a part
+module _ (b : Book) (r : Result HandedOut Refusal) (e : Refusal) (image journal : List ℕ) where
+  pub hands-refused : IsErrAnd r (λ d. d ≡ e) → {x : Answer × State} → (refused (number e), state image journal b) ≡ x → hands b r image journal ≡ (told x.0, x.1)
+  hands-refused h g = let q = err_from_is_err_and r h in rw (q.1, q.2) (told-refused g)
 
 module _ (s : State) {k : ℕ} (e : k ≡ refusal_of (unwalked s)) where
   pub not_started : (k ≡ 0 → ⊥) → (refused k, s) ≡ step (walking walk_start) s
@@ -50,8 +67,8 @@ module _ (s : State) {k : ℕ} (e : k ≡ refusal_of (held s)) where
     unfolding walked_on
     abandoned n = sym (walk-done s here.routine here.is walk_abandon (abandon_permitted _ n))
 
-    pub no-next : s.book.walk ≡ 0 → (refused 21, s) ≡ step (walking walk_next) s
-    no-next n = sym (step-barred s here.routine here.is (walking walk_next) (next-barred _ n))
+    pub no-next : s.book.walk ≡ 0 → ◌≡◌ {A = Told × State} (record { refusal = 21; part = no_part }, s) (told_step (walking walk_next) s)
+    no-next n = told-refused (sym (step-barred s here.routine here.is (walking walk_next) (next-barred _ n)))
 
     module _ (n : s.book.walk ≡ 0 → ⊥) where
       abbrev r : Routine

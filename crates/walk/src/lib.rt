@@ -7,9 +7,10 @@ ghost use Rattle.machine.specs.Walk.{walk_start, walk_next, walk_abandon};
 ghost use Rattle.machine.specs.Machine.{walking};
 ghost use Rattle.machine.specs.Book.{step};
 ghost use Rattle.machine.specs.CallList.{told_step};
-ghost use Rattle.book.specs.Says.{state, outcome, walk_outcome};
+ghost use Rattle.book.specs.Says.{state, leaves, hands};
 
-use book::{Answer, Book, WalkAnswer};
+use book::{Answered, Book, HandedOut};
+use fields::Refusal;
 
 // A walk that is open at the first place.
 const FIRST: u64 = 1;
@@ -18,46 +19,57 @@ const FIRST: u64 = 1;
 const CLOSED: u64 = 0;
 
 // A walk begins at the first block: 20 where one is open.
-pub fn start(book: Book, image: &[u8], journal: &[u8]) -> Answer
-    ensures { outcome result image.now journal.now ≡ step (walking walk_start) (state image.now journal.now book) }
+pub fn start(book: Book, image: &[u8], journal: &[u8]) -> Answered
+    ensures { leaves book result image.now journal.now ≡ step (walking walk_start) (state image.now journal.now book) }
 {
-    let refusal = image::inspect_unwalked(book, image, journal);
-    if refusal != 0 {
-        return book::refuse(book, refusal);
-    }
-    book::accept_walk(book, FIRST)
+    image::inspect_unwalked(book, image, journal)?;
+    Ok(Book {
+        walk: FIRST,
+        ..book
+    })
 }
 
 // The block at the walk's place, by the part of the image that it is; after the last the end, which closes the walk: 21 where none is open. The inspection
 // passes the block on its way, so that this takes one walk over the image.
-pub fn next(book: Book, image: &[u8], journal: &[u8]) -> WalkAnswer
-    ensures { walk_outcome result image.now journal.now
+pub fn next(book: Book, image: &[u8], journal: &[u8]) -> Result<HandedOut, Refusal>
+    ensures { hands book result image.now journal.now
         ≡ told_step (walking walk_next) (state image.now journal.now book) }
 {
-    let found = image::inspect_at(book, image, journal);
-    if found.refusal != 0 {
-        return book::hand_nothing(book::refuse(book, found.refusal));
-    }
+    let found = image::inspect_at(book, image, journal)?;
     let walk = book.walk;
     if walk == CLOSED {
-        return book::hand_nothing(book::refuse(book, book::NO_WALK));
+        return Err(Refusal::NoWalk);
     }
     if found.from == found.to {
-        return book::hand_out(book, CLOSED, 0, 0);
+        return Ok(HandedOut {
+            book: Book {
+                walk: CLOSED,
+                ..book
+            },
+            offset: 0,
+            len: 0,
+        });
     }
-    book::hand_out(book, walk + 1, found.from, found.to - found.from)
+    Ok(HandedOut {
+        book: Book {
+            walk: walk + 1,
+            ..book
+        },
+        offset: found.from as u64,
+        len: (found.to - found.from) as u64,
+    })
 }
 
 // The walk is closed before its end: 21 where none is open.
-pub fn abandon(book: Book, image: &[u8], journal: &[u8]) -> Answer
-    ensures { outcome result image.now journal.now ≡ step (walking walk_abandon) (state image.now journal.now book) }
+pub fn abandon(book: Book, image: &[u8], journal: &[u8]) -> Answered
+    ensures { leaves book result image.now journal.now ≡ step (walking walk_abandon) (state image.now journal.now book) }
 {
-    let refusal = image::inspect(book, image, journal);
-    if refusal != 0 {
-        return book::refuse(book, refusal);
-    }
+    image::inspect(book, image, journal)?;
     if book.walk == CLOSED {
-        return book::refuse(book, book::NO_WALK);
+        return Err(Refusal::NoWalk);
     }
-    book::accept_walk(book, CLOSED)
+    Ok(Book {
+        walk: CLOSED,
+        ..book
+    })
 }

@@ -1,14 +1,16 @@
 -- Fields that were put one after the other are a written form. Each law takes what the calls left as one equation, and asks for the room of the whole.
 -- A signed field comes through its bits and back, which leaves it as it was.
 -- Assumes nothing.
-use mathlib.Core.Path.{◌≡◌, refl}
+use mathlib.Core.Path.{◌≡◌, refl, ap}
 use mathlib.Core.Bool.{not}
 use mathlib.Core.List.{List}
 use Prim.Native.Nat.{ℕ, ◌+◌, ◌≤◌}
 use native.Mathlib.Omega.{arith}
 use lib.Dec.{eqb}
 use lib.ListN.{length}
-use mir.Syntax.{w32, w64}
+use lib.IntN.{ℤ}
+use mir.Syntax.{Width, w32, w64}
+use mir.ValLaws.{to_z-of_z}
 use mir.Val.{SFits, to_z, of_z}
 use Rattle.fields.specs.Bytes.{put}
 use Rattle.pod.specs.Written.{bytes, bit, register_bytes, immediate_bytes}
@@ -16,8 +18,11 @@ use Rattle.pod.specs.declared.RegisterDesc.{RegisterDesc}
 use Rattle.pod.specs.declared.ImmediateDesc.{ImmediateDesc}
 use Rattle.pod.specs.declared.InstructionDesc.{InstructionDesc}
 use Rattle.writer.specs.Forms.{tail_bytes}
-use Rattle.writer.proofs.Bits.{same_bits}
 use Rattle.writer.proofs.Laid.{laid-field, laid_as, laid_then}
+
+-- a signed field that is handed on stands as the number of its bits
+same_bits : (w : Width) (z : ℤ) → SFits w z → of_z w (to_z w (of_z w z)) ≡ of_z w z
+same_bits w z f = ap (of_z w) (to_z-of_z w z f)
 
 module _ (at : ℕ) (a z : List ℕ) where
   pub immediate-put : (v : ImmediateDesc) → z ≡ put (at + 8) (bytes 4 v.bit_count) (put at (bytes 8 v.value) a) → at + 12 ≤ length a → z ≡ put at (immediate_bytes v) a

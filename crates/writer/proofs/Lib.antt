@@ -1,4 +1,3 @@
-pub mod Bits
 pub mod Laid
 pub mod Rest
 pub mod Fields

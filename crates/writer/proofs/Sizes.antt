@@ -4,7 +4,10 @@ use mathlib.Core.Path.{◌≡◌, refl, ap₂, ◌∙◌}
 use mathlib.Core.List.{List}
 use Prim.Native.Nat.{ℕ, ◌+◌, ◌≤◌}
 use lib.ListN.{length, length-append}
-use borrow.Author.Tests.{eq-eqb, ne_eqb}
+use mathlib.Core.Bool.{Bool, true, false}
+use lib.Dec.{eqb}
+use native.Mathlib.Omega.{arith}
+use borrow.Author.Tests.{eq-eqb, ne_eqb, eqb-true, eqb-false}
 use Rattle.fields.specs.Bytes.{put}
 use Rattle.fields.specs.Lists.{choose}
 use Rattle.pod.specs.Written.{bytes, register_bytes, immediate_bytes, operand_bytes}
@@ -30,6 +33,13 @@ module _ (d : OperandDesc) where
   pub size_reg : (d.kind ≡ 0 → ⊥) → length (operand_bytes (desc_operand d)) ≡ 28
   unfolding operand_bytes
   size_reg h = rw (is_reg h) (length-append (bytes 4 1) _ ∙ ap₂ (λ (i j : ℕ). i + j) (length-bytes 4 1) (register-size d.register))
+
+  pub operand-small : length (operand_bytes (desc_operand d)) ≤ 28
+  operand-small = go (eqb d.kind 0) refl
+    where
+      go : (z : Bool) → eqb d.kind 0 ≡ z → length (operand_bytes (desc_operand d)) ≤ 28
+      go true e = omega (arith, size-imm (eqb-true _ _ e))
+      go false e = omega (arith, size_reg (eqb-false _ _ e))
 
   -- the kind, and then the operand
   pub imm-put : (at : ℕ) (a z : List ℕ) → z ≡ put (at + 4) (immediate_bytes d.immediate) (put at (bytes 4 0) a) → d.kind ≡ 0 → at + 16 ≤ length a

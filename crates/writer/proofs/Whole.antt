@@ -5,6 +5,7 @@ use mathlib.Core.List.{List, [], ◌++◌, map}
 use Prim.Native.Nat.{ℕ, ◌+◌, ◌≤◌}
 use native.Mathlib.Omega.{arith}
 use lib.ListN.{length, length-append, length-map, get_or, take}
+use lib.Seq.{length-take-le}
 use Rattle.fields.specs.Bytes.{put}
 use Rattle.op.specs.Ops.{names}
 use Rattle.pod.specs.Written.{bytes, name_bytes, counted_bytes, instruction_bytes}
@@ -14,7 +15,6 @@ use Rattle.pod.proofs.Sizes.{length-bytes}
 use Rattle.writer.specs.Forms.{operands_bytes, tail_bytes}
 use Rattle.writer.proofs.Laid.{Laid, laid-field, laid_then}
 use Rattle.writer.proofs.Name.{size-name}
-use Rattle.writer.proofs.Used.{length-used}
 
 module _ (v : InstructionDesc) where
   -- the used operands
@@ -33,7 +33,7 @@ module _ (v : InstructionDesc) where
     whole : instruction_bytes (desc_instruction v) ≡ name_bytes v.op ++ ((bytes 4 v.count ++ used_bytes) ++ tail_bytes v)
     unfolding instruction_bytes counted_bytes desc_instruction operands_bytes tail_bytes
     whole =
-        let n : length (map desc_operand (take v.count v.operands)) ≡ v.count = length-map (take v.count v.operands) desc_operand ∙ length-used v.operands v.count 0 three h in
+        let n : length (map desc_operand (take v.count v.operands)) ≡ v.count = length-map (take v.count v.operands) desc_operand ∙ length-take-le v.count v.operands (omega arith) in
         ap (λ (k : ℕ). name_bytes v.op ++ ((bytes 4 k ++ used_bytes) ++ tail_bytes v)) n
 
     -- the four parts, one after the other

@@ -1,11 +1,10 @@
 -- `append::append` meets its contract: each answer is one law of an edit's step, with what `refusal_of_bytes` tells of the bytes, `find` of the routine
 -- held, and with what appending makes of it and of its sum.
-use mathlib.Core.Path.{◌≡◌, sym, ap, ◌∙◌}
+use mathlib.Core.Path.{◌≡◌, sym, ap, ◌∙◌, refl}
 use mathlib.Core.Bool.{true, false}
 use native.Mathlib.Omega.{arith}
 use Prim.Native.Nat.{ℕ, ◌+◌, ◌≤◌, ◌<◌, ◌^◌}
 use lib.ListN.{length}
-use borrow.Author.Tests.{ltb-true, ltb-false}
 use Rattle.fields.specs.Bytes.{put, Bytes}
 use Rattle.fields.specs.Outcome.{Outcome, refused, accepted}
 use Rattle.pod.specs.Values.{Routine}
@@ -18,7 +17,8 @@ use Rattle.machine.specs.Book.{State}
 use Rattle.machine.proofs.Calls.{append_permitted}
 use Rattle.machine.proofs.Sums.{appended-sum, carried-over, carried-to}
 use Rattle.book.specs.Says.{state}
-use Rattle.book.proofs.Answers.{refused-by, admits}
+use Rattle.fields.proofs.Numbers.{not-zero}
+use Rattle.book.proofs.Answers.{refused-by, admits, leaves-refused}
 use Rattle.book.proofs.Steps.{refused-step, not_admitted_step, sum_spoiled_step, admitted_step}
 use Rattle.image.specs.Places.{Finds, FindsLast}
 use Rattle.image.proofs.Inspects.{sound-holding}
@@ -28,19 +28,19 @@ use Rattle.append.specs.Target.{Target, with_one}
 use Rattle.append.proofs.Appends.{is_whole, as_instruction, sized, one_size, not-one, no_block, closed, appends, entry-is, append-costs}
 use borrow.Author.Rules.{rules}
 use Rattle.append.proofs.append.Goals as goal
-use Rattle.append.proofs.append.Goals.{After-admit-refusal, After-can_add, After-find-found, After-is_closed, After-last_instruction-last, After-refusal_of_bytes-unfit, Else-found-place, Else-refusal-ne0, Else-unfit-ne0, Start}
+use Rattle.append.proofs.append.Goals.{After-admit, After-find-found, After-is_closed, After-last_instruction-last, After-one_instruction, After-sum_of_instruction-more, Else-found-place, In_ok-admit, In_ok-one_instruction, Start}
 
-abbrev reading : Else-unfit-ne0 → After-refusal_of_bytes-unfit
-reading c = (goal.at.Else-unfit-ne0 c).After-refusal_of_bytes-unfit
+abbrev reading : In_ok-one_instruction → After-one_instruction
+reading c = (goal.at.In_ok-one_instruction c).After-one_instruction
 
-abbrev passing : After-find-found → Else-unfit-ne0
-passing c = (goal.at.After-find-found c).Else-unfit-ne0
+abbrev passing : After-find-found → In_ok-one_instruction
+passing c = (goal.at.After-find-found c).In_ok-one_instruction
 
 abbrev finding : Else-found-place → After-find-found
 finding c = (goal.at.Else-found-place c).After-find-found
 
-abbrev admitting : Else-refusal-ne0 → After-admit-refusal
-admitting c = (goal.at.Else-refusal-ne0 c).After-admit-refusal
+abbrev admitting : In_ok-admit → After-admit
+admitting c = (goal.at.In_ok-admit c).After-admit
 
 -- What is known at them. At the start: the state, the routine that it holds, the place of the vip, and the edit.
 module _ (s : Start) where
@@ -67,12 +67,12 @@ module _ (s : Start) where
   lent : length s.args.instruction.now < 2 ^ 63
   lent = omega arith
 
-octets : (c : After-refusal_of_bytes-unfit) → Bytes c.args.instruction.now
+octets : (c : After-one_instruction) → Bytes c.args.instruction.now
 octets c = c.type_inv.instruction
 
 -- the bytes are an instruction
-whole : (c : Else-unfit-ne0) → Whole c.args.instruction.now
-whole c = is_whole _ (octets (goal.at.Else-unfit-ne0 c).After-refusal_of_bytes-unfit) (sym c.refusal_of_bytes-unfit.ensures ∙ c.if-unfit-ne0.false)
+whole : (c : In_ok-one_instruction) → Whole c.args.instruction.now
+whole c = is_whole _ (octets (goal.at.In_ok-one_instruction c).After-one_instruction) (sym c.in_ok-one_instruction.ensures)
 
 finds : (c : After-find-found) → Finds (R (goal.at.After-find-found c).Start) c.args.vip.0 c.find-found.result
 finds c = c.find-found.ensures (R (goal.at.After-find-found c).Start) (sound-holding c.requires.sound)
@@ -98,12 +98,12 @@ told c =
     c.is_closed.ensures (R here.Start) (I here.Start) (sound-holding c.requires.sound) (there here.Else-found-place) (last here.After-last_instruction-last)
 
 -- after the edit's own tests: what it makes of the routine, and what is written and used then
-module _ (c : After-admit-refusal) where
+module _ (c : After-admit) where
   abbrev p : After-last_instruction-last
-  p = (goal.at.After-admit-refusal c).After-last_instruction-last
+  p = (goal.at.After-admit c).After-last_instruction-last
 
   abbrev s : Start
-  s = (goal.at.After-admit-refusal c).Start
+  s = (goal.at.After-admit c).Start
 
   abbrev Y : Whole s.args.instruction.now
   Y = whole (passing (finding (block p)))
@@ -112,7 +112,7 @@ module _ (c : After-admit-refusal) where
   R' = with_one (R s) (I s) Y.x
 
   made : edited (E s) (R s) ≡ accepted R'
-  made = appends (R s) s.args.vip.0 s.args.instruction.now Y (there (block p)) (sym (told (goal.at.After-admit-refusal c).After-is_closed) ∙ c.if-is_closed.false)
+  made = appends (R s) s.args.vip.0 s.args.instruction.now Y (there (block p)) (sym (told (goal.at.After-admit c).After-is_closed) ∙ c.if-is_closed.false)
 
   grown : s.args.book.written + length s.args.instruction.now ≡ size R'
   grown = omega (arith, one_size (target p) Y.x, sized (octets (reading (passing (finding (block p))))) Y)
@@ -121,20 +121,17 @@ module _ (c : After-admit-refusal) where
   spent = omega (arith, append-costs (R s) s.args.vip.0 s.args.instruction.now Y)
 
 -- after 11 and 12: there is room
-module _ (c : Else-refusal-ne0) where
+module _ (c : In_ok-admit) where
   abbrev t : Start
-  t = (goal.at.Else-refusal-ne0 c).Start
-
-  admitted : c.admit-refusal.result ≡ 0
-  admitted = c.if-refusal-ne0.false
+  t = (goal.at.In_ok-admit c).Start
 
   room : (t.args.book.written + length t.args.instruction.now ≤ length t.args.image.now) × (t.args.book.used + 20 ≤ length t.args.journal.now)
-  room = admits _ _ _ (sym c.admit-refusal.ensures ∙ admitted)
+  room = admits _ _ _ (sym c.in_ok-admit.ensures)
 
 -- what the sum becomes
-module _ (c : After-can_add) where
-  abbrev passed : Else-refusal-ne0
-  passed = (goal.at.After-can_add c).Else-refusal-ne0
+module _ (c : After-sum_of_instruction-more) where
+  abbrev passed : In_ok-admit
+  passed = (goal.at.After-sum_of_instruction-more c).In_ok-admit
 
   abbrev more : ℕ
   more = c.sum_of_instruction-more.result
@@ -151,29 +148,23 @@ module _ (c : After-can_add) where
       let m = c.sum_of_instruction-more.ensures _ _ (as_instruction (Y a)) in
       omega (arith, appended-sum rates (R (s a)) (I (s a)) (there (block (p a))) (Y a).x, m)
 
-  sum_over : c.can_add.result ≡ false → new_sum ≡ refused 13
-  sum_over h =
-      let l = ltb-false ((t passed).args.book.sum + more) (2 ^ 64) (sym c.can_add.ensures ∙ h) in
-      carried-over rates (R (t passed)) (R' (admitting passed)) _ (sum_fits (t passed)) (omega (arith, gains))
+  sum_over : 2 ^ 64 ≤ (t passed).args.book.sum + more → new_sum ≡ refused 13
+  sum_over l = carried-over rates (R (t passed)) (R' (admitting passed)) _ (sum_fits (t passed)) (omega (arith, gains))
 
-  can_add_sum : c.can_add.result ≡ true → new_sum ≡ accepted ((t passed).args.book.sum + more)
-  can_add_sum h =
-      let l = ltb-true ((t passed).args.book.sum + more) (2 ^ 64) (sym c.can_add.ensures ∙ h) in
-      carried-to rates (R (t passed)) (R' (admitting passed)) _ _ (omega (arith, gains)) (omega arith)
+  sum_carried : (t passed).args.book.sum + more < 2 ^ 64 → new_sum ≡ accepted ((t passed).args.book.sum + more)
+  sum_carried l = carried-to rates (R (t passed)) (R' (admitting passed)) _ _ (omega (arith, gains)) (omega arith)
 
-pub returns-then-unfit-ne0 : goal.returns-then-unfit-ne0
-returns-then-unfit-ne0 c =
-    let here = goal.at.returns-then-unfit-ne0 c in
-    let z = c.if-unfit-ne0.true in
-    c.refuse.ensures _ _ (omega arith)
-    ∙ sym (refused-step (S here.Start) (R here.Start) c.requires.sound (E here.Start) (free here.Start) _ (not-one (R here.Start) _ _ (refused-by _ c.refusal_of_bytes-unfit.ensures z)))
+pub returns-in_err-one_instruction : goal.returns-in_err-one_instruction
+returns-in_err-one_instruction c =
+    let s = (goal.at.returns-in_err-one_instruction c).Start in
+    leaves-refused _ _ _ _ _ c.from_residual.ensures.1
+    (sym (refused-step (S s) (R s) c.requires.sound (E s) (free s) _ (not-one (R s) _ _ (refused-by _ c.in_err-one_instruction.ensures (not-zero _)))))
 
 pub returns-then-found-place : goal.returns-then-found-place
 returns-then-found-place c =
     let here = goal.at.returns-then-found-place c in
     let f = finds here.After-find-found in
-    c.refuse-then-found-place.ensures _ _ (omega arith)
-    ∙ sym (refused-step (S here.Start) (R here.Start) c.requires.sound (E here.Start) (free here.Start) _ (no_block (R here.Start) _ _ (whole here.Else-unfit-ne0) (omega (arith, c.if-found-place.true, f.place, f.count))))
+    sym (refused-step (S here.Start) (R here.Start) c.requires.sound (E here.Start) (free here.Start) _ (no_block (R here.Start) _ _ (whole here.In_ok-one_instruction) (omega (arith, c.if-found-place.true, f.place, f.count))))
 
 pub is_closed-requires : goal.is_closed-requires
 is_closed-requires c = search rules
@@ -181,47 +172,45 @@ is_closed-requires c = search rules
 pub returns-then-is_closed : goal.returns-then-is_closed
 returns-then-is_closed c =
     let here = goal.at.returns-then-is_closed c in
-    c.refuse-then-is_closed.ensures _ _ (omega arith)
-    ∙ sym (refused-step (S here.Start) (R here.Start) c.requires.sound (E here.Start) (free here.Start) _ (closed (R here.Start) _ _ (whole here.Else-unfit-ne0) (there here.Else-found-place) (sym (told here.After-is_closed) ∙ c.if-is_closed.true)))
+    sym (refused-step (S here.Start) (R here.Start) c.requires.sound (E here.Start) (free here.Start) _ (closed (R here.Start) _ _ (whole here.In_ok-one_instruction) (there here.Else-found-place) (sym (told here.After-is_closed) ∙ c.if-is_closed.true)))
 
-pub returns-then-refusal-ne0 : goal.returns-then-refusal-ne0
-returns-then-refusal-ne0 c =
-    let here = goal.at.returns-then-refusal-ne0 c in
-    c.refuse-then-refusal-ne0.ensures _ _ (omega arith)
-    ∙ not_admitted_step (S here.Start) (R here.Start) c.requires.sound (E here.Start) (free here.Start) (R' here.After-admit-refusal) (made here.After-admit-refusal) (grown here.After-admit-refusal) (spent here.After-admit-refusal) c.admit-refusal.ensures c.if-refusal-ne0.true
+pub returns-in_err-admit : goal.returns-in_err-admit
+returns-in_err-admit c =
+    let here = goal.at.returns-in_err-admit c in
+    let a = here.After-admit in
+    leaves-refused _ _ _ _ _ c.from_residual-in_err-admit.ensures.1
+    (not_admitted_step (S here.Start) (R here.Start) c.requires.sound (E here.Start) (free here.Start) (R' a) (made a) (grown a) (spent a) c.in_err-admit.ensures (not-zero _))
 
-pub returns-then-not-can_add : goal.returns-then-not-can_add
-returns-then-not-can_add c =
-    let here = goal.at.returns-then-not-can_add c in
-    c.refuse-then-not-can_add.ensures _ _ (omega arith)
-    ∙ sum_spoiled_step (S here.Start) (R here.Start) c.requires.sound (E here.Start) (free here.Start) (R' here.After-admit-refusal) (made here.After-admit-refusal) (grown here.After-admit-refusal) (spent here.After-admit-refusal) c.admit-refusal.ensures (admitted here.Else-refusal-ne0) (sum_over here.After-can_add (c.if-not-can_add.true))
+pub returns-in_err-sum : goal.returns-in_err-sum
+returns-in_err-sum c =
+    let here = goal.at.returns-in_err-sum c in
+    let a = here.After-admit in
+    let e = c.in_err-sum.ensures.err in
+    leaves-refused _ _ _ _ _ c.from_residual-in_err-sum.ensures.1
+    (rw e.0 (sum_spoiled_step (S here.Start) (R here.Start) c.requires.sound (E here.Start) (free here.Start) (R' a) (made a) (grown a) (spent a) c.in_ok-admit.ensures refl (sum_over here.After-sum_of_instruction-more e.1)))
 
 pub insert_instruction-requires : goal.insert_instruction-requires
 insert_instruction-requires c =
     let here = goal.at.insert_instruction-requires c in
-    (record { x = R here.Start; i = I here.Start; target = target here.After-last_instruction-last }, (Y here.After-admit-refusal, (room here.Else-refusal-ne0).0))
+    (record { x = R here.Start; i = I here.Start; target = target here.After-last_instruction-last }, (Y here.After-admit, (room here.In_ok-admit).0))
 
-pub overflow_cast-size : goal.overflow_cast-size
-overflow_cast-size c = omega (arith, (room (goal.at.overflow_cast-size c).Else-refusal-ne0).0, c.requires.sound.image_lent)
+pub overflow_cast-trailer-2 : goal.overflow_cast-trailer-2
+overflow_cast-trailer-2 c = omega (arith, (room (goal.at.overflow_cast-trailer-2 c).In_ok-admit).0, c.requires.sound.image_lent)
 
 pub put_trailer-requires : goal.put_trailer-requires
-put_trailer-requires c = (room (goal.at.put_trailer-requires c).Else-refusal-ne0).1
-
--- the sum with the instruction fits
-pub overflow_add-sum : goal.overflow_add-sum
-overflow_add-sum c =
-    let l = ltb-true (c.args.book.sum + more (goal.at.overflow_add-sum c).After-can_add) (2 ^ 64) (sym c.can_add.ensures ∙ c.if-not-can_add.false) in omega (arith, l)
+put_trailer-requires c = (room (goal.at.put_trailer-requires c).In_ok-admit).1
 
 pub returns : goal.returns
 returns c =
     let here = goal.at.returns c in
     let v = c.args.vip.0 in
-    c.accept.ensures _ _
-    ∙ admitted_step (S here.Start) (R here.Start) c.requires.sound (E here.Start) (free here.Start) (R' here.After-admit-refusal) (made here.After-admit-refusal) (grown here.After-admit-refusal) (spent here.After-admit-refusal) c.admit-refusal.ensures (admitted here.Else-refusal-ne0) (can_add_sum here.After-can_add (c.if-not-can_add.false))
-    (c.insert_instruction.ensures (R here.Start) (I here.Start) (Y here.After-admit-refusal) (target here.After-last_instruction-last))
+    let sum = c.in_ok-sum.ensures.ok in
+    rw sum.0
+    (admitted_step (S here.Start) (R here.Start) c.requires.sound (E here.Start) (free here.Start) (R' here.After-admit) (made here.After-admit) (grown here.After-admit) (spent here.After-admit) c.in_ok-admit.ensures refl (sum_carried here.After-sum_of_instruction-more (rw (← sum.0) sum.1))
+    (c.insert_instruction.ensures (R here.Start) (I here.Start) (Y here.After-admit) (target here.After-last_instruction-last))
     (c.put_trailer.ensures
     ∙ ap (λ j. put c.args.book.used (trailer_bytes (trailer_with v j (length c.args.instruction.now) 3)) c.args.journal.now) (finds here.After-find-found).place
-    ∙ ap (λ e. put c.args.book.used e c.args.journal.now) (sym (entry-is (R here.Start) v c.args.instruction.now (Y here.After-admit-refusal))))
+    ∙ ap (λ e. put c.args.book.used e c.args.journal.now) (sym (entry-is (R here.Start) v c.args.instruction.now (Y here.After-admit)))))
 
 -- what is written is within an image
 pub overflow_add-grown : goal.overflow_add-grown

@@ -1,16 +1,21 @@
--- A block walked over part by part: each call is given what the one before it answered. One without lists is known.
-use mathlib.Core.Path.{sym}
-use native.Mathlib.Omega.{arith}
+-- A block walked over part by part. One without lists is known.
+use Rattle.std.proofs.Common.{rules}
+use Rattle.fields.specs.Parse.{bind}
 use Rattle.block.proofs.Walk.{block_walked}
 use Rattle.block.proofs.block_skip.Goals as goal
 
-pub returns-then-is_bare : goal.returns-then-is_bare
-returns-then-is_bare c = sym (c.is_bare.ensures c.if-is_bare.true).1
+pub returns-in_err-seen : goal.returns-in_err-seen
+unfolding bind
+returns-in_err-seen c = rw (← block_walked _ c.type_inv.s _) (search rules)
+
+pub returns-in_err-at : goal.returns-in_err-at
+unfolding bind
+returns-in_err-at c = rw (← block_walked _ c.type_inv.s _) (search rules)
+
+pub returns-in_err-end : goal.returns-in_err-end
+unfolding bind
+returns-in_err-end c = rw (← block_walked _ c.type_inv.s _) (search rules)
 
 pub returns : goal.returns
-returns c =
-    rw (c.then_vips.ensures, c.then_vips-prevs.ensures, c.instructions_skip-instructions.ensures)
-    (block_walked _ c.type_inv.s _)
-
-pub overflow_add-result : goal.overflow_add-result
-overflow_add-result c = let h = (c.is_bare.ensures c.if-is_bare.true).0 in omega (arith, h)
+unfolding bind
+returns c = rw (← block_walked _ c.type_inv.s _) (search rules)

@@ -1,10 +1,7 @@
--- A list of vips passed over: its count, and then the run.
-use Rattle.fields.proofs.Steps.{skips}
-use borrow.Author.Rules.{rules}
+-- A list of vips passed over at once, after its count.
+use Rattle.std.proofs.Common.{◌∙◌}
+use Rattle.block.proofs.Fixed.{counted-at-once}
 use Rattle.block.proofs.vips_skip.Goals as goal
 
-pub returns-in-Value : goal.returns-in-Value
-returns-in-Value c = search (rules, skips)
-
-pub returns-in_default : goal.returns-in_default
-returns-in_default c = search (rules, skips)
+pub returns : goal.returns
+returns c = c.skip.ensures.field ∙ counted-at-once 8 _ _ c.in_ok-count.ensures

@@ -1,7 +1,6 @@
--- Two puts of four bytes, of the low and the high half, are one of eight.
-use native.Mathlib.Omega.{arith}
-use Rattle.buffer.proofs.Digits.{put_halves}
+-- The bytes that `to_le_bytes` makes are the number's bytes.
+use Rattle.buffer.proofs.Digits.{put_le}
 use Rattle.buffer.proofs.put_u64.Goals as goal
 
 pub returns : goal.returns
-returns c = put_halves 4 4 _ _ _ _ (cc) (omega arith)
+returns c = put_le 8 _ _ c.args.v c.to_le_bytes.ensures c.copy_at.ensures

@@ -1,8 +1,7 @@
 -- `call_list::run` meets its contract: words that are no list are refused, then what the opening refuses, and else the calls are made. That this is what
 -- the machine does follows from the ranges of the words and the bytes.
-use mathlib.Core.Path.{◌≡◌, sym, ◌∙◌}
+use mathlib.Core.Path.{◌≡◌, refl, sym, ◌∙◌}
 use mathlib.Core.Bool.{true}
-use mathlib.Core.List.{[]}
 use Prim.Native.Nat.{ℕ}
 use native.Mathlib.Omega.{arith}
 use Rattle.machine.specs.Book.{State}
@@ -35,24 +34,24 @@ unfolding Promised
 returns-then-not-is_call_list c =
     promised (goal.at.returns-then-not-is_call_list c).After-is_call_list _
     (c.not_run.ensures _ _
-    ∙ R.not_made _ _ _ (c.refuse_opening.ensures _ _ (omega arith))
+    ∙ R.not_made _ _ _ (c.opening.ensures _ _)
     ∙ R.no-list _ _ _ _ _ _ (sym c.is_call_list.ensures ∙ c.if-not-is_call_list.true))
 
-pub returns-then-opened-ne0 : goal.returns-then-opened-ne0
+pub returns-in-Err : goal.returns-in-Err
 unfolding Promised
-returns-then-opened-ne0 c =
-    let here = goal.at.returns-then-opened-ne0 c in
+returns-in-Err c =
+    let here = goal.at.returns-in-Err c in
     promised here.After-is_call_list _
-    (c.not_run-then-opened-ne0.ensures _ _
-    ∙ R.not_opened _ _ _ _ _ _ (encoded here.Else-not-is_call_list) _ c.open-opened.ensures (R.refused-is c.open-opened.result [] [] (λ z. omega (arith, z, c.if-opened-ne0.true))))
+    (c.not_run-in-Err.ensures _ _
+    ∙ R.not_made _ _ _ (c.opening-in-Err.ensures _ _)
+    ∙ R.not_opened _ _ _ _ _ _ (encoded here.Else-not-is_call_list) _ c.in-Err.ensures refl)
 
 pub run_calls-requires : goal.run_calls-requires
 run_calls-requires c = encoded (goal.at.run_calls-requires c).Else-not-is_call_list
 
-pub returns : goal.returns
+pub returns-in-Ok : goal.returns-in-Ok
 unfolding Promised
-returns c =
-    let here = goal.at.returns c in
+returns-in-Ok c =
+    let here = goal.at.returns-in-Ok c in
     promised here.After-is_call_list _
-    (c.done.ensures _ _
-    ∙ R.opened-ran _ _ _ _ _ _ (encoded here.Else-not-is_call_list) _ c.open-opened.ensures (R.accepted-is c.open-opened.result [] [] (omega (arith, c.if-opened-ne0.false))) _ c.run_calls.ensures)
+    (c.done.ensures _ _ ∙ R.opened-ran _ _ _ _ _ _ (encoded here.Else-not-is_call_list) _ c.in-Ok.ensures refl _ c.run_calls.ensures)

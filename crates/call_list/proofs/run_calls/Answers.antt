@@ -1,33 +1,45 @@
--- `call_list::run_calls` meets its contract. The loop's invariant: the calls from `at` on do to what is there now what all the calls do to what the run
+-- `call_list::run_calls` meets its contract. The loop's invariant: the calls from the next on do to what is there now what all the calls do to what the run
 -- began with.
-use mathlib.Core.Path.{refl, ap, ◌∙◌}
-use native.Mathlib.Omega.{arith}
-use Rattle.machine.specs.Book.{State}
-use Rattle.machine.specs.CallList.{calls, Told, nothing_told, ran}
+use Rattle.std.proofs.Common.{◌≡◌, ℕ, ◌+◌, ◌*◌, ◌/◌, ◌<◌, ◌≤◌, [], length, slice_index_or, refl, ◌∙◌, arith}
 use Rattle.call_list.proofs.Words as W
-use Rattle.call_list.proofs.Runs.{Reached}
 use Rattle.call_list.proofs.Runs as R
 use Rattle.call_list.proofs.run_calls.Goals as goal
+use Rattle.call_list.proofs.run_calls.Goals.{In-loop-call}
 
-pub loop-at-init : goal.loop-at-init
-loop-at-init c = (R.begun-at _ _ c.requires (c.nothing_yet-last.ensures _ _), refl, refl)
+-- the place is one of a call, and its words are four of the list's in a row
+below : (c : In-loop-call) → c.loop-call.call-index < length c.args.words.now / 4
+below c = omega (arith, c.loop-call-test.true, c.as_chunks.ensures.front_len)
 
-pub call_at-last-requires : goal.call_at-last-requires
-call_at-last-requires c = W.sits _ _ _ (omega (arith, c.loop-at-test.true)) c.loop-at.invariant.0.encodes
+whole : (c : In-loop-call) → c.loop-call.call-index * 4 + 4 ≤ length c.args.words.now
+whole c = W.whole-there _ _ c.as_chunks.ensures.front _ (below c)
 
-pub overflow_add-at : goal.overflow_add-at
-overflow_add-at c =
-    omega (arith, W.more c.args.words.now c.args.bytes.now c.loop-at.at (omega (arith, c.loop-at-test.true)) c.loop-at.invariant.0.encodes)
+word : (c : In-loop-call) (j : ℕ) → j < 4
+    → slice_index_or (slice_index_or c.as_chunks.result.0.now c.loop-call.call-index []) j 0 ≡ slice_index_or c.args.words.now (c.loop-call.call-index * 4 + j) 0
+word c = W.word-there _ _ c.as_chunks.ensures.front _ (below c)
 
-pub loop-at-preserved : goal.loop-at-preserved
-loop-at-preserved c = (
-  R.next _ _ _ _ _ c.loop-at.invariant.0 (omega (arith, c.loop-at-test.true)) c.call_at-last.ensures,
-  c.call_at-last.auto.image ∙ c.loop-at.invariant.1,
-  c.call_at-last.auto.journal ∙ c.loop-at.invariant.2,
-)
+kind : (c : In-loop-call) → slice_index_or (slice_index_or c.as_chunks.result.0.now c.loop-call.call-index []) 0 0 ≡ slice_index_or c.args.words.now (c.loop-call.call-index * 4) 0
+kind c = W.kind-there _ _ c.as_chunks.ensures.front _ (below c)
+
+pub loop-call-init : goal.loop-call-init
+loop-call-init c = R.begun-at _ _ c.requires refl
+
+pub call_in-answered-requires : goal.call_in-answered-requires
+call_in-answered-requires c =
+    let here = (goal.at.call_in-answered-requires c).In-loop-call in
+    let l = whole here in
+    let s = W.sits c.args.words.now c.args.bytes.now (c.loop-call.call-index * 4) (omega (arith, l)) c.loop-call.invariant.encodes in
+    let b = word here 2 (omega arith) in
+    let e = word here 3 (omega arith) in
+    record { ordered = omega (arith, b, e, s.ordered); inside = omega (arith, e, s.inside) }
+
+pub loop-call-preserved : goal.loop-call-preserved
+loop-call-preserved c =
+    let here = (goal.at.loop-call-preserved c).In-loop-call in
+    let i = c.loop-call.call-index in
+    let l = whole here in
+    let four = slice_index_or c.as_chunks.result.0.now i [] in
+    let same = W.same-call-at four c.args.words.now c.args.bytes.now (i * 4) (kind here) (word here 1 (omega arith)) (word here 2 (omega arith)) (word here 3 (omega arith)) in
+    R.next-place _ _ _ _ i c.loop-call.invariant (omega (arith, l)) (R.same-call _ (c.new-last.ensures _ _ ∙ c.call_in-answered.ensures) same)
 
 pub returns : goal.returns
-returns c =
-    let lent = c.args in
-    R.ended _ _ _ _ _ c.loop-at.invariant.0 (omega (arith, c.loop-at-test.false))
-    ∙ ap (λ (x : Told × State). ran nothing_told (calls lent.words.now lent.bytes.now) x.1) (c.nothing_yet-last.ensures _ _)
+returns c = R.all-ended _ _ _ _ c.loop-call.call-index c.loop-call.invariant (omega (arith, c.loop-call-test.false, c.as_chunks.ensures.front_len))

@@ -1,11 +1,11 @@
 -- `calls::append` meets its contract: where the inspection refuses, so does the step, and else the state is what the edit's function asks for.
-use native.Mathlib.Omega.{arith}
+use mathlib.Core.Path.{refl}
 use borrow.Author.Rules.{rules}
 use Rattle.calls.proofs.Inspected.{sound, spoiled}
 use Rattle.calls.proofs.append.Goals as goal
 
-pub returns-then-unsound-ne0 : goal.returns-then-unsound-ne0
-returns-then-unsound-ne0 c = spoiled _ _ _ _ c.inspect-unsound.ensures _ (c.refuse.ensures _ _) (λ z. omega (arith, c.if-unsound-ne0.true))
+pub returns-in_err-inspect : goal.returns-in_err-inspect
+returns-in_err-inspect c = spoiled _ _ _ _ _ c.from_residual.ensures.1 c.in_err-inspect.ensures _
 
 pub append-requires : goal.append-requires
-append-requires c = search (rules, sound)
+append-requires c = sound _ _ _ (search rules) c.in_ok-inspect.ensures refl

@@ -1,5 +1,5 @@
 use mathlib.Core.List.{List}
-use Prim.Native.Nat.{ℕ}
+use Prim.Native.Nat.{ℕ, ◌-◌}
 use mathlib.Core.Path.{◌≡◌}
 use Rattle.fields.specs.Parse.{ok, many}
 use Rattle.pod.specs.Values.{BasicBlock}
@@ -9,10 +9,7 @@ use Rattle.charge.specs.Sums.{Table}
 use Rattle.charge.proofs.Totals.{Left}
 use Rattle.charge.proofs.blocks_sum.Given as goal
 
-abbrev pub invariant-loop-blocks : goal.invariant-loop-blocks
-invariant-loop-blocks l =
+abbrev pub invariant-loop-block : goal.invariant-loop-block
+invariant-loop-block l =
     (rates : Rates) → Table rates l.table → (bs : List BasicBlock) (n : ℕ) → many block l.count l.s l.at ≡ ok bs n
-    → Left block (block_sum rates) l.s n (total (block_sum rates) bs) l.blocks l.o l.sum
-
-abbrev pub decreases-loop-blocks : goal.decreases-loop-blocks
-decreases-loop-blocks l = l.blocks
+    → Left block (block_sum rates) l.s n (total (block_sum rates) bs) (l.count - l.block) l.end l.sum

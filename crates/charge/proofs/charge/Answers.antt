@@ -1,35 +1,13 @@
--- 10 and 13 by the inspection; then the sum over the blocks that the image holds, which fits, rounded up.
-use mathlib.Core.Path.{◌≡◌}
-use Prim.Native.Nat.{ℕ, ◌≤◌}
-use native.Mathlib.Omega.{arith}
-use lib.ListN.{get_or}
-use Rattle.book.specs.Says.{state}
-use Rattle.image.proofs.Inspects.{Ready, ready, refused-by}
-use Rattle.machine.proofs.Sums.{most_rate}
-use Rattle.charge.proofs.Rated.{rates-small}
-use Rattle.charge.proofs.Charged.{refused_charge, blocks-read, summable, accepted_charge}
+-- What C sees of the charge: by what it answers.
+use Rattle.std.proofs.Common.{◌≡◌, refl}
+use Rattle.fields.specs.Outcome.{refused, accepted}
+use Rattle.charge.specs.Answers.{charge_look}
 use Rattle.charge.proofs.charge.Goals as goal
-use Rattle.charge.proofs.charge.Goals.{After-inspect-refusal, Start}
 
-inspected : (c : After-inspect-refusal) → c.inspect-refusal.result ≡ 0 → let a = c.args in Ready (state a.image.now a.journal.now a.book)
-inspected c z = ready _ c.type_inv.image c.inspect-refusal.ensures z
+pub returns-in-Ok : goal.returns-in-Ok
+unfolding charge_look
+returns-in-Ok c = rw (← c.in-Ok.ensures) refl
 
--- a rate has 32 bits: what the type of the fourth argument says of its one field, an array
-small : (c : Start) (g : ℕ) → get_or c.args.rates.rate g 0 ≤ most_rate
-small c = let t = c.well_formed.1.1.1.0.1.1.0 in rates-small c.args.rates.rate t.0 t.1.1
-
-pub returns-then-refusal-ne0 : goal.returns-then-refusal-ne0
-returns-then-refusal-ne0 c = refused_charge c.args.rates.rate _ (refused-by _ c.inspect-refusal.ensures (λ z. omega arith))
-
-pub blocks_sum-all-requires : goal.blocks_sum-all-requires
-blocks_sum-all-requires c =
-    let here = goal.at.blocks_sum-all-requires c in
-    let r = inspected here.After-inspect-refusal (omega arith) in
-    let b = c.blocks_of-blocks.ensures _ r.holding in
-    summable r b.0 b.1 _ c.fill.ensures (small here.Start)
-
-pub returns : goal.returns
-returns c =
-    let r = inspected (goal.at.returns c).After-inspect-refusal (omega arith) in
-    let b = c.blocks_of-blocks.ensures _ r.holding in
-    accepted_charge c.args.rates.rate r (c.blocks_sum-all.ensures _ c.fill.ensures _ _ (blocks-read r b.0 b.1)).0 c.cents_of.ensures
+pub returns-in-Err : goal.returns-in-Err
+unfolding charge_look
+returns-in-Err c = rw (← c.in-Err.ensures, c.from.ensures) refl

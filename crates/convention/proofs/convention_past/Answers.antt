@@ -1,15 +1,29 @@
--- A convention passed over part by part: each call is given how far the one before it came, and what was told so far.
-use Rattle.convention.proofs.Skip.{convention-judged}
-use borrow.Author.Rules.{rules}
+-- A convention passed over part by part.
+use Rattle.std.proofs.Common.{rules}
+use Rattle.fields.specs.Parse.{bind}
+use Rattle.convention.proofs.Skip.{convention_judged}
 use Rattle.convention.proofs.convention_past.Goals as goal
 
+pub returns-in_err-volatile : goal.returns-in_err-volatile
+unfolding bind
+returns-in_err-volatile c = rw (← convention_judged _ _) (search rules)
+
+pub returns-in_err-param : goal.returns-in_err-param
+unfolding bind
+returns-in_err-param c = rw (← convention_judged _ _) (search rules)
+
+pub returns-in_err-retval : goal.returns-in_err-retval
+unfolding bind
+returns-in_err-retval c = rw (← convention_judged _ _) (search rules)
+
+pub returns-in_err-frame : goal.returns-in_err-frame
+unfolding bind
+returns-in_err-frame c = rw (← convention_judged _ _) (search rules)
+
+pub returns-in_err-end : goal.returns-in_err-end
+unfolding bind
+returns-in_err-end c = rw (← convention_judged _ _) (search rules)
+
 pub returns : goal.returns
-returns c =
-    rw (
-      c.then_uint.ensures,
-      c.then_uint-e.ensures,
-      c.then_register-d.ensures,
-      c.then_registers-c.ensures,
-      c.then_registers-b.ensures,
-      c.registers_skip-a.ensures,
-    ) (convention-judged _ _)
+unfolding bind
+returns c = rw (← convention_judged _ _) (search rules)

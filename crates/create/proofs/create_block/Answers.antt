@@ -1,6 +1,6 @@
 -- `create::create_block` meets its contract: each answer is one law of an edit's step, with what `find` tells of the routine held, and with what creating
 -- makes of it.
-use mathlib.Core.Path.{◌≡◌, sym, ap, ◌∙◌}
+use mathlib.Core.Path.{◌≡◌, refl, sym, ap, ◌∙◌}
 use native.Mathlib.Omega.{arith}
 use Prim.Native.Nat.{◌+◌, ◌≤◌}
 use lib.ListN.{length}
@@ -17,7 +17,8 @@ use Rattle.machine.proofs.Keeps.{created-size}
 use Rattle.machine.specs.Charge.{carried}
 use Rattle.machine.proofs.Sums.{created-sum, carried-to}
 use Rattle.book.specs.Says.{state}
-use Rattle.book.proofs.Answers.{admits}
+use Rattle.fields.proofs.Numbers.{not-zero}
+use Rattle.book.proofs.Answers.{admits, leaves-refused}
 use Rattle.book.proofs.Steps.{refused-step, not_admitted_step, admitted_step}
 use Rattle.image.specs.Places.{Finds}
 use Rattle.image.proofs.Inspects.{sound-holding}
@@ -25,7 +26,7 @@ use Rattle.image.proofs.Fills.{sound-filled, is-filled}
 use Rattle.create.specs.Created.{with_new}
 use Rattle.create.proofs.Creates.{not_created, creates, create-costs}
 use Rattle.create.proofs.create_block.Goals as goal
-use Rattle.create.proofs.create_block.Goals.{After-find-found, Else-found-count, Else-refusal-ne0, Start}
+use Rattle.create.proofs.create_block.Goals.{After-find-found, Else-found-count, In_ok-admit, Start}
 
 -- What is known at them. At the start: the state, the routine that it holds, the edit, and what is written and used after it.
 module _ (s : Start) where
@@ -61,31 +62,31 @@ finds c = c.find-found.ensures (R (goal.at.After-find-found c).Start) (sound-hol
 made : (c : Else-found-count) → edited (E (goal.at.Else-found-count c).Start) (R (goal.at.Else-found-count c).Start) ≡ accepted (R' (goal.at.Else-found-count c).Start)
 made c = let f = finds (goal.at.Else-found-count c).After-find-found in creates _ _ (omega (arith, c.if-found-count.false, f.place, f.count))
 
-room : (c : Else-refusal-ne0) → (c.args.book.written + 36 ≤ length c.args.image.now) × (c.args.book.used + 20 ≤ length c.args.journal.now)
-room c = admits _ _ _ (sym c.admit-refusal.ensures ∙ c.if-refusal-ne0.false)
+room : (c : In_ok-admit) → (c.args.book.written + 36 ≤ length c.args.image.now) × (c.args.book.used + 20 ≤ length c.args.journal.now)
+room c = admits _ _ _ (sym c.in_ok-admit.ensures)
 
 pub returns-then-found-count : goal.returns-then-found-count
 returns-then-found-count c =
     let here = goal.at.returns-then-found-count c in
     let f = finds here.After-find-found in
-    c.refuse.ensures _ _ (omega arith) ∙ sym (refused-step (S here.Start) (R here.Start) c.requires.sound (E here.Start) (free here.Start) _ (not_created _ _ (omega (arith, c.if-found-count.true, f.place, f.count))))
+    sym (refused-step (S here.Start) (R here.Start) c.requires.sound (E here.Start) (free here.Start) _ (not_created _ _ (omega (arith, c.if-found-count.true, f.place, f.count))))
 
-pub returns-then-refusal-ne0 : goal.returns-then-refusal-ne0
-returns-then-refusal-ne0 c =
-    let here = goal.at.returns-then-refusal-ne0 c in
-    c.refuse-then-refusal-ne0.ensures _ _ (omega arith) ∙ not_admitted_step (S here.Start) (R here.Start) c.requires.sound (E here.Start) (free here.Start) (R' here.Start) (made here.Else-found-count) (grown here.Start) (spent here.Start) c.admit-refusal.ensures c.if-refusal-ne0.true
+pub returns-in_err-admit : goal.returns-in_err-admit
+returns-in_err-admit c =
+    let here = goal.at.returns-in_err-admit c in
+    leaves-refused _ _ _ _ _ c.from_residual.ensures.1
+    (not_admitted_step (S here.Start) (R here.Start) c.requires.sound (E here.Start) (free here.Start) (R' here.Start) (made here.Else-found-count) (grown here.Start) (spent here.Start) c.in_err-admit.ensures (not-zero _))
 
 pub add_block-requires : goal.add_block-requires
-add_block-requires c = (is-filled c.requires, (room (goal.at.add_block-requires c).Else-refusal-ne0).0)
+add_block-requires c = (is-filled c.requires, (room (goal.at.add_block-requires c).In_ok-admit).0)
 
 pub put_trailer-requires : goal.put_trailer-requires
-put_trailer-requires c = (room (goal.at.put_trailer-requires c).Else-refusal-ne0).1
+put_trailer-requires c = (room (goal.at.put_trailer-requires c).In_ok-admit).1
 
 pub returns : goal.returns
 unfolding entry
 returns c =
     let here = goal.at.returns c in
-    c.accept.ensures _ _
-    ∙ admitted_step (S here.Start) (R here.Start) c.requires.sound (E here.Start) (free here.Start) (R' here.Start) (made here.Else-found-count) (grown here.Start) (spent here.Start) c.admit-refusal.ensures c.if-refusal-ne0.false (sum_stays here.Start)
+    admitted_step (S here.Start) (R here.Start) c.requires.sound (E here.Start) (free here.Start) (R' here.Start) (made here.Else-found-count) (grown here.Start) (spent here.Start) c.in_ok-admit.ensures refl (sum_stays here.Start)
     (c.add_block.ensures (R here.Start) (sound-filled c.requires.sound))
     (c.put_trailer.ensures ∙ ap (λ n. put c.args.book.used (trailer_bytes (trailer_with c.args.vip.0 n 0 1)) c.args.journal.now) (finds here.After-find-found).count)

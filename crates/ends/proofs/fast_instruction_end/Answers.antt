@@ -1,34 +1,23 @@
--- The loop keeps that the operands that are left lead to where all lead, with room for each and for the fields after them.
-use native.Mathlib.Omega.{arith}
-use mathlib.Core.Path.{refl}
-use Rattle.ends.proofs.Steps.{times-next, times-end, instruction-within}
+-- The loop keeps where the operands that were passed end, at most 28 bytes further for each, so that there is room for those to come and for the fields
+-- after them.
+use Rattle.std.proofs.Common.{arith, refl, sym, ◌∙◌, ◌≡◌, ◌≤◌, ◌+◌, length}
+use borrow.Author.Tests.{leb-true}
+use Rattle.ends.specs.Ends.{times}
+use Rattle.ends.proofs.Steps.{times_more, instruction-within}
 use Rattle.ends.proofs.fast_instruction_end.Goals as goal
 
-pub returns-then-s-at : goal.returns-then-s-at
-returns-then-s-at c = λ h. absurd (omega arith)
+pub loop-passed-init : goal.loop-passed-init
+unfolding times
+loop-passed-init c = record { ends = refl; near = omega arith }
 
-pub returns-then-s-at-lt128 : goal.returns-then-s-at-lt128
-returns-then-s-at-lt128 c = λ h. absurd (omega arith)
-
-pub returns-then-size-gt6 : goal.returns-then-size-gt6
-returns-then-size-gt6 c = λ h. absurd (omega arith)
-
-pub returns-then-count-gt3 : goal.returns-then-count-gt3
-returns-then-count-gt3 c = λ h. absurd (omega arith)
-
-pub loop-left-init : goal.loop-left-init
-loop-left-init c = (omega arith, refl)
-
-pub fast_operand_end-o-requires : goal.fast_operand_end-o-requires
-fast_operand_end-o-requires c = let i = c.loop-left.invariant in omega (arith, i.0)
-
-pub loop-left-preserved : goal.loop-left-preserved
-loop-left-preserved c =
-    let i = c.loop-left.invariant in
-    let e = c.fast_operand_end-o.ensures in
-    (omega (arith, i.0, e.1), times-next _ _ _ i.1 c.loop-left-test.true e.0)
+pub loop-passed-preserved : goal.loop-passed-preserved
+loop-passed-preserved c =
+    let e = c.fast_operand_end-end.ensures in
+    record { ends = times_more _ _ _ c.loop-passed.invariant.ends e.end; near = omega (arith, e.near) }
 
 pub returns : goal.returns
 returns c =
-    let i = c.loop-left.invariant in
-    λ _. instruction-within _ _ c.four-size.ensures refl c.four-count.ensures (omega arith) (times-end _ _ _ i.1 c.loop-left-test.false) (omega (arith, i.0))
+    let l = c.loop-passed in
+    let room : c.args.at + 128 ≤ length c.args.s.now = leb-true _ _ (sym c.within.ensures ∙ c.if-not-within.false) in
+    let all : l.passed ≡ c.four-count.result = omega arith in
+    instruction-within _ _ c.four-size.ensures refl c.four-count.ensures (omega arith) (rw all at l.invariant.ends) (omega arith)

@@ -1,11 +1,6 @@
-use mathlib.Core.Path.{◌≡◌}
-use Prim.Native.Nat.{◌+◌, ◌*◌, ◌≤◌}
-use lib.ListN.{length}
+use Rattle.std.proofs.Common.{◌≡◌, ◌+◌, ◌*◌, ◌≤◌}
 use Rattle.ends.specs.Ends.{times, operand_end}
 use Rattle.ends.proofs.fast_instruction_end.Given as goal
 
-abbrev pub invariant-loop-left : goal.invariant-loop-left
-invariant-loop-left l = (l.o + 28 * l.left + 21 ≤ length l.s) × (times (operand_end l.s) l.left l.o ≡ times (operand_end l.s) l.count (l.n + 4))
-
-abbrev pub decreases-loop-left : goal.decreases-loop-left
-decreases-loop-left l = l.left
+abbrev pub invariant-loop-passed : goal.invariant-loop-passed
+invariant-loop-passed l = record { ends : l.end ≡ times (operand_end l.s) l.passed (l.n + 4); near : l.end ≤ l.n + 4 + 28 * l.passed }

@@ -1,10 +1,8 @@
--- The operands left lead to the same end as all of them from the start. The measure is how many are left.
-use Rattle.ends.proofs.Steps.{times-next, times-end}
-use borrow.Author.Rules.{rules}
+-- One step for each part.
+use Rattle.std.proofs.Common.{rules, refl}
+use Rattle.ends.specs.Ends.{operand_end}
+use Rattle.ends.proofs.Steps.{times_fold}
 use Rattle.ends.proofs.operands_end.Goals as goal
 
-pub loop-left-preserved : goal.loop-left-preserved
-loop-left-preserved c = search (rules, times-next)
-
 pub returns : goal.returns
-returns c = search (rules, times-end)
+returns c = times_fold (operand_end c.args.s.now) _ _ _ refl (λ a x b h k. search rules) c.fold.ensures.ran

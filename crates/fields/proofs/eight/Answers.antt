@@ -3,7 +3,6 @@ use native.Mathlib.Omega.{arith}
 use Prim.Native.Nat.{◌+◌}
 use Rattle.fields.proofs.Le.{le_lt, le_split}
 use mathlib.Core.Path.{sym}
-use borrow.Author.Rules.{rules}
 use Rattle.fields.proofs.eight.Goals as goal
 
 pub overflow_mul-result : goal.overflow_mul-result

@@ -1,6 +1,5 @@
 -- The bytes of a part.
 use native.Mathlib.Nat.{add-sub_cancel_left}
-use borrow.Author.Rules.{rules}
 use Rattle.fields.proofs.part_of.Goals as goal
 
 pub returns : goal.returns

@@ -2,7 +2,6 @@
 use native.Mathlib.Omega.{arith}
 use Prim.Native.Nat.{◌+◌}
 use Rattle.fields.specs.Parse.{le}
-use borrow.Author.Rules.{rules}
 use Rattle.fields.proofs.two.Goals as goal
 
 pub overflow_cast-result : goal.overflow_cast-result

@@ -5,7 +5,6 @@ use native.Mathlib.Omega.{arith}
 use mathlib.Core.Path.{sym}
 use borrow.Author.Tests.{lt-leb}
 use Rattle.fields.proofs.Le.{leb-sub}
-use borrow.Author.Rules.{rules}
 use Rattle.fields.proofs.within.Goals as goal
 
 pub returns-then-s-at : goal.returns-then-s-at

@@ -35,12 +35,6 @@ returns-then-word64-v c =
 pub block_end-at-requires : goal.block_end-at-requires
 block_end-at-requires c = search rules
 
-pub overflow_add-i : goal.overflow_add-i
-overflow_add-i c = search rules
-
-pub loop-i-smaller : goal.loop-i-smaller
-loop-i-smaller c = search rules
-
 pub loop-i-preserved : goal.loop-i-preserved
 loop-i-preserved c =
     (omega arith, λ x h. walk_next x _ h (c.loop-i.invariant.1 x h) (within (goal.at.loop-i-preserved c).In-loop-i x h) c.word64.ensures c.block_end-at.ensures c.if-word64-v.false)

@@ -52,53 +52,53 @@ one c = sym c.pass_image-passed.ensures.0 ∙ not-false _ c.if-not-passed.false
 zero-after : (c : Else-not-is_zero) → rest_is_zero (S (goal.at.Else-not-is_zero c).Else-not-is_lent-2) ≡ true
 zero-after c = sym c.is_zero.ensures ∙ c.if-not-is_zero.false
 
--- a refusal, with its number
-refuses : (s : State) {k n start end : _} → n ≡ k → k ≡ refusal_of (held s) → (k ≡ 0 → ⊥) → (n ≡ refusal_of (held s)) × FindsBlock s start end
-refuses s e q z = (e ∙ q, none_found s q z)
+pub returns-then-not-is_lent-clause-refusal : goal.returns-then-not-is_lent-clause-refusal
+returns-then-not-is_lent-clause-refusal c = too_large_image (lent (goal.at.returns-then-not-is_lent-clause-refusal c).After-is_lent) (leb-false _ _ (sym c.is_lent.ensures ∙ c.if-not-is_lent.true))
 
-pub returns-then-not-is_lent : goal.returns-then-not-is_lent
-returns-then-not-is_lent c = refuses _ c.refuse.ensures (too_large_image (lent (goal.at.returns-then-not-is_lent c).After-is_lent) (leb-false _ _ (sym c.is_lent.ensures ∙ c.if-not-is_lent.true))) (λ z. omega arith)
+pub returns-then-not-is_lent-2-clause-refusal : goal.returns-then-not-is_lent-2-clause-refusal
+returns-then-not-is_lent-2-clause-refusal c =
+    let here = goal.at.returns-then-not-is_lent-2-clause-refusal c in
+    too_large_journal (lent here.After-is_lent) (image_lent here.Else-not-is_lent) (leb-false _ _ (sym c.is_lent-2.ensures ∙ c.if-not-is_lent-2.true))
 
-pub returns-then-not-is_lent-2 : goal.returns-then-not-is_lent-2
-returns-then-not-is_lent-2 c =
-    let here = goal.at.returns-then-not-is_lent-2 c in
-    refuses _ c.refuse-then-not-is_lent-2.ensures (too_large_journal (lent here.After-is_lent) (image_lent here.Else-not-is_lent) (leb-false _ _ (sym c.is_lent-2.ensures ∙ c.if-not-is_lent-2.true))) (λ z. omega arith)
+pub returns-then-image-written-clause-refusal : goal.returns-then-image-written-clause-refusal
+returns-then-image-written-clause-refusal c =
+    let here = goal.at.returns-then-image-written-clause-refusal c in
+    past-image (S here.Else-not-is_lent-2) (image_lent here.Else-not-is_lent) (journal_lent here.Else-not-is_lent-2) (omega (arith, c.if-image-written.true))
 
-pub returns-then-image-written : goal.returns-then-image-written
-returns-then-image-written c =
-    let here = goal.at.returns-then-image-written c in
-    refuses _ c.refuse-then-image-written.ensures (past-image (S here.Else-not-is_lent-2) (image_lent here.Else-not-is_lent) (journal_lent here.Else-not-is_lent-2) (omega (arith, c.if-image-written.true))) (λ z. omega arith)
-
-pub returns-then-journal-used : goal.returns-then-journal-used
-returns-then-journal-used c =
-    let here = goal.at.returns-then-journal-used c in
-    refuses _ c.refuse-then-journal-used.ensures (past-journal (S here.Else-not-is_lent-2) (image_lent here.Else-not-is_lent) (journal_lent here.Else-not-is_lent-2) (written here.Else-image-written) (omega arith)) (λ z. omega arith)
+pub returns-then-journal-used-clause-refusal : goal.returns-then-journal-used-clause-refusal
+returns-then-journal-used-clause-refusal c =
+    let here = goal.at.returns-then-journal-used-clause-refusal c in
+    past-journal (S here.Else-not-is_lent-2) (image_lent here.Else-not-is_lent) (journal_lent here.Else-not-is_lent-2) (written here.Else-image-written) (omega arith)
 
 pub slice_bounds-pass_image-end : goal.slice_bounds-pass_image-end
 slice_bounds-pass_image-end c = let here = goal.at.slice_bounds-pass_image-end c in let s = S here.Else-not-is_lent-2 in omega (arith, length-take s.book.written s.image, written here.Else-image-written)
 
-pub returns-then-not-passed : goal.returns-then-not-passed
-returns-then-not-passed c =
-    let here = goal.at.returns-then-not-passed c in
-    refuses _ c.refuse-then-not-passed.ensures (spoiled (S here.Else-not-is_lent-2) (bytes here.After-place_of) (within here.After-place_of) (sym c.pass_image-passed.ensures.0 ∙ not-true _ c.if-not-passed.true)) (λ z. omega arith)
+pub returns-then-not-passed-clause-refusal : goal.returns-then-not-passed-clause-refusal
+returns-then-not-passed-clause-refusal c =
+    let here = goal.at.returns-then-not-passed-clause-refusal c in
+    spoiled (S here.Else-not-is_lent-2) (bytes here.After-place_of) (within here.After-place_of) (sym c.pass_image-passed.ensures.0 ∙ not-true _ c.if-not-passed.true)
 
-pub returns-then-not-is_zero : goal.returns-then-not-is_zero
-returns-then-not-is_zero c =
-    let here = goal.at.returns-then-not-is_zero c in
-    refuses _ c.refuse-then-not-is_zero.ensures (not_zero (S here.Else-not-is_lent-2) (bytes here.After-place_of) (within here.After-place_of) (one here.Else-not-passed) (sym c.is_zero.ensures ∙ c.if-not-is_zero.true)) (λ z. omega arith)
+pub returns-then-not-is_zero-clause-refusal : goal.returns-then-not-is_zero-clause-refusal
+returns-then-not-is_zero-clause-refusal c =
+    let here = goal.at.returns-then-not-is_zero-clause-refusal c in
+    not_zero (S here.Else-not-is_lent-2) (bytes here.After-place_of) (within here.After-place_of) (one here.Else-not-passed) (sym c.is_zero.ensures ∙ c.if-not-is_zero.true)
 
-pub returns-then-not-walk_fits : goal.returns-then-not-walk_fits
-returns-then-not-walk_fits c =
-    let here = goal.at.returns-then-not-walk_fits c in
+pub returns-then-not-walk_fits-clause-refusal : goal.returns-then-not-walk_fits-clause-refusal
+returns-then-not-walk_fits-clause-refusal c =
+    let here = goal.at.returns-then-not-walk_fits-clause-refusal c in
     let s = S here.Else-not-is_lent-2 in
-    refuses _ c.refuse-then-not-walk_fits.ensures
-    (astray s (bytes here.After-place_of) (within here.After-place_of) (one here.Else-not-passed) (zero-after here.Else-not-is_zero) (sym (c.walk_fits.ensures _ (stands s (bytes here.After-place_of) (within here.After-place_of) (one here.Else-not-passed))) ∙ c.if-not-walk_fits.true)) (λ z. omega arith)
+    astray s (bytes here.After-place_of) (within here.After-place_of) (one here.Else-not-passed) (zero-after here.Else-not-is_zero) (sym (c.walk_fits.ensures _ (stands s (bytes here.After-place_of) (within here.After-place_of) (one here.Else-not-passed))) ∙ c.if-not-walk_fits.true)
 
-pub returns : goal.returns
-returns c =
-    let here = goal.at.returns c in
+pub returns-clause-refusal : goal.returns-clause-refusal
+returns-clause-refusal c =
+    let here = goal.at.returns-clause-refusal c in
     let s = S here.Else-not-is_lent-2 in
-    let fits = sym (c.walk_fits.ensures _ (stands s (bytes here.After-place_of) (within here.After-place_of) (one here.Else-not-passed))) ∙ c.if-not-walk_fits.false in (
-      sound s (bytes here.After-place_of) (within here.After-place_of) (one here.Else-not-passed) (zero-after here.Else-not-is_zero) fits,
-      found s (bytes here.After-place_of) (within here.After-place_of) (one here.Else-not-passed) (zero-after here.Else-not-is_zero) fits c.place_of.ensures c.pass_image-passed.ensures.1,
-    )
+    let fits = sym (c.walk_fits.ensures _ (stands s (bytes here.After-place_of) (within here.After-place_of) (one here.Else-not-passed))) ∙ c.if-not-walk_fits.false in
+    sound s (bytes here.After-place_of) (within here.After-place_of) (one here.Else-not-passed) (zero-after here.Else-not-is_zero) fits
+
+pub returns-clause-block : goal.returns-clause-block
+returns-clause-block c =
+    let here = goal.at.returns-clause-block c in
+    let s = S here.Else-not-is_lent-2 in
+    let fits = sym (c.walk_fits.ensures _ (stands s (bytes here.After-place_of) (within here.After-place_of) (one here.Else-not-passed))) ∙ c.if-not-walk_fits.false in
+    found s (bytes here.After-place_of) (within here.After-place_of) (one here.Else-not-passed) (zero-after here.Else-not-is_zero) fits c.place_of.ensures c.pass_image-passed.ensures.1

@@ -1,9 +1,7 @@
 -- The fast way: it answers only where nothing is refused. The loop keeps that what was told of the operands so far, and what is left of them, tell what the
 -- whole run does, with room for each and for the fields after them.
-use native.Mathlib.Omega.{arith}
-use mathlib.Core.Path.{◌≡◌, sym, ap, ◌∙◌}
-use Prim.Native.Nat.{ℕ, ◌+◌, ◌-◌, ◌/◌, ◌≤◌}
-use lib.ListN.{length, get_or, take, drop}
+use Rattle.std.proofs.Common.{◌≡◌, arith, sym, ap, ◌∙◌, ℕ, ◌+◌, ◌-◌, ◌/◌, ◌≤◌, length, get_or, take, drop}
+use borrow.Author.Tests.{leb-true}
 use Rattle.fields.specs.Parse.{ok, many}
 use Rattle.fields.specs.Lists.{every}
 use Rattle.op.specs.Ops.{counts}
@@ -16,75 +14,61 @@ use Rattle.laws.proofs.Walks.{instruction-walked}
 use Rattle.instruction.specs.Answers.{Found}
 use Rattle.instruction.proofs.Pass.{found, fast_ok, fast_sound}
 use Rattle.instruction.proofs.fast_skip.Goals as goal
-use Rattle.instruction.proofs.fast_skip.Goals.{After-loop-left, Else-code-gt255, Else-count-code}
+use Rattle.instruction.proofs.fast_skip.Goals.{After-loop-passed, In_ok-code, Else-count-code}
+
+room : (c : In_ok-code) → c.args.at + 128 ≤ length c.args.s.now
+room c = leb-true _ _ (sym c.if-not-within.ensures)
 
 -- the table knows the name, and so what stands at the instruction's start is found
-known : (c : Else-code-gt255)
-    → Known (take c.four-n.result (drop (c.args.at + 4) c.args.s.now)) c.four-n.result c.fast_lookup-code.result
-known c = c.fast_lookup-code.ensures (omega (arith, c.if-code-gt255.false)) _ _ c.type_inv.s (omega arith) c.eight.ensures
+known : (c : In_ok-code) → Known (take c.four-n.result (drop (c.args.at + 4) c.args.s.now)) c.four-n.result c.in_ok-code.code
+known c = c.in_ok-code.ensures _ _ c.type_inv.s (omega (arith, room c)) c.eight.ensures
 
-here : (c : Else-count-code) → Found c.args.s.now c.args.at c.fast_lookup-code.result
-here c = found _ _ _ _ (omega arith) c.four-n.ensures (known (goal.at.Else-count-code c).Else-code-gt255) (sym c.four-count.ensures ∙ c.if-count-code.false)
+here : (c : Else-count-code) → Found c.args.s.now c.args.at c.in_ok-code.code
+here c =
+    let at = (goal.at.Else-count-code c).In_ok-code in
+    found _ _ _ _ (room at) c.four-n.ensures (known at) (sym c.four-count.ensures ∙ c.if-count-code.false)
 
-pub loop-left-init : goal.loop-left-init
-loop-left-init c = (omega (arith, (known (goal.at.loop-left-init c).Else-code-gt255).short, c.if-count-code.false), judge_start operand operand_sound _ _ _)
+pub loop-passed-init : goal.loop-passed-init
+loop-passed-init c =
+    let at = (goal.at.loop-passed-init c).In_ok-code in
+    record {
+      room = omega (arith, (known at).short, room at, c.if-count-code.false);
+      told = judge_start operand operand_sound _ _ _;
+    }
 
-pub loop-left-preserved : goal.loop-left-preserved
-loop-left-preserved c =
-    let l = c.loop-left in
-    let e = c.fast_operand-operand.ensures (omega (arith, c.if-o-eq0.false)) in
-    (omega (arith, e.1), judge_skip operand operand_sound _ _ _ _ l.invariant.1 c.loop-left-test.true e.0)
+pub loop-passed-preserved : goal.loop-passed-preserved
+loop-passed-preserved c =
+    let l = c.loop-passed in
+    let h = c.in_ok-told.ensures in
+    record {
+      room = omega (arith, h.1, l.invariant.room, c.loop-passed-test.true);
+      told = judge_skip operand operand_sound _ _ _ _ _ l.invariant.told c.loop-passed-test.true h.0;
+    }
 
-abbrev is_op : (c : After-loop-left) → ℕ
-is_op c = c.fast_lookup-code.result / 4
+abbrev is_op : (c : After-loop-passed) → ℕ
+is_op c = c.in_ok-code.code / 4
 
-abbrev operands_at : (c : After-loop-left) → ℕ
+abbrev operands_at : (c : After-loop-passed) → ℕ
 operands_at c = c.args.at + 4 + c.four-n.result + 4
 
-opcode-read : (c : After-loop-left) → let a = c.args in opcode a.s.now a.at ≡ ok (is_op c) (operands_at c)
+opcode-read : (c : After-loop-passed) → let a = c.args in opcode a.s.now a.at ≡ ok (is_op c) (operands_at c)
 opcode-read c =
-    (here (goal.at.After-loop-left c).Else-count-code).is ∙ ap (λ n. ok (is_op c) (c.args.at + 4 + n + 4)) (sym c.four-n.ensures)
+    (here (goal.at.After-loop-passed c).Else-count-code).is ∙ ap (λ n. ok (is_op c) (c.args.at + 4 + n + 4)) (sym c.four-n.ensures)
 
-operands_read : (c : After-loop-left)
-    → judged (many operand (get_or counts (is_op c) 0)) (every operand_sound) c.args.s.now (operands_at c) ≡ ok c.loop-left.sound c.loop-left.o
+operands_read : (c : After-loop-passed)
+    → judged (many operand (get_or counts (is_op c) 0)) (every operand_sound) c.args.s.now (operands_at c) ≡ ok c.loop-passed.sound c.loop-passed.end
 operands_read c =
-    let l = c.loop-left in
-    rw ((here (goal.at.After-loop-left c).Else-count-code).takes, ← c.if-count-code.false) (sym (judge_end operand operand_sound _ _ _ _ l.invariant.1 c.loop-left-test.false))
+    let l = c.loop-passed in
+    rw ((here (goal.at.After-loop-passed c).Else-count-code).takes, ← c.if-count-code.false)
+    (sym (judge_end operand operand_sound _ _ _ _ _ l.invariant.told c.loop-passed-test.false))
 
 pub returns : goal.returns
-returns c h =
-    let here = goal.at.returns c in
+returns c =
+    let at = (goal.at.returns c).After-loop-passed in
     let s = c.args.s.now in
-    let o = c.loop-left.o in
-    let room : o + 21 ≤ length s = omega (arith, c.loop-left.invariant.0) in
-    let last : o + 21 - 1 ≡ o + 20 = omega arith in
-    let past = fast_ok s _ _ o _ _ room (opcode-read here.After-loop-left) (operands_read here.After-loop-left) in
-    let seen = instruction-walked s c.type_inv.s _ past (fast_sound s _ _ o _ _ room (opcode-read here.After-loop-left) (operands_read here.After-loop-left)) in
+    let end = c.loop-passed.end in
+    let stands : end + 21 ≤ length s = omega (arith, c.loop-passed.invariant.room) in
+    let last : end + 21 - 1 ≡ end + 20 = omega arith in
+    let past = fast_ok s _ _ end _ _ stands (opcode-read at) (operands_read at) in
+    let seen = instruction-walked s c.type_inv.s _ past (fast_sound s _ _ end _ _ stands (opcode-read at) (operands_read at)) in
     sym (rw last at seen)
-
-pub returns-then-s-at : goal.returns-then-s-at
-returns-then-s-at c h = absurd (omega arith)
-
-pub returns-then-s-at-lt128 : goal.returns-then-s-at-lt128
-returns-then-s-at-lt128 c h = absurd (omega arith)
-
-pub returns-then-code-gt255 : goal.returns-then-code-gt255
-returns-then-code-gt255 c h = absurd (omega arith)
-
-pub overflow_add-b : goal.overflow_add-b
-overflow_add-b c = omega (arith, (known c).short)
-
-pub four-count-requires : goal.four-count-requires
-four-count-requires c = omega (arith, (known c).short)
-
-pub returns-then-count-code : goal.returns-then-count-code
-returns-then-count-code c h = absurd (omega arith)
-
-pub overflow_add-o : goal.overflow_add-o
-overflow_add-o c = omega (arith, (known (goal.at.overflow_add-o c).Else-code-gt255).short)
-
-pub fast_operand-operand-requires : goal.fast_operand-operand-requires
-fast_operand-operand-requires c = omega arith
-
-pub returns-then-o-eq0 : goal.returns-then-o-eq0
-returns-then-o-eq0 c h = absurd (omega (arith, c.if-o-eq0.true))

@@ -1,38 +1,23 @@
 -- An instruction passed over: the parts one after the other, where registers are asked and where not.
-use mathlib.Core.Path.{refl, ◌∙◌}
-use Rattle.instruction.proofs.Skip.{after_skip}
-use Rattle.instruction.proofs.Asking.{asked-sound}
-use Rattle.pod.specs.Layout.{operand, instruction}
-use Rattle.pod.specs.Sound.{sound_operand, appended}
-use Rattle.instruction.proofs.Steps.{skip_on_op, skip_off_op}
+use Rattle.instruction.proofs.Asking.{no_operation, no_operation-asked, no_operands, no_operands-asked, whole, whole-asked}
 use Rattle.instruction.proofs.instruction_past.Goals as goal
 
-pub returns-in-Value : goal.returns-in-Value
-unfolding instruction appended
-returns-in-Value c = (
-  skip_on_op _ c.in-Value.is c.op_at-op.ensures
-      (rw (
-        c.then_uint.ensures.0,
-        c.then_uint-i.ensures.0,
-        c.then_uint-f.ensures.0,
-        c.then_uint-v.ensures.0,
-        c.operands_run-o.ensures.0,
-        c.operand_count.ensures,
-      ) (after_skip operand _ _ _)),
-  skip_on_op _ c.in-Value.is c.op_at-op.ensures
-      (rw (
-        c.then_uint.ensures.1,
-        c.then_uint-i.ensures.1,
-        c.then_uint-f.ensures.1,
-        c.then_uint-v.ensures.1,
-        c.operands_run-o.ensures.1,
-        c.operand_count.ensures,
-      ) (after_skip sound_operand _ _ _)),
-)
+pub returns-in_err-k-clause-plain : goal.returns-in_err-k-clause-plain
+returns-in_err-k-clause-plain c = no_operation _ _ _ _ c.from_residual.ensures.1 c.in_err-k.ensures
 
-pub returns-in_default : goal.returns-in_default
-unfolding instruction appended
-returns-in_default c =
-    let e = c.in_default.is in
-    let o = c.op_at-op.ensures in
-    (skip_off_op _ e o c.op_refusal.ensures, asked-sound _ refl ∙ skip_off_op _ e o c.op_refusal.ensures)
+pub returns-in_err-k-clause-asked : goal.returns-in_err-k-clause-asked
+returns-in_err-k-clause-asked c = no_operation-asked _ _ _ _ c.from_residual.ensures.1 c.in_err-k.ensures
+
+pub returns-in_err-sound-clause-plain : goal.returns-in_err-sound-clause-plain
+returns-in_err-sound-clause-plain c =
+    no_operands _ _ _ c.in_ok-k.ensures _ c.operand_count.ensures _ c.from_residual-in_err-sound.ensures.1 c.in_err-sound.ensures.plain
+
+pub returns-in_err-sound-clause-asked : goal.returns-in_err-sound-clause-asked
+returns-in_err-sound-clause-asked c =
+    no_operands-asked _ _ _ c.in_ok-k.ensures _ c.operand_count.ensures _ c.from_residual-in_err-sound.ensures.1 c.in_err-sound.ensures.asked
+
+pub returns-clause-plain : goal.returns-clause-plain
+returns-clause-plain c = whole _ _ _ c.in_ok-k.ensures _ c.operand_count.ensures c.tail_past.ensures.plain c.in_ok-sound.ensures.plain
+
+pub returns-clause-asked : goal.returns-clause-asked
+returns-clause-asked c = whole-asked _ _ _ c.in_ok-k.ensures _ c.operand_count.ensures _ _ c.tail_past.ensures.asked c.in_ok-sound.ensures.asked

@@ -1,5 +1,5 @@
 -- A refusal is the inspection's; else each number is what stands in the image.
-use mathlib.Core.Path.{◌≡◌, sym, ap, ◌∙◌}
+use mathlib.Core.Path.{◌≡◌, refl, sym, ap, ◌∙◌}
 use mathlib.Core.List.{[]}
 use Prim.Native.Nat.{ℕ, ◌%◌, ◌<◌}
 use native.Mathlib.Omega.{arith}
@@ -7,14 +7,15 @@ use lib.ListN.{length, get_or}
 use Rattle.pod.specs.Written.{bytes}
 use Rattle.laws.proofs.At.{fits, first}
 use Rattle.laws.proofs.Back.{length-bytes}
+use Rattle.fields.proofs.Numbers.{not-zero}
 use Rattle.machine.specs.Book.{State, held}
 use Rattle.book.specs.Says.{state}
 use Rattle.ends.specs.Ends.{word}
 use Rattle.image.proofs.Inspects.{Ready, ready, refused-by}
 use Rattle.image.proofs.Stands.{word_at, machine-at, entry_at}
-use Rattle.look.specs.Answers.{routine_look}
+use Rattle.look.specs.Answers.{no_routine, routine_look}
 use Rattle.look.proofs.look_routine.Goals as goal
-use Rattle.look.proofs.look_routine.Goals.{Else-refusal-ne0}
+use Rattle.look.proofs.look_routine.Goals.{In_default}
 
 -- the machine's byte
 module _ {s : State} (r : Ready s) where
@@ -33,20 +34,20 @@ module _ {s : State} (r : Ready s) where
   unfolding routine_look
   routine-is e f g = rw (e ∙ word_at 8 _ _ r.holding.holds.entry (entry_at r.holding), f, g, machine-is, r.is)
 
-inspected : (c : Else-refusal-ne0) → let a = c.args in Ready (state a.image.now a.journal.now a.book)
-inspected c = ready _ c.type_inv.image c.inspect-refusal.ensures (omega (arith, c.if-refusal-ne0.false))
+inspected : (c : In_default) → let a = c.args in Ready (state a.image.now a.journal.now a.book)
+inspected c = ready _ c.type_inv.image c.in_default.ensures refl
 
-pub returns-then-refusal-ne0 : goal.returns-then-refusal-ne0
+pub returns-in-Err : goal.returns-in-Err
 unfolding routine_look
-returns-then-refusal-ne0 c = ap routine_look (sym (refused-by _ c.inspect-refusal.ensures (λ z. omega (arith, c.if-refusal-ne0.true))))
+returns-in-Err c = ap no_routine c.from.ensures ∙ ap routine_look (sym (refused-by _ c.in-Err.ensures (not-zero _)))
 
 pub returns : goal.returns
 returns c =
-    let r = inspected (goal.at.returns c).Else-refusal-ne0 in
+    let r = inspected (goal.at.returns c).In_default in
     routine-is r c.word64.ensures (c.special_count-spec_conventions.ensures _ r.holding) (c.blocks_of-blocks.ensures _ r.holding).1
 
 pub bounds-image-4 : goal.bounds-image-4
-bounds-image-4 c = machine-room (inspected (goal.at.bounds-image-4 c).Else-refusal-ne0)
+bounds-image-4 c = machine-room (inspected (goal.at.bounds-image-4 c).In_default)
 
 pub overflow_cast-arch_id : goal.overflow_cast-arch_id
 overflow_cast-arch_id c = omega (arith, c.type_inv.image 4)

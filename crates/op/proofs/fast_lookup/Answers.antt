@@ -1,12 +1,11 @@
 -- The fast lookup: where the entry found has the name's own key, it is that of the name.
 use native.Mathlib.Omega.{arith}
-use mathlib.Core.Path.{◌≡◌, ap, subst, ◌∙◌, sym}
+use mathlib.Core.Path.{◌≡◌, ap, subst, ◌∙◌}
 use Prim.Native.Nat.{ℕ, ◌*◌, ◌/◌, ◌%◌, ◌^◌, ◌≤◌, ◌<◌}
 use Rattle.fields.specs.Parse.{le}
 use Rattle.op.specs.Packed.{bits, Entry}
 use Rattle.op.specs.declared.Slot.{Slot}
 use Rattle.op.proofs.Packed.{low_below, known, bits-long}
-use borrow.Author.Rules.{rules}
 use Rattle.op.proofs.fast_lookup.Goals as goal
 use Rattle.op.proofs.fast_lookup.Goals.{After-low-v}
 
@@ -21,21 +20,13 @@ small c = omega (arith, c.low-v.ensures, low_below c.args.word c.args.n (short c
 at_bits : (n v h : ℕ) (r : Slot) → h ≡ bits n v → Entry (h / 32) h r → Entry n (bits n v) r
 at_bits n v h r e x = subst (λ k. Entry k (bits n v) r) (bits-long n v) (rw e at x)
 
-pub code_of-requires : goal.code_of-requires
-code_of-requires c = at_bits _ _ _ _ c.bits_of.ensures c.slot_of.ensures
-
-pub returns : goal.returns
-returns c h s o b l e =
-    let n = c.args.n in
-    let q = c.code_of.ensures h in
-    let cut : c.low-v.result ≡ le 8 s o % 2 ^ (8 * n) = c.low-v.ensures ∙ ap (λ v. v % 2 ^ (8 * n)) e in
-    rw (sym q.1) (known s o n (bits n c.low-v.result) c.slot_of.result b l (short (goal.at.returns c).After-low-v) (q.0 ∙ cut) (at_bits _ _ _ _ c.bits_of.ensures c.slot_of.ensures))
-
-pub returns-then-n-lt2 : goal.returns-then-n-lt2
-returns-then-n-lt2 c h = absurd (omega arith)
-
-pub returns-then-n-gt6 : goal.returns-then-n-gt6
-returns-then-n-gt6 c h = absurd (omega arith)
-
 pub bits_of-requires : goal.bits_of-requires
-bits_of-requires c = (small c, short c)
+bits_of-requires c = (small c, omega (arith, short c))
+
+pub returns-then-found-v : goal.returns-then-found-v
+returns-then-found-v c s o b l e =
+    let n = c.args.n in
+    let here = (goal.at.returns-then-found-v c).After-low-v in
+    let cut : c.low-v.result ≡ le 8 s o % 2 ^ (8 * n) = c.low-v.ensures ∙ ap (λ v. v % 2 ^ (8 * n)) e in
+    known s o n (bits n c.low-v.result) c.slot_of-found.result b l (short here) (c.if-found-v.true ∙ cut)
+    (at_bits _ _ _ _ c.bits_of.ensures c.slot_of-found.ensures)

@@ -6,7 +6,6 @@ use lib.Dec.{leb, leb→le}
 use lib.ListN.{get_or}
 use Rattle.op.specs.ByLength.{by_length}
 use Rattle.op.proofs.Table.{entry, at}
-use borrow.Author.Rules.{rules}
 use Rattle.op.proofs.listed_at.Goals as goal
 
 rule : ℕ → ℕ

@@ -3,7 +3,6 @@ use native.Mathlib.Omega.{arith}
 use Rattle.op.specs.Ops.{names}
 use Rattle.op.specs.ByLength.{in_six}
 use Rattle.op.proofs.Same.{in_six_at}
-use borrow.Author.Rules.{rules}
 use Rattle.op.proofs.name_byte.Goals as goal
 
 pub returns : goal.returns

@@ -5,7 +5,6 @@ use native.Mathlib.Omega.{arith}
 use lib.ListN.{length, get_or}
 use Rattle.op.specs.Ops.{names}
 use Rattle.op.proofs.Table.{entry}
-use borrow.Author.Rules.{rules}
 use Rattle.op.proofs.name_len.Goals as goal
 
 rule : ℕ → ℕ

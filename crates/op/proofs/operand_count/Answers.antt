@@ -5,7 +5,6 @@ use native.Mathlib.Omega.{arith}
 use lib.ListN.{get_or, get_or-eq_default}
 use Rattle.op.specs.Ops.{counts}
 use Rattle.op.proofs.Table.{entry}
-use borrow.Author.Rules.{rules}
 use Rattle.op.proofs.operand_count.Goals as goal
 
 rule : ℕ → ℕ

@@ -8,7 +8,7 @@ use Rattle.op.specs.ByLength.{by_length, between, times, has_length, Exactly, Fo
 use Rattle.op.proofs.ByLength.{tested, none}
 use Rattle.op.proofs.with_length.Goals as goal
 
-part : (n : ℕ) {m first end : ℕ} → m ≡ n → end ≤ 49 → Exactly (has_length n) (between first end) → ForLength m (record { first = first; end = end })
+part : (n : ℕ) {m first end : ℕ} → m ≡ n → end ≤ 49 → Exactly (has_length n) (between first end) → ForLength m (record { start = first; end = end })
 part n e l x = record { within = l; holds = rw e x }
 
 pub returns-in_default : goal.returns-in_default

@@ -3,7 +3,6 @@ use native.Mathlib.Omega.{arith}
 use Prim.Native.Nat.{◌^◌, ◌<◌}
 use Rattle.fields.proofs.Le.{le_lt}
 use Rattle.pod.proofs.Fast.{fast, small, small_reach}
-use borrow.Author.Rules.{rules}
 use Rattle.pod.proofs.fast_operand.Goals as goal
 use Rattle.pod.proofs.fast_operand.Goals.{After-four-offset}
 
@@ -18,7 +17,7 @@ pub overflow_mul-kind : goal.overflow_mul-kind
 overflow_mul-kind c = record { fits = small _ _ (omega arith) (rw c.wide-top.ensures (c.type_inv.s _).fits) }
 
 pub returns : goal.returns
-returns c = λ h. (
+returns c = (
   fast _ _ c.type_inv.s c.requires _ _ _ _ c.four-kind.ensures c.wide-top.ensures c.four-width.ensures c.four-offset.ensures
       (omega arith) (omega arith),
   omega arith,
@@ -27,5 +26,5 @@ returns c = λ h. (
 pub overflow_add-reach : goal.overflow_add-reach
 overflow_add-reach c = record { fits = omega (arith, width_fits c, offset-fits c) }
 
-pub overflow_mul-result-2 : goal.overflow_mul-result-2
-overflow_mul-result-2 c = record { fits = small_reach _ _ _ (omega arith) (width_fits c) (offset-fits c) }
+pub overflow_mul-sound : goal.overflow_mul-sound
+overflow_mul-sound c = record { fits = small_reach _ _ _ (omega arith) (width_fits c) (offset-fits c) }

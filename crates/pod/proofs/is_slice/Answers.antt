@@ -1,5 +1,5 @@
 -- `pod::is_slice` meets its contract: the laws of two signed numbers, each as it stands after its test.
-use Rattle.pod.proofs.Slices.{narrow, before, width_cast, offset_cast, reach_fits, reaches}
+use Rattle.pod.proofs.Slices.{width_cast, offset_cast, reach_fits, reaches}
 use borrow.Author.Rules.{rules}
 use Rattle.pod.proofs.is_slice.Goals as goal
 

@@ -1,6 +1,6 @@
 -- `remove::remove_block` meets its contract: the state holds a routine, the search says whether and where its block stands, and each answer is what
 -- the step of a removal is at the tests made so far.
-use mathlib.Core.Path.{◌≡◌, sym, ap₂, ◌∙◌}
+use mathlib.Core.Path.{◌≡◌, sym, ap₂, ◌∙◌, refl}
 use mathlib.Core.List.{◌++◌}
 use Prim.Native.Nat.{ℕ, ◌+◌, ◌-◌, ◌≤◌, ◌<◌, ◌^◌}
 use native.Mathlib.Omega.{arith}
@@ -12,6 +12,8 @@ use Rattle.machine.specs.Charge.{block_sum}
 use Rattle.machine.specs.Book.{State}
 use Rattle.machine.specs.Trailer.{trailer_with, trailer_bytes}
 use Rattle.machine.proofs.Keeps.{weight}
+use Rattle.fields.proofs.Numbers.{not-zero}
+use Rattle.book.proofs.Answers.{leaves-refused}
 use Rattle.book.specs.Says.{state}
 use Rattle.book.specs.Holding.{Holding}
 use Rattle.image.specs.Places.{Finds}
@@ -20,7 +22,7 @@ use Rattle.image.proofs.Inspects.{sound-holding}
 use Rattle.image.proofs.Here as B
 use Rattle.remove.proofs.Steps as K
 use Rattle.remove.proofs.remove_block.Goals as goal
-use Rattle.remove.proofs.remove_block.Goals.{After-admit-refusal, After-block_end-end, After-find-found, After-put_entry, After-sum_of_block-less, Else-found-place, Else-refusal-ne0, Else-sum-less, Start}
+use Rattle.remove.proofs.remove_block.Goals.{After-admit, After-block_end-end, After-find-found, After-put_entry, After-sum_of_block-less, Else-found-place, In_ok-admit, Else-sum-less, Start}
 
 -- the state at entry, the routine that it holds, the place of the vip, and the block there
 abbrev S : Start → State
@@ -48,18 +50,18 @@ start c = (goal.at.After-find-found c).Start
 abbrev being_there : After-block_end-end → Else-found-place
 being_there c = (goal.at.After-block_end-end c).Else-found-place
 
-abbrev ending : After-admit-refusal → After-block_end-end
-ending c = (goal.at.After-admit-refusal c).After-block_end-end
+abbrev ending : After-admit → After-block_end-end
+ending c = (goal.at.After-admit c).After-block_end-end
 
 -- here there is room,
 abbrev Roomy : Type 0
-Roomy = Else-refusal-ne0
+Roomy = In_ok-admit
 
-abbrev testing : Roomy → After-admit-refusal
-testing c = (goal.at.Else-refusal-ne0 c).After-admit-refusal
+abbrev testing : Roomy → After-admit
+testing c = (goal.at.In_ok-admit c).After-admit
 
 abbrev summing : After-sum_of_block-less → Roomy
-summing c = (goal.at.After-sum_of_block-less c).Else-refusal-ne0
+summing c = (goal.at.After-sum_of_block-less c).In_ok-admit
 
 -- and here every test is passed
 abbrev Passed : Type 0
@@ -119,13 +121,10 @@ module _ (c : After-block_end-end) where
   is_spent : s.args.book.used + size_of + 20 ≡ s.args.book.used + W s + 20
   is_spent = omega (arith, ends)
 
-no-refusal : (c : Roomy) → (testing c).admit-refusal.result ≡ 0
-no-refusal c = omega (arith, c.if-refusal-ne0.false)
-
 room : (c : Roomy) → (let e = ending (testing c) in (s e).args.book.used + size_of e + 20 ≤ length (s e).args.journal.now)
 room c =
     let e = ending (testing c) in
-    (K.room (S (s e)) (R (s e)) (s e).requires.sound (s e).requires.none_open _ (there (being_there e)) _ _ (is_left e) (is_spent e) (testing c).admit-refusal.ensures (no-refusal c)).1
+    (K.room (S (s e)) (R (s e)) (s e).requires.sound (s e).requires.none_open _ (there (being_there e)) _ _ (is_left e) (is_spent e) c.in_ok-admit.ensures refl).1
 
 -- what the block comes to
 comes_to : (c : After-sum_of_block-less) → let s = s (ending (testing (summing c))) in
@@ -138,14 +137,13 @@ comes_to c =
 pub returns-then-found-place : goal.returns-then-found-place
 returns-then-found-place c =
     let here = goal.at.returns-then-found-place c in
-    c.refuse.ensures _ _ (omega arith)
-    ∙ sym (K.no_block (S here.Start) (R here.Start) c.requires.sound c.requires.none_open _ (omega (arith, c.if-found-place.true, (finds here.After-find-found).place, (finds here.After-find-found).count)))
+    sym (K.no_block (S here.Start) (R here.Start) c.requires.sound c.requires.none_open _ (omega (arith, c.if-found-place.true, (finds here.After-find-found).place, (finds here.After-find-found).count)))
 
-pub returns-then-refusal-ne0 : goal.returns-then-refusal-ne0
-returns-then-refusal-ne0 c =
-    let here = goal.at.returns-then-refusal-ne0 c in
-    c.refuse-then-refusal-ne0.ensures _ _ (omega (arith, c.if-refusal-ne0.true))
-    ∙ sym (K.not_admitted (S here.Start) (R here.Start) c.requires.sound c.requires.none_open _ (there here.Else-found-place) _ _ (is_left here.After-block_end-end) (is_spent here.After-block_end-end) c.admit-refusal.ensures (λ z. omega (arith, z, c.if-refusal-ne0.true)))
+pub returns-in_err-admit : goal.returns-in_err-admit
+returns-in_err-admit c =
+    let here = goal.at.returns-in_err-admit c in
+    leaves-refused _ _ _ _ _ c.from_residual.ensures.1
+    (sym (K.not_admitted (S here.Start) (R here.Start) c.requires.sound c.requires.none_open _ (there here.Else-found-place) _ _ (is_left here.After-block_end-end) (is_spent here.After-block_end-end) c.in_err-admit.ensures (not-zero _)))
 
 pub returns-then-sum-less : goal.returns-then-sum-less
 returns-then-sum-less c =
@@ -153,11 +151,10 @@ returns-then-sum-less c =
     let a = summing here.After-sum_of_block-less in
     let t = testing a in
     let e = ending t in
-    c.refuse-then-sum-less.ensures _ _ (omega arith)
-    ∙ sym (K.sum-short (S (s e)) (R (s e)) (s e).requires.sound (s e).requires.none_open _ (there (being_there e)) _ _ (is_left e) (is_spent e) t.admit-refusal.ensures (no-refusal a) (comes_to here.After-sum_of_block-less) (omega (arith, c.if-sum-less.true)))
+    sym (K.sum-short (S (s e)) (R (s e)) (s e).requires.sound (s e).requires.none_open _ (there (being_there e)) _ _ (is_left e) (is_spent e) a.in_ok-admit.ensures refl (comes_to here.After-sum_of_block-less) (omega (arith, c.if-sum-less.true)))
 
 pub put_entry-requires : goal.put_entry-requires
-put_entry-requires c = let a = (goal.at.put_entry-requires c).Else-refusal-ne0 in (omega (arith, room a), omega (arith, (s (ending (testing a))).requires.sound.journal_lent))
+put_entry-requires c = let a = (goal.at.put_entry-requires c).In_ok-admit in (omega (arith, room a), omega (arith, (s (ending (testing a))).requires.sound.journal_lent))
 
 pub swap_remove-requires : goal.swap_remove-requires
 swap_remove-requires c =
@@ -176,8 +173,7 @@ returns c =
     let e = ending (testing a) in
     let s = s e in
     let x = B.part-here (R s) (P s) (there (being_there e)) s.args.image.now (holding s) _ _ (finds (f e)).at (ends e) in
-    c.accept.ensures _ _
-    ∙ K.removed (S s) (R s) s.requires.sound s.requires.none_open _ (there (being_there e)) _ _ (is_left e) (is_spent e) (testing a).admit-refusal.ensures (no-refusal a) (comes_to k)
+    K.removed (S s) (R s) s.requires.sound s.requires.none_open _ (there (being_there e)) _ _ (is_left e) (is_spent e) a.in_ok-admit.ensures refl (comes_to k)
     (omega (arith, l.if-sum-less.false)) (sum_fits s) _ _
     (c.swap_remove.ensures (R s) (P s) (removable e))
     (c.put_entry.ensures ∙ ap₂ (λ i x. put s.args.book.used (x ++ trailer_bytes (trailer_with s.args.vip.0 i (length x) 2)) s.args.journal.now) (finds (f e)).place x)

@@ -1,22 +1,17 @@
-use mathlib.Core.Path.{◌≡◌}
-use Prim.Native.Nat.{◌<◌}
-use Rattle.fields.specs.Parse.{ok, many}
-use Rattle.fields.specs.Lists.{every}
-use Rattle.fields.specs.Sight.{sight}
+use Rattle.std.proofs.Common.{◌≡◌, ◌-◌, ◌<◌}
+use Rattle.fields.specs.Sight.{run}
+use Rattle.fields.proofs.Runs.{left}
 use Rattle.pod.specs.Layout.{block}
 use Rattle.pod.specs.Sound.{block_sound}
-use Rattle.pod.specs.Written.{many_bytes, block_bytes, walked, both}
+use Rattle.pod.specs.Written.{block_bytes, walked}
 use Rattle.sorting.specs.Buffer.{TOP}
 use Rattle.routine.proofs.Notes.{Noting}
 use Rattle.routine.proofs.Rising.{RisesFrom}
 use Rattle.routine.proofs.blocks_run.Given as goal
 
-abbrev pub invariant-loop-left : goal.invariant-loop-left
-invariant-loop-left l =
-    (both (ok (sight l.written l.sound) l.o) (walked (many block l.left) (many_bytes block_bytes) (every block_sound) l.s)
-    ≡ walked (many block l.count) (many_bytes block_bytes) (every block_sound) l.s l.at)
-    × (l.floor < TOP → RisesFrom l.s l.left l.o l.floor → RisesFrom l.s l.count l.at 0)
-    × Noting l.s l.at l.count l.turn l.left l.o l.from l.to
-
-abbrev pub decreases-loop-left : goal.decreases-loop-left
-decreases-loop-left l = l.left
+abbrev pub invariant-loop-passed : goal.invariant-loop-passed
+invariant-loop-passed l = record {
+  walk : left (walked block block_bytes block_sound l.s) l.seen (l.count - l.passed) l.end ≡ run (walked block block_bytes block_sound l.s) l.count l.at;
+  rises : l.floor < TOP → RisesFrom l.s (l.count - l.passed) l.end l.floor → RisesFrom l.s l.count l.at 0;
+  noting : Noting l.s l.at l.place l.passed l.end l.from l.to;
+}

@@ -1,6 +1,6 @@
 -- `undo_append::undo_append` meets its contract: at each place of the code, what is left of the definition's tests, with what the image's readers tell of
 -- the routine held.
-use mathlib.Core.Path.{◌≡◌, sym, ◌∙◌}
+use mathlib.Core.Path.{◌≡◌, sym, ◌∙◌, refl}
 use native.Mathlib.Omega.{arith}
 use Prim.Native.Nat.{ℕ, ◌+◌, ◌-◌, ◌≤◌, ◌<◌, ◌^◌}
 use lib.ListN.{length}
@@ -156,13 +156,13 @@ module _ (c : After-sum_of_instruction-less) where
 pub returns-then-blocks-place : goal.returns-then-blocks-place
 returns-then-blocks-place c =
     let here = goal.at.returns-then-blocks-place c in
-    refuses here.Start (c.refuse.ensures _ _ (omega arith))
+    refuses here.Start refl
     (U.tests _ _ ∙ unless_off 13 _ (le-ltb (T here.Start).place (length (R here.Start).explored_blocks) (omega (arith, c.if-blocks-place.true, counted here.After-blocks_of-blocks))))
 
 pub returns-then-word64-last : goal.returns-then-word64-last
 returns-then-word64-last c =
     let here = goal.at.returns-then-word64-last c in
-    refuses here.Start (c.refuse-then-word64-last.ensures _ _ (omega arith))
+    refuses here.Start refl
     (placed here.Else-blocks-place ∙ unless_off 13 _ (ne_eqb (B here.Start).vip (T here.Start).vip (λ e. omega (arith, c.if-word64-last.true, vip_read here.After-word64))))
 
 pub has_size-requires : goal.has_size-requires
@@ -171,12 +171,12 @@ has_size-requires c = let here = goal.at.has_size-requires c in ordered (R here.
 pub returns-then-not-has_size : goal.returns-then-not-has_size
 returns-then-not-has_size c =
     let here = goal.at.returns-then-not-has_size c in
-    refuses here.Start (c.refuse-then-not-has_size.ensures _ _ (omega arith)) (same-vip here.Else-word64-last ∙ unless_off 13 _ (sym (last-read here.After-has_size) ∙ c.if-not-has_size.true))
+    refuses here.Start refl (same-vip here.Else-word64-last ∙ unless_off 13 _ (sym (last-read here.After-has_size) ∙ c.if-not-has_size.true))
 
 pub returns-then-sum-less : goal.returns-then-sum-less
 returns-then-sum-less c =
     let here = goal.at.returns-then-sum-less c in
-    over here.Start _ (c.refuse-then-sum-less.ensures _ _ (omega arith) ∙ sum_spoiled (S here.Start) (R here.Start) (R' here.After-sum_of_instruction-less) (passed here.Else-not-has_size) (sum-short here.After-sum_of_instruction-less (omega (arith, c.if-sum-less.true))))
+    over here.Start _ (sum_spoiled (S here.Start) (R here.Start) (R' here.After-sum_of_instruction-less) (passed here.Else-not-has_size) (sum-short here.After-sum_of_instruction-less (omega (arith, c.if-sum-less.true))))
 
 pub overflow_sub-left : goal.overflow_sub-left
 overflow_sub-left c = let here = goal.at.overflow_sub-left c in omega (arith, inside (last_in here.Else-not-has_size), longer (last_in here.Else-not-has_size))
@@ -192,6 +192,5 @@ pub returns : goal.returns
 returns c =
     let here = goal.at.returns c in
     over here.Start _
-    (c.accept.ensures _ _
-    ∙ restored-to (S here.Start) (R here.Start) (R' here.After-sum_of_instruction-less) (passed here.Else-not-has_size) (sum_left here.After-sum_of_instruction-less (omega (arith, c.if-sum-less.false))) _ _ _ _ (sym (shortened-size (last_in here.Else-not-has_size)))
+    (restored-to (S here.Start) (R here.Start) (R' here.After-sum_of_instruction-less) (passed here.Else-not-has_size) (sum_left here.After-sum_of_instruction-less (omega (arith, c.if-sum-less.false))) _ _ _ _ (sym (shortened-size (last_in here.Else-not-has_size)))
     c.clear_trailer-before.ensures.0 (c.drop_instruction.ensures (R here.Start) (T here.Start).place (last_in here.Else-not-has_size)) c.clear_trailer-before.ensures.1)

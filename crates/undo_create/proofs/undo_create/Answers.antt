@@ -1,6 +1,6 @@
 -- `undo_create::undo_create` meets its contract: at each place of the code, what is left of the definition's tests, with what the image's readers tell of
 -- the routine held.
-use mathlib.Core.Path.{◌≡◌, sym, ◌∙◌}
+use mathlib.Core.Path.{◌≡◌, sym, ◌∙◌, refl}
 use native.Mathlib.Omega.{arith}
 use mathlib.Core.Bool.{true}
 use Prim.Native.Nat.{◌+◌, ◌≤◌, ◌<◌, ◌^◌}
@@ -129,18 +129,18 @@ ends_with c =
     }
 
 pub returns-then-last-ne0 : goal.returns-then-last-ne0
-returns-then-last-ne0 c = refuses (goal.at.returns-then-last-ne0 c).Start (c.refuse.ensures _ _ (omega arith)) (U.tests _ _ ∙ unless_off 13 _ (ne_eqb _ 0 c.if-last-ne0.true))
+returns-then-last-ne0 c = refuses (goal.at.returns-then-last-ne0 c).Start refl (U.tests _ _ ∙ unless_off 13 _ (ne_eqb _ 0 c.if-last-ne0.true))
 
 pub returns-then-place-blocks : goal.returns-then-place-blocks
 returns-then-place-blocks c =
     let here = goal.at.returns-then-place-blocks c in
-    refuses here.Start (c.refuse-then-place-blocks.ensures _ _ (omega arith))
+    refuses here.Start refl
     (empty here.Else-last-ne0 ∙ unless_off 13 _ (ne_eqb ((T here.Start).place + 1) (length (R here.Start).explored_blocks) (λ e. omega (arith, c.if-place-blocks.true, counted here.After-blocks_of-blocks))))
 
 pub returns-then-word64-last : goal.returns-then-word64-last
 returns-then-word64-last c =
     let here = goal.at.returns-then-word64-last c in
-    refuses here.Start (c.refuse-then-word64-last.ensures _ _ (omega arith))
+    refuses here.Start refl
     (last here.Else-place-blocks ∙ unless_off 13 _ (ne_eqb (B here.Start).vip (T here.Start).vip (λ e. omega (arith, c.if-word64-last.true, vip_read here.After-word64))))
 
 pub is_fresh-requires : goal.is_fresh-requires
@@ -149,7 +149,7 @@ is_fresh-requires c = let here = goal.at.is_fresh-requires c in let o = sound he
 pub returns-then-not-is_fresh : goal.returns-then-not-is_fresh
 returns-then-not-is_fresh c =
     let here = goal.at.returns-then-not-is_fresh c in
-    refuses here.Start (c.refuse-then-not-is_fresh.ensures _ _ (omega arith)) (same-vip here.Else-word64-last ∙ unless_off 13 _ (sym (fresh here.After-is_fresh) ∙ c.if-not-is_fresh.true))
+    refuses here.Start refl (same-vip here.Else-word64-last ∙ unless_off 13 _ (sym (fresh here.After-is_fresh) ∙ c.if-not-is_fresh.true))
 
 pub drop_block-requires : goal.drop_block-requires
 drop_block-requires c =
@@ -161,6 +161,5 @@ pub returns : goal.returns
 returns c =
     let here = goal.at.returns c in
     over here.Start _
-    (c.accept.ensures _ _
-    ∙ restored-to (S here.Start) (R here.Start) (up_to (R here.Start) (T here.Start).place) (passed here.Else-not-is_fresh) (sum_stays here.Else-not-is_fresh) _ _ _ _ (placed here.After-block_offset-at ∙ sym (up_to_size (R here.Start) (T here.Start).place (omega (arith, within here.Else-place-blocks))))
+    (restored-to (S here.Start) (R here.Start) (up_to (R here.Start) (T here.Start).place) (passed here.Else-not-is_fresh) (sum_stays here.Else-not-is_fresh) _ _ _ _ (placed here.After-block_offset-at ∙ sym (up_to_size (R here.Start) (T here.Start).place (omega (arith, within here.Else-place-blocks))))
     c.clear_trailer-before.ensures.0 (c.drop_block.ensures (R here.Start) (ends_with here.Else-not-is_fresh)) c.clear_trailer-before.ensures.1)

@@ -1,34 +1,32 @@
 -- The file check: the walk's answer as a signed number.
-use Rattle.std.proofs.Common.{◌≡◌, ℕ, List, Bool, sym, ap, ◌∙◌, arith, w64}
+use Rattle.std.proofs.Common.{◌≡◌, sym, ◌∙◌, ◌≤◌, arith, w64}
 use mir.ValLaws.{to_z-of_z}
-use Rattle.fields.specs.Parse.{ok, span}
-use Rattle.fields.specs.declared.Walked.{Walked}
-use Rattle.fields.specs.declared.Walked.TheVariants as wk
-use Rattle.fields.specs.Answers.{of_walked}
-use Rattle.fields.proofs.Steps.{handed}
-use Rattle.pod.specs.Layout.{routine, read_file}
+use Rattle.pod.specs.Layout.{routine}
 use Rattle.pod.specs.Sound.{routine_sound}
-use Rattle.pod.specs.Written.{routine_bytes, walked}
+use Rattle.pod.specs.Written.{routine_bytes}
 use Rattle.laws.proofs.Walks.{walked-past, walked-refused}
-use Rattle.vtil.proofs.Told.{ends, told-ok, told-no, within_limit}
+use Rattle.vtil.proofs.Told.{ends, told-ok, told-no, within_limit, at_most_21}
 use Rattle.vtil.proofs.vtil_check.Goals as goal
-
--- the walk accepts
-past : (file : List ℕ) {far : Walked} {n : ℕ} {a b : Bool} → of_walked far ≡ walked routine routine_bytes routine_sound file 0 → far ≡ wk.Past n a b → ok tt n ≡ span (read_file file)
-past file e h = walked-past routine routine_bytes routine_sound file 0 (sym e ∙ ap of_walked h)
+use Rattle.vtil.proofs.vtil_check.Goals.{After-from}
 
 pub signed-requires : goal.signed-requires
-signed-requires c = omega (arith, ends _ c.type_inv.file (past _ c.pass_file-far.ensures c.in-Past.is))
+signed-requires c = omega (arith, ends _ c.type_inv.file (walked-past routine routine_bytes routine_sound _ 0 (sym c.in-Ok.ensures)))
 
-pub returns-in-Past : goal.returns-in-Past
-returns-in-Past c =
+pub returns-in-Ok : goal.returns-in-Ok
+returns-in-Ok c =
     to_z-of_z w64 _ (record { sfits = c.signed.type_inv })
     ∙ c.signed.ensures
-    ∙ told-ok _ (past _ c.pass_file-far.ensures c.in-Past.is)
+    ∙ told-ok _ (walked-past routine routine_bytes routine_sound _ 0 (sym c.in-Ok.ensures))
     ∙ within_limit _ (omega arith)
 
-pub returns-in_default : goal.returns-in_default
-returns-in_default c =
-    told-no _ (omega arith)
-    (walked-refused routine routine_bytes routine_sound _ 0 (sym (handed (ap of_walked c.in_default.is) c.pass_file-far.ensures c.walked_refusal.ensures)))
+-- the refusal's number is small
+small : (c : After-from) → c.from.result ≤ 21
+small c = rw c.from.ensures (at_most_21 _)
+
+pub overflow_cast-result : goal.overflow_cast-result
+overflow_cast-result c = record { sfits = omega (arith, small c) }
+
+pub returns-in-Err : goal.returns-in-Err
+returns-in-Err c =
+    told-no _ {k = c.from.result} (omega (arith, small (goal.at.returns-in-Err c).After-from)) (rw c.from.ensures (walked-refused routine routine_bytes routine_sound _ 0 (sym c.in-Err.ensures)))
     ∙ within_limit _ (omega arith)

@@ -20,18 +20,18 @@ counted c =
     (e, (omega (arith, short k), omega (arith, size-name k)))
 
 pub loop-j-init : goal.loop-j-init
-loop-j-init c = (omega arith, rest_all _ _ _)
+loop-j-init c = rest_all _ _ _
 
 pub loop-j-preserved : goal.loop-j-preserved
 loop-j-preserved c =
     let n = counted (goal.at.loop-j-preserved c).After-name_len-n in
-    (omega arith, byte_more _ _ c.loop-j.invariant.1 (omega arith) (omega arith) c.name_byte.ensures)
+    byte_more _ _ c.loop-j.invariant (omega arith) (omega arith) c.name_byte.ensures
 
 pub returns : goal.returns
 returns c =
     let n = counted (goal.at.returns c).After-name_len-n in
     let k = c.args.k in
-    (omega (arith, size-name k), name-put k _ _ _ n.0 (byte-none _ c.loop-j.j c.loop-j.invariant.1 (omega arith) ∙ cc) (omega arith))
+    (omega (arith, size-name k), name-put k _ _ _ n.0 (byte-none _ c.loop-j.j c.loop-j.invariant (omega arith) ∙ cc) (omega arith))
 
 pub overflow_cast-n : goal.overflow_cast-n
 overflow_cast-n c = omega (arith, counted (goal.at.overflow_cast-n c).After-name_len-n)

@@ -1,4 +1,4 @@
-use Prim.Native.Nat.{◌+◌, ◌≤◌, ◌-◌}
+use Prim.Native.Nat.{◌+◌}
 use mathlib.Core.List.{[]}
 use lib.ListN.{get_or, drop}
 use Rattle.op.specs.Ops.{names}
@@ -6,7 +6,4 @@ use Rattle.writer.proofs.Rest.{Rest}
 use Rattle.writer.proofs.put_name.Given as goal
 
 abbrev pub invariant-loop-j : goal.invariant-loop-j
-invariant-loop-j l = (l.j ≤ l.n) × Rest (get_or names l.k []) 4 l.initial.image (drop l.j (get_or names l.k [])) (4 + l.j) l.image
-
-abbrev pub decreases-loop-j : goal.decreases-loop-j
-decreases-loop-j l = l.n - l.j
+invariant-loop-j l = Rest (get_or names l.k []) 4 l.initial.image (drop l.j (get_or names l.k [])) (4 + l.j) l.image

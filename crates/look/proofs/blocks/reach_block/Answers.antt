@@ -12,24 +12,24 @@ use Rattle.book.specs.Says.{state}
 use Rattle.image.proofs.Inspects.{Ready, ready}
 use Rattle.image.proofs.Stands.{blocks_at}
 use Rattle.ends.proofs.Same.{block_ends}
-use Rattle.look.proofs.Reaches.{element-no, element-read, hands_on, finds_none, comes_to}
+use Rattle.look.proofs.Reaches.{element-no, element-read, hands_on, goes_on, comes_to}
 use Rattle.look.proofs.blocks.reach_block.Goals as goal
-use Rattle.look.proofs.blocks.reach_block.Goals.{Else-refusal-ne0}
+use Rattle.look.proofs.blocks.reach_block.Goals.{In_ok-inspect}
 
-inspected : (c : Else-refusal-ne0) → let a = c.args in Ready (state a.image.now a.journal.now a.book)
-inspected c = ready _ c.type_inv.image c.inspect-refusal.ensures (omega (arith, c.if-refusal-ne0.false))
+inspected : (c : In_ok-inspect) → let a = c.args in Ready (state a.image.now a.journal.now a.book)
+inspected c = ready _ c.type_inv.image c.in_ok-inspect.ensures refl
 
-pub returns-then-refusal-ne0 : goal.returns-then-refusal-ne0
-returns-then-refusal-ne0 c = hands_on _ _ c.inspect-refusal.ensures (omega (arith, c.if-refusal-ne0.true))
+pub returns-in_err-inspect : goal.returns-in_err-inspect
+returns-in_err-inspect c = hands_on _ _ _ _ _ _ c.from_residual.ensures.1 c.in_err-inspect.ensures
 
 pub returns-then-blocks-place : goal.returns-then-blocks-place
 returns-then-blocks-place c =
-    let r = inspected (goal.at.returns-then-blocks-place c).Else-refusal-ne0 in
-    finds_none _ _ r.is (element-no _ r.routine.explored_blocks (omega (arith, (c.blocks_of-blocks.ensures r.routine r.holding).1, c.if-blocks-place.true)))
+    let r = inspected (goal.at.returns-then-blocks-place c).In_ok-inspect in
+    goes_on _ _ r.is ∙ element-no _ r.routine.explored_blocks (omega (arith, (c.blocks_of-blocks.ensures r.routine r.holding).1, c.if-blocks-place.true))
 
 pub returns : goal.returns
 returns c =
-    let r = inspected (goal.at.returns c).Else-refusal-ne0 in
+    let r = inspected (goal.at.returns c).In_ok-inspect in
     let e = c.blocks_of-blocks.ensures r.routine r.holding in
     let h : c.args.place < length r.routine.explored_blocks = omega (arith, e.1, c.if-blocks-place.false) in
     let bs = r.routine.explored_blocks in

@@ -7,18 +7,18 @@ use Rattle.look.proofs.Listing.{list-none}
 use Rattle.look.proofs.InConvention.{volatile-listed, param-listed, retval-listed}
 use Rattle.look.proofs.conventions.registers_of.Goals as goal
 
-pub returns-then-list-eq0 : goal.returns-then-list-eq0
-returns-then-list-eq0 c = λ k n e. volatile-listed c.type_inv.image _ e c.convention_at-convention.ensures c.args.list (omega arith)
+pub returns-in-0 : goal.returns-in-0
+returns-in-0 c = λ k n e. volatile-listed c.type_inv.image _ e c.convention_at-convention.ensures c.args.list c.in-0.is
 
-pub returns-then-list-eq1 : goal.returns-then-list-eq1
-returns-then-list-eq1 c = λ k n e. param-listed c.type_inv.image _ e c.convention_at-convention.ensures c.args.list (omega arith)
+pub returns-in-1 : goal.returns-in-1
+returns-in-1 c = λ k n e. param-listed c.type_inv.image _ e c.convention_at-convention.ensures c.args.list c.in-1.is
 
-pub returns-then-list-eq2 : goal.returns-then-list-eq2
-returns-then-list-eq2 c = λ k n e. retval-listed c.type_inv.image _ e c.convention_at-convention.ensures c.args.list (omega arith)
+pub returns-in-2 : goal.returns-in-2
+returns-in-2 c = λ k n e. retval-listed c.type_inv.image _ e c.convention_at-convention.ensures c.args.list c.in-2.is
 
-pub returns : goal.returns
+pub returns-in_default : goal.returns-in_default
 unfolding choose
-returns c =
+returns-in_default c =
     let k = c.args.list in
     λ b n e.
     list-none register _

@@ -1,6 +1,0 @@
--- `book::refuse` meets its contract: by what the struct says.
-use Rattle.book.proofs.Answers.{refuses}
-use Rattle.book.proofs.refuse.Goals as goal
-
-pub returns : goal.returns
-returns c = λ image journal h. refuses _ _ image journal h

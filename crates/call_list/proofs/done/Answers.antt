@@ -1,6 +1,0 @@
--- `call_list::done` meets its contract: by what the struct says.
-use mathlib.Core.Path.{refl}
-use Rattle.call_list.proofs.done.Goals as goal
-
-pub returns : goal.returns
-returns c = λ image journal. refl

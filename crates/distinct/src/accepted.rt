@@ -1,0 +1,11 @@
+// The blocks of a file that a walk accepted before.
+ghost use Rattle.fields.specs.Bytes.{Bytes};
+
+// `count` blocks, one after the other from `start` on.
+#[derive(Clone, Copy)]
+pub struct Blocks<'a> {
+    pub s: &'a [u8],
+    pub start: usize,
+    pub count: usize,
+    ghost bytes: { Bytes s.now },
+}

@@ -1,5 +1,0 @@
--- The turns are counted down.
-use Rattle.replay.proofs.replay_all.Given as goal
-
-abbrev pub decreases-loop-turns : goal.decreases-loop-turns
-decreases-loop-turns l = l.turns
