@@ -48,11 +48,11 @@ use Rattle.append.specs.Target.{Target, with_one}
 past : {A : Type 0} (q : Res A) (n : ℕ) → ok tt n ≡ span q → (x : A) × (q ≡ ok x n)
 unfolding span
 past (ok x m) n e = (x, cc)
-past (no k) n e = let z : ◌≡◌ {A = ℕ} 0 1 = cc in absurd (omega arith)
+past (no k) n e = cc
 
 not-past : {A : Type 0} (q : Res A) (e : ℕ) → no e ≡ span q → q ≡ no e
 unfolding span
-not-past (ok x m) e h = let z : ◌≡◌ {A = ℕ} 0 1 = cc in absurd (omega arith)
+not-past (ok x m) e h = cc
 not-past (no k) e h = cc
 
 module _ (t : List ℕ) where
@@ -179,7 +179,7 @@ module _ (r : Routine) (v : ℕ) (t : List ℕ) where
     where
       ends : (u : Bool) (x : Instruction) (rest : Outcome Routine) → (refuse_if u 17 >> accepted x) ≡ refused k → (refuse_if u 17 >> rest) ≡ refused k
       ends true x rest e = cc
-      ends false x rest e = let z : ◌≡◌ {A = ℕ} 0 1 = cc in absurd (omega arith)
+      ends false x rest e = cc
 
       go : (q : Res Instruction) (f : Instruction × ℕ → Outcome Routine)
           → (what_is_read q >>= λ x. (refuse_if (ltb x.1 (length t)) 17 >> accepted x.0)) ≡ refused k

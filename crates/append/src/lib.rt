@@ -75,10 +75,10 @@ fn is_closed(image: &[u8], last: LastInstruction) -> bool
     ensures { (x : Routine) (i : ℕ) → Holding image.now x → i < length x.explored_blocks → FindsLast x i last
         → result ≡ is_closed (block_at i x.explored_blocks) }
 {
-    if last.from == last.end {
-        return false;
+    match last.from {
+        Some(from) => leaves_block(instruction::op_of(image, from)),
+        None => false,
     }
-    leaves_block(instruction::op_of(image, last.from))
 }
 
 // The instruction that `instruction` is, and nothing after it, goes last in the block with the vip: what reading refuses, and 19, 17, 15, 18, then 11, 12, and 13
@@ -94,11 +94,9 @@ pub fn append(
     ensures { leaves book result image.new journal.new ≡ step (edit (append vip.0 instruction.now)) (state image.old journal.old book) }
 {
     one_instruction(instruction)?;
-    let found = image::find(image, vip);
-    let place = found.place;
-    if found.count as usize <= place {
+    let Some(found) = image::blocks_of(image).find(vip) else {
         return Err(Refusal::NoSuchBlock);
-    }
+    };
     let last = image::last_instruction(image, found.at);
     if is_closed(image, last) {
         return Err(Refusal::ClosedBlock);
@@ -114,7 +112,7 @@ pub fn append(
     insert_instruction(image, found.at, last.end, written, instruction);
     let trailer = Trailer {
         vip,
-        place: place as u32,
+        place: found.place,
         len: size as u32,
         kind: Edit::Append,
     };

@@ -13,6 +13,7 @@ use Rattle.machine.specs.Book.{State, book_answers, restored, unopened}
 use Rattle.machine.specs.Walk.{no_part}
 use Rattle.machine.specs.CallList.{Told}
 use Rattle.book.specs.declared.Book.{Book}
+use Rattle.book.specs.declared.lent.Lent.{Lent}
 use Rattle.book.specs.declared.Answer.{Answer}
 use Rattle.book.specs.declared.WalkAnswer.{WalkAnswer}
 use Rattle.book.specs.declared.HandedOut.{HandedOut}
@@ -23,6 +24,10 @@ book_of b = record { written = b.written; used = b.used; rates = b.rates.rate; s
 -- the state that a call finds
 abbrev pub state : List ℕ → List ℕ → Book → State
 state image journal b = record { image = image; journal = journal; book = book_of b }
+
+-- the same, of what is lent to be read
+abbrev pub state_of : Lent → State
+state_of l = state l.image.now l.journal.now l.book
 
 -- the answer and the state of an accepted call that leaves the state s
 abbrev pub leaving : State → machine.Answer × State

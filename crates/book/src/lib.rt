@@ -1,5 +1,5 @@
-// The book that a caller keeps, what a call on it answers, and the rates of a charge. What C sees of an answer is made here; and what edits test last is tested
-// here: 11 and 12.
+// The book that a caller keeps, what a call on it answers, and the rates of a charge. What C sees of an answer is made of it here, by `new` and
+// `opening`; and what edits test last is tested here: 11 and 12.
 #![tactic(auto)]
 
 ghost use Rattle.std.specs.Prelude.{◌≡◌, ◌+◌, ◌^◌, ◌≤◌, ◌<◌, List, ℕ, IfOk, IfErr};
@@ -7,7 +7,10 @@ ghost use Rattle.fields.specs.Answers.{number_in};
 ghost use Rattle.machine.specs.Edits as edits;
 ghost use Rattle.book.specs.Says.{outcome, walk_outcome, leaves, opens, hands, refusal_of};
 
+pub mod lent;
+
 use fields::Refusal;
+pub use lent::Lent;
 
 // The rates of the six groups of operations, in hundredths of a cent per instruction.
 #[repr(C)]

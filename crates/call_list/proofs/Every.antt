@@ -35,9 +35,9 @@ between_new t s =
 longer : (words t s : List ℕ) → is_call_list words t ≡ true → (is_call_list words (t ++ s) ≡ true) × (calls words (t ++ s) ≡ calls words t)
 unfolding is_call_list calls
 longer [] t s h = (refl, refl)
-longer (kind ∷ []) t s h = let z : ◌≡◌ {A = ℕ} 0 1 = cc in absurd (omega arith)
-longer (kind ∷ vip ∷ []) t s h = let z : ◌≡◌ {A = ℕ} 0 1 = cc in absurd (omega arith)
-longer (kind ∷ vip ∷ begin ∷ []) t s h = let z : ◌≡◌ {A = ℕ} 0 1 = cc in absurd (omega arith)
+longer (kind ∷ []) t s h = cc
+longer (kind ∷ vip ∷ []) t s h = cc
+longer (kind ∷ vip ∷ begin ∷ []) t s h = cc
 longer (kind ∷ vip ∷ begin ∷ end ∷ words) t s h =
     let a = both (leb kind 6) _ h in
     let b = both (leb begin end) _ a.1 in

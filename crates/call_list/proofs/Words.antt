@@ -53,9 +53,9 @@ left_over (kind ∷ vip ∷ begin ∷ end ∷ words) bytes r e h = absurd (omega
 enough : (words bytes : List ℕ) → 0 < length words → is_call_list words bytes ≡ true → 4 ≤ length words
 unfolding is_call_list
 enough [] bytes h s = absurd (omega arith)
-enough (kind ∷ []) bytes h s = let z : ◌≡◌ {A = ℕ} 0 1 = cc in absurd (omega arith)
-enough (kind ∷ vip ∷ []) bytes h s = let z : ◌≡◌ {A = ℕ} 0 1 = cc in absurd (omega arith)
-enough (kind ∷ vip ∷ begin ∷ []) bytes h s = let z : ◌≡◌ {A = ℕ} 0 1 = cc in absurd (omega arith)
+enough (kind ∷ []) bytes h s = cc
+enough (kind ∷ vip ∷ []) bytes h s = cc
+enough (kind ∷ vip ∷ begin ∷ []) bytes h s = cc
 enough (kind ∷ vip ∷ begin ∷ end ∷ words) bytes h s = omega arith
 
 module _ (words bytes : List ℕ) where

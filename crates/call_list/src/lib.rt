@@ -8,7 +8,7 @@ ghost use Rattle.machine.specs.CallList.{is_call_list, call_of, call_at, calls, 
 ghost use Rattle.call_list.specs.Says.{run_outcome, run_told};
 ghost use Rattle.call_list.specs.Runs.{Runs};
 
-use book::{Answer, Answered, Book, HandedOut, Rates, WalkAnswer};
+use book::{Answer, Answered, Book, HandedOut, Lent, Rates, WalkAnswer};
 use fields::Refusal;
 use pod::Vip;
 
@@ -105,9 +105,21 @@ fn call(
         1 => without_part(calls::remove_block(book, image, journal, vip)),
         2 => without_part(calls::append(book, image, journal, vip, bytes)),
         3 => without_part(calls::undo(book, image, journal)),
-        4 => without_part(walk::start(book, image, journal)),
-        5 => walk::next(book, image, journal),
-        _ => without_part(walk::abandon(book, image, journal)),
+        4 => without_part(walk::start(Lent {
+            book,
+            image,
+            journal,
+        })),
+        5 => walk::next(Lent {
+            book,
+            image,
+            journal,
+        }),
+        _ => without_part(walk::abandon(Lent {
+            book,
+            image,
+            journal,
+        })),
     }
 }
 

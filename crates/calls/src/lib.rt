@@ -8,14 +8,18 @@ ghost use Rattle.machine.specs.Machine.{edit, undo};
 ghost use Rattle.machine.specs.Book.{step};
 ghost use Rattle.book.specs.Says.{state, leaves};
 
-use book::{Answered, Book};
+use book::{Answered, Book, Lent};
 use pod::Vip;
 
 // A block with the vip goes last: 14 where it is present, then 11, 12.
 pub fn create_block(book: Book, image: &mut [u8], journal: &mut [u8], vip: Vip) -> Answered
     ensures { leaves book result image.new journal.new ≡ step (edit (create vip.0)) (state image.old journal.old book) }
 {
-    image::inspect(book, image, journal)?;
+    image::inspect(Lent {
+        book,
+        image,
+        journal,
+    })?;
     create::create_block(book, image, journal, vip)
 }
 
@@ -23,7 +27,11 @@ pub fn create_block(book: Book, image: &mut [u8], journal: &mut [u8], vip: Vip) 
 pub fn remove_block(book: Book, image: &mut [u8], journal: &mut [u8], vip: Vip) -> Answered
     ensures { leaves book result image.new journal.new ≡ step (edit (remove vip.0)) (state image.old journal.old book) }
 {
-    image::inspect_unwalked(book, image, journal)?;
+    image::inspect_unwalked(Lent {
+        book,
+        image,
+        journal,
+    })?;
     remove::remove_block(book, image, journal, vip)
 }
 
@@ -38,7 +46,11 @@ pub fn append(
 ) -> Answered
     ensures { leaves book result image.new journal.new ≡ step (edit (append vip.0 instruction.now)) (state image.old journal.old book) }
 {
-    image::inspect(book, image, journal)?;
+    image::inspect(Lent {
+        book,
+        image,
+        journal,
+    })?;
     append::append(book, image, journal, vip, instruction)
 }
 
@@ -47,6 +59,10 @@ pub fn append(
 pub fn undo(book: Book, image: &mut [u8], journal: &mut [u8]) -> Answered
     ensures { leaves book result image.new journal.new ≡ step undo (state image.old journal.old book) }
 {
-    image::inspect_unwalked(book, image, journal)?;
+    image::inspect_unwalked(Lent {
+        book,
+        image,
+        journal,
+    })?;
     undo::undo(book, image, journal)
 }

@@ -18,7 +18,6 @@ use Rattle.machine.specs.Look.{look_charge}
 use Rattle.book.specs.Holding.{blocks_start}
 use Rattle.image.proofs.Inspects.{Ready}
 use Rattle.image.proofs.Stands.{blocks_at}
-use Rattle.charge.specs.Answers.{charge_look}
 use Rattle.charge.specs.Sums.{Table, Summable}
 use Rattle.machine.proofs.Sums.{most_rate, sum-under}
 

@@ -11,11 +11,11 @@ ghost use Rattle.pod.specs.Layout.{instruction, block};
 ghost use Rattle.machine.specs.Charge.{group, total, rate_of, block_sum, cents};
 ghost use Rattle.machine.specs.Charge as charges;
 ghost use Rattle.machine.specs.Look.{look_charge};
-ghost use Rattle.book.specs.Says.{state};
+ghost use Rattle.book.specs.Says.{state_of};
 ghost use Rattle.charge.specs.Answers.{charge_look};
 ghost use Rattle.charge.specs.Sums.{Table, in_table, Sums, Summable};
 
-use book::{Book, Rates};
+use book::{Lent, Rates};
 use fields::Refusal;
 
 // The charge in whole cents. With a refusal they are 0.
@@ -137,22 +137,22 @@ fn cents_of(sum: u64) -> u64
 }
 
 // The charge in whole cents: 10, then 13.
-fn charge_in_cents(book: Book, image: &[u8], journal: &[u8], rates: Rates) -> Result<u64, Refusal>
-    ensures { of_result result ≡ look_charge rates.rate (state image.now journal.now book) }
+fn charge_in_cents(lent: Lent, rates: Rates) -> Result<u64, Refusal>
+    ensures { of_result result ≡ look_charge rates.rate (state_of lent.entry) }
 {
-    image::inspect(book, image, journal)?;
+    image::inspect(lent)?;
     let mut table = [0; 49];
     fill(&mut table, rates);
-    let blocks = image::blocks_of(image);
-    let all = blocks_sum(image, blocks.start, blocks.count, &table);
+    let blocks = image::blocks_of(lent.image);
+    let all = blocks_sum(lent.image, blocks.start, blocks.count, &table);
     Ok(cents_of(all.sum))
 }
 
 // The charge, as C sees it.
-pub fn charge(book: Book, image: &[u8], journal: &[u8], rates: Rates) -> ChargeLook
-    ensures { result ≡ charge_look (look_charge rates.rate (state image.now journal.now book)) }
+pub fn charge(lent: Lent, rates: Rates) -> ChargeLook
+    ensures { result ≡ charge_look (look_charge rates.rate (state_of lent.entry)) }
 {
-    match charge_in_cents(book, image, journal, rates) {
+    match charge_in_cents(lent, rates) {
         Ok(cents) => ChargeLook { refusal: 0, cents },
         Err(refusal) => ChargeLook {
             refusal: u64::from(refusal),

@@ -37,11 +37,11 @@ pub fn create_block(book: Book, image: &mut [u8], journal: &mut [u8], vip: Vip) 
 {
     let written = book.written as usize;
     let used = book.used as usize;
-    let found = image::find(image, vip);
-    let count = found.count;
-    if found.place < count as usize {
+    let blocks = image::blocks_of(image);
+    if blocks.find(vip).is_some() {
         return Err(Refusal::BlockPresent);
     }
+    let count = blocks.count;
     let grown = written + ends::EMPTY_BLOCK_SIZE;
     let spent = used + journal::TRAILER_SIZE;
     book::admit(image.len(), journal.len(), grown, spent)?;

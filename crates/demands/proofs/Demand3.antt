@@ -1,12 +1,14 @@
 -- Demand 3, whole. Answers, image and book from the invariant at the list's end; books told apart since a written form is of one routine;
 -- taking back from what stays on the stack.
 -- Assumes nothing.
-use mathlib.Core.Path.{◌≡◌, sym, ap, ap₂, ◌∙◌}
-use mathlib.Core.Bool.{true}
+use mathlib.Core.Path.{◌≡◌, refl, sym, ap, ap₂, ◌∙◌}
+use mathlib.Core.Bool.{true, false, ◌||◌}
 use mathlib.Core.List.{List, [], ◌∷◌, ◌++◌}
-use Prim.Native.Nat.{ℕ, ◌≤◌}
-use native.Mathlib.Omega.{arith}
+use Prim.Native.Nat.{ℕ}
 use lib.ListN.{length, take}
+use lib.Dec.{eqb}
+use borrow.Author.Tests.{eqb-false}
+use Rattle.std.proofs.lemmas.Bool.{or_parts}
 use Rattle.fields.specs.Outcome.{Outcome, refused, accepted, ◌>>◌}
 use Rattle.fields.specs.Lists.{Each}
 use Rattle.pod.specs.Written.{routine_bytes}
@@ -29,32 +31,26 @@ use Rattle.demands.proofs.Stacks.{each_append, run-append, Along, run_along, und
 
 -- the machine answers neither 10 nor 13
 abbrev SoundRefusal : ℕ → Type 0
-SoundRefusal e = (e ≡ 10 → ⊥) × (e ≡ 13 → ⊥)
-
-other : (e : ℕ) → e ≤ 9 → SoundRefusal e
-other e h = (λ q. omega arith, λ q. omega arith)
+SoundRefusal e = (eqb e 10 || eqb e 13) ≡ false
 
 edited_unspoiled : (e : Edit) (m : Machine) → Only SoundRefusal (edited e m.now)
-edited_unspoiled (create v) m = created-only (λ q. omega arith, λ q. omega arith) v m.now
-edited_unspoiled (remove v) m = removed-only (λ q. omega arith, λ q. omega arith) v m.now
-edited_unspoiled (append v s) m =
-    appended-only (λ q. omega arith, λ q. omega arith) (λ q. omega arith, λ q. omega arith) (λ q. omega arith, λ q. omega arith) v s
-    (an_appended s (other _ (omega arith)) (other _ (omega arith)) (other _ (omega arith)) (other _ (omega arith)) (other _ (omega arith)) (other _ (omega arith))
-    (λ q. omega arith, λ q. omega arith) 0) m.now
+edited_unspoiled (create v) m = created-only refl v m.now
+edited_unspoiled (remove v) m = removed-only refl v m.now
+edited_unspoiled (append v s) m = appended-only refl refl refl v s (an_appended s refl refl refl refl refl refl refl 0) m.now
 
 module _ (lent : Lengths) where
   call_unspoiled : (c : Call) (m : Machine) → Only SoundRefusal (machine_call lent c m)
   unfolding machine_call machine_walk
-  call_unspoiled (edit e) m = machine-edit-only (λ q. omega arith, λ q. omega arith) (λ q. omega arith, λ q. omega arith) lent e m (edited_unspoiled e m)
-  call_unspoiled undo m = machine-undo-only (λ q. omega arith, λ q. omega arith) m.walk m.stack
+  call_unspoiled (edit e) m = machine-edit-only refl refl lent e m (edited_unspoiled e m)
+  call_unspoiled undo m = machine-undo-only refl m.walk m.stack
   call_unspoiled (walking w) m = accepts _
 
   permitted_unspoiled : (c : Call) (m : Machine) → Only SoundRefusal (permit c m.walk >> machine_call lent c m)
-  permitted_unspoiled c m = next _ _ (permit-only m.walk (λ q. omega arith, λ q. omega arith) (λ q. omega arith, λ q. omega arith) c) λ u. call_unspoiled c m
+  permitted_unspoiled c m = next _ _ (permit-only m.walk refl refl c) λ u. call_unspoiled c m
 
   unspoiled : {A : Type 0} (q : Outcome A) → Only SoundRefusal q → Unspoiled q
   unspoiled (accepted a) h = tt
-  unspoiled (refused e) h = h.refusal e (λ i. refused e)
+  unspoiled (refused e) h = let p = or_parts _ _ (h.refusal e refl) in (eqb-false e 10 p.0, eqb-false e 13 p.1)
 
   run_unspoiled : (cs : List Call) (m : Machine) → Each Unspoiled (machine_run lent cs m).0
   unfolding machine_run machine_step

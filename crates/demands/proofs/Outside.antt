@@ -3,7 +3,7 @@
 -- the layouts hold too.
 -- Assumes nothing.
 use mathlib.Core.Path.{◌≡◌, refl, sym, ap, ap₂, ◌∙◌}
-use mathlib.Core.List.{List, [], ◌∷◌, ◌++◌, map}
+use mathlib.Core.List.{List, [], ◌∷◌, ◌++◌, map, map-map}
 use Prim.Native.Nat.{ℕ, ◌-◌}
 use native.Mathlib.Omega.{arith}
 use lib.ListN.{length, length-map}
@@ -14,7 +14,7 @@ use Rattle.fields.specs.Parse.{ok}
 use Rattle.fields.specs.Outcome.{Outcome, refused, accepted, after, ◌>>◌, refuse_unless, attempt}
 use Rattle.fields.proofs.Outcomes.{unless_passed, attempt_was, not-both}
 use Rattle.pod.specs.Values.{Instruction, BasicBlock, Routine}
-use Rattle.pod.specs.Blocks.{vips, repeats}
+use Rattle.pod.specs.Blocks.{repeats}
 use Rattle.pod.specs.Layout.{read_file}
 use Rattle.pod.specs.Written.{routine_bytes}
 use Rattle.pod.specs.declared.ImmediateDesc.{ImmediateDesc}
@@ -41,8 +41,8 @@ module _ {A : Type 0} (mask : A → A) where
   -- and the other way round
   masked_alike : {R : A → A → Type 0} → ((x y : A) → mask x ≡ mask y → R x y) → (xs ys : List A) → map mask xs ≡ map mask ys → Pairwise R xs ys
   masked_alike k [] [] q = tt
-  masked_alike k [] (y ∷ ys) q = let z : ◌≡◌ {A = ℕ} 0 1 = cc in absurd (omega arith)
-  masked_alike k (x ∷ xs) [] q = let z : ◌≡◌ {A = ℕ} 0 1 = cc in absurd (omega arith)
+  masked_alike k [] (y ∷ ys) q = cc
+  masked_alike k (x ∷ xs) [] q = cc
   masked_alike k (x ∷ xs) (y ∷ ys) q = (k x y (cc), masked_alike k xs ys (cc))
 
   -- what the layouts hold of each element they hold of each masked
@@ -74,8 +74,8 @@ operand_alike : (x y : Operand) → mask_operand x ≡ mask_operand y → Operan
 operand_alike (Imm i) (Imm j) q =
     let e : ◌≡◌ {A = ImmediateDesc} (record { value = 0; bit_count = i.bit_count }) (record { value = 0; bit_count = j.bit_count }) = cc in
     ap (λ x. x.bit_count) e
-operand_alike (Imm i) (Reg y) q = let z : ◌≡◌ {A = ℕ} 0 1 = cc in absurd (omega arith)
-operand_alike (Reg x) (Imm j) q = let z : ◌≡◌ {A = ℕ} 0 1 = cc in absurd (omega arith)
+operand_alike (Imm i) (Reg y) q = cc
+operand_alike (Reg x) (Imm j) q = cc
 operand_alike (Reg x) (Reg y) q = cc
 
 instruction_alike : (i j : Instruction) → mask_instruction i ≡ mask_instruction j → InstructionsAlike i j
@@ -140,10 +140,6 @@ block-holds b h =
       next = h.next;
     }
 
-vips-kept : (bs : List BasicBlock) → vips (map mask_block bs) ≡ vips bs
-vips-kept [] = refl
-vips-kept (b ∷ bs) = ap (λ vs. b.vip ∷ vs) (vips-kept bs)
-
 routine-holds : (r : Routine) → RoutineHolds r → RoutineHolds (masked r)
 routine-holds r h =
     record {
@@ -154,7 +150,7 @@ routine-holds r h =
       special = h.special;
       blocks = record {
         listed = list-masked mask_block block-holds r.explored_blocks h.blocks.listed;
-        distinct = ap repeats (vips-kept r.explored_blocks) ∙ h.blocks.distinct;
+        distinct = ap repeats (map-map (λ b. b.vip) mask_block r.explored_blocks) ∙ h.blocks.distinct;
       };
     }
 

@@ -5,16 +5,15 @@
 use mathlib.Core.Path.{◌≡◌, refl, sym, ap, ◌∙◌}
 use mathlib.Core.Bool.{Bool, true, false}
 use mathlib.Core.List.{List, [], ◌∷◌, ◌++◌}
-use Prim.Native.Nat.{ℕ, suc, ◌-◌, ◌≤◌, ◌<◌}
+use Prim.Native.Nat.{ℕ, zero, suc, ◌-◌, ◌≤◌, ◌<◌}
 use native.Mathlib.Omega.{arith}
-use lib.ListN.{length, take, get_or, get_or-map}
+use lib.ListN.{length, take, get_or, get_or-map, length-map}
 use lib.Seq.{take-suc, take-length}
 use lib.Dec.{ltb, eqb}
-use borrow.Author.Tests.{ltb-true, ltb-false, lt-ltb, eqb-true, eqb-false, ne_eqb}
+use borrow.Author.Tests.{ltb-true, ltb-false, lt-ltb, eqb-true, ne_eqb}
 use Rattle.fields.specs.Bytes.{Bytes}
 use Rattle.fields.specs.Lists.{choose, Each}
 use Rattle.fields.specs.Outcome.{refused, accepted, refuse_if}
-use Rattle.fields.proofs.Outcomes.{not-both}
 use Rattle.pod.specs.Values.{BasicBlock, Routine}
 use Rattle.pod.specs.Blocks.{vips, repeats}
 use Rattle.pod.specs.Written.{block_bytes}
@@ -34,20 +33,17 @@ use Rattle.demands.specs.Sending.{cut, Message, is_end, receive, received, sent,
 use Rattle.demands.proofs.Openings.{small, journal_small, fresh-sim}
 use Rattle.demands.proofs.Stacks.{run-append, refused-same, edit-made, walk-made, undo-walk}
 use Rattle.demands.proofs.Demand3.{simulated}
-use Rattle.demands.proofs.Vips.{length-vips, vip-there, place_is, edit-before}
+use Rattle.demands.proofs.Vips.{vip-there, place_is, edit-before}
 
 -- next and abandon are allowed only where a walk is open
 was_open : (n : ℕ) → refuse_if (eqb n 0) 21 ≡ accepted tt → n ≡ suc (n - 1)
 unfolding refuse_if choose
-was_open n = go (eqb n 0) refl
-  where
-    go : (t : Bool) → eqb n 0 ≡ t → refuse_if t 21 ≡ accepted tt → n ≡ suc (n - 1)
-    go true e q = not-both q
-    go false e q = let d = eqb-false n 0 e in omega arith
+was_open zero q = cc
+was_open (suc n) q = omega arith
 
 -- what is refused adds nothing
 receive-refused : (c : Call) (a : Answer) (earlier : List Call) (image : List ℕ) (got : List Message) → is_accepted a ≡ false → receive c a earlier image got ≡ got
-receive-refused c (accepted a) earlier image got h = let z : ◌≡◌ {A = ℕ} 0 1 = cc in absurd (omega arith)
+receive-refused c (accepted a) earlier image got h = cc
 receive-refused (edit e) (refused k) earlier image got h = refl
 receive-refused undo (refused k) earlier image got h = refl
 receive-refused (walking walk_start) (refused k) earlier image got h = refl
@@ -109,7 +105,7 @@ module _ (o : Opening) where
     -- at a place with a block, the messages and one more
     sent_one : (q : ℕ) → before.walk ≡ suc q → q < length blocks → AllSent o (take (suc q) (vips blocks)) (got ++ (message q ∷ []))
     sent_one q e l =
-        let k : q < length (vips blocks) = omega (arith, length-vips blocks) in
+        let k : q < length (vips blocks) = omega (arith, length-map blocks (λ b. b.vip)) in
         let w : get_or (vips blocks) q 0 ≡ (block_at q blocks).vip = get_or-map (λ b. b.vip) blocks q (empty_block 0) in
         rw (take-suc (vips blocks) q 0 k, w) (sent_snoc (take q (vips blocks)) got (block_at q blocks).vip (message q) (g q e) (stood q l))
 
@@ -176,7 +172,7 @@ module _ (o : Opening) where
 
     pub every_block : is_end (next_answer o cs (walking walk_next)) ≡ true → AllSent o (vips (blocks_after o cs)) (sent o cs)
     every_block h =
-        let n = length-vips (blocks_after o cs) in
+        let n = length-map (blocks_after o cs) (λ b. b.vip) in
         let e : take (count after.now) (vips (blocks_after o cs)) ≡ vips (blocks_after o cs)
         = ap (λ k. take k (vips (blocks_after o cs))) (sym n) ∙ take-length (vips (blocks_after o cs)) in
         rw e at (all_so_far (count after.now) (at_end h))

@@ -1,14 +1,13 @@
 -- The machine's undo stack over a list of calls is the stack of edits that stand: each of its items is the routine, and what is below it the stack, that
 -- the machine had after the calls before that edit. By following the calls.
 -- Assumes nothing.
-use mathlib.Core.Path.{◌≡◌, refl, sym, ap, ◌∙◌}
+use mathlib.Core.Path.{◌≡◌, refl, ap, ◌∙◌}
 use mathlib.Core.Bool.{Bool, true, false}
 use mathlib.Core.List.{List, [], ◌∷◌, ◌++◌}
 use Prim.Native.Nat.{ℕ, ◌+◌}
-use native.Mathlib.Omega.{arith}
 use Rattle.fields.specs.Outcome.{refused, accepted, after, ◌>>◌, attempt}
 use Rattle.fields.specs.Lists.{Each}
-use Rattle.fields.proofs.Outcomes.{not-both, unaltered, came, attempt_was}
+use Rattle.fields.proofs.Outcomes.{unaltered, came, attempt_was}
 use Rattle.pod.specs.Values.{Routine}
 use Rattle.machine.specs.Edits.{size, Edit, edited, cost, Lengths, admit}
 use Rattle.machine.specs.Walk.{Walk, closed, walked_on}
@@ -19,14 +18,10 @@ use Rattle.demands.specs.Demand3.{is_accepted, settle, standing}
 
 pub was_accepted : (a : Answer) → is_accepted a ≡ true → (r : Reply) × (a ≡ accepted r)
 was_accepted (accepted r) h = (r, refl)
-was_accepted (refused k) h = let z : ◌≡◌ {A = ℕ} 0 1 = cc in absurd (omega arith)
-
--- what was accepted is one thing
-accepted-one : {A : Type 0} {x y : A} → accepted x ≡ accepted y → x ≡ y
-accepted-one e = cc
+was_accepted (refused k) h = cc
 
 was_refused : (a : Answer) → is_accepted a ≡ false → (e : ℕ) × (a ≡ refused e)
-was_refused (accepted r) h = let z : ◌≡◌ {A = ℕ} 0 1 = cc in absurd (omega arith)
+was_refused (accepted r) h = cc
 was_refused (refused k) h = (k, refl)
 
 -- parts of a list
@@ -65,8 +60,8 @@ module _ (lent : Lengths) where
       let y = was_made (edit e) m h in
       let x = came (edited e m.now) _ y.2 in
       let z = came (admit lent (size x.0) (used_by m.stack + cost e m.now)) _ x.2 in
-      let w : _ ≡ y.1 = accepted-one z.2 in
-      (y.0, x.0, x.1, y.3 ∙ sym (ap (λ x. x.1) w))
+      let made = z.2 in
+      (y.0, x.0, x.1, cc)
 
   -- an accepted call of a walk: it was permitted, what it answers, and the machine after it
   pub walk-made : (w : Walk) (m : Machine) → is_accepted (machine_step lent (walking w) m).0 ≡ true
@@ -85,17 +80,6 @@ module _ (lent : Lengths) where
   unfolding permit
   undo-closed m h = was_closed m.walk (was_made undo m h).0
 
-  -- and leaves none open
-  pub undo-walk : (m : Machine) → is_accepted (machine_step lent undo m).0 ≡ true → (machine_step lent undo m).1.walk ≡ closed
-  unfolding machine_call machine_undo
-  undo-walk m h =
-      let y = was_made undo m h in
-      ap (λ n. n.walk) y.3 ∙ go m.stack y.2 ∙ undo-closed m h
-    where
-      go : (ps : Stack) {x : Reply × Machine} → machine_undo m.walk ps ≡ accepted x → x.1.walk ≡ m.walk
-      go [] q = not-both q
-      go (p ∷ ps) q = ap (λ x. x.1.walk) (sym (accepted-one q))
-
   -- where none is open it takes the top off
   undo-stack : (m : Machine) (p : Routine × ℕ) (ps : Stack) → m.walk ≡ closed → m.stack ≡ p ∷ ps
       → (is_accepted (machine_step lent undo m).0 ≡ true) × ((machine_step lent undo m).1 ≡ record { now = p.0; stack = ps; walk = m.walk })
@@ -105,6 +89,19 @@ module _ (lent : Lengths) where
   undo-none : (m : Machine) → m.walk ≡ closed → m.stack ≡ [] → is_accepted (machine_step lent undo m).0 ≡ false
   unfolding machine_step machine_call machine_undo attempt after
   undo-none m z e = rw (undo_permitted m.walk z, e)
+
+  -- so an accepted one found a top and took it off, and leaves no walk open
+  undo-top : (m : Machine) → is_accepted (machine_step lent undo m).0 ≡ true
+      → (p : Routine × ℕ) × (ps : Stack) × (m.stack ≡ p ∷ ps) × ((machine_step lent undo m).1 ≡ record { now = p.0; stack = ps; walk = m.walk })
+  undo-top m h = go m.stack refl
+    where
+      go : (st : Stack) → m.stack ≡ st
+          → (p : Routine × ℕ) × (ps : Stack) × (m.stack ≡ p ∷ ps) × ((machine_step lent undo m).1 ≡ record { now = p.0; stack = ps; walk = m.walk })
+      go [] e = let n = undo-none m (undo-closed m h) e in cc
+      go (p ∷ ps) e = (p, ps, e, (undo-stack m p ps (undo-closed m h) e).1)
+
+  pub undo-walk : (m : Machine) → is_accepted (machine_step lent undo m).0 ≡ true → (machine_step lent undo m).1.walk ≡ closed
+  undo-walk m h = ap (λ n. n.walk) (undo-top m h).3 ∙ undo-closed m h
 
   -- a call of a walk leaves the stack
   walk-stack : (w : Walk) (m : Machine) → is_accepted (machine_step lent (walking w) m).0 ≡ true → (machine_step lent (walking w) m).1.stack ≡ m.stack
@@ -132,15 +129,8 @@ module _ (lent : Lengths) where
         → Along (settle t earlier c ps) (machine_step lent c (after_list earlier)).1.stack
     call_along earlier f ps a c false h = rw (refused-same c (after_list earlier) h) a
     call_along earlier f ps a (edit e) true h = rw (edit-stack e (after_list earlier) h) (record { routine = refl; rest = refl; sent = f }, a)
-    call_along earlier f ps a undo true h = go (after_list earlier).stack refl ps a
-      where
-        none_open : (after_list earlier).walk ≡ closed
-        none_open = undo-closed (after_list earlier) h
-
-        go : (st : Stack) → (after_list earlier).stack ≡ st → (ps : List (List Call)) → Along ps st → Along (settle true earlier undo ps) (machine_step lent undo (after_list earlier)).1.stack
-        go [] e ps a = let n = undo-none (after_list earlier) none_open e in let z : ◌≡◌ {A = ℕ} 0 1 = cc in absurd (omega arith)
-        go (x ∷ xs) e [] a = elim a [ ]
-        go (x ∷ xs) e (p ∷ ps) a = rw (undo-stack (after_list earlier) x xs none_open e).1 a.1
+    call_along earlier f [] a undo true h = elim (rw (undo-top (after_list earlier) h).2 at a) [ ]
+    call_along earlier f (p ∷ ps) a undo true h = let y = undo-top (after_list earlier) h in rw y.3 (rw y.2 at a).1
     call_along earlier f ps a (walking w) true h = rw (walk-stack w (after_list earlier) h) a
 
     pub run_along : (earlier : List Call) → Each Sendable earlier → (ps : List (List Call)) → Along ps (after_list earlier).stack → (cs : List Call) → Each Sendable cs
@@ -156,11 +146,7 @@ module _ (lent : Lengths) where
     -- where a take back is accepted, an edit stands
     pub top_stands : (cs : List Call) (ps : List (List Call)) → Along ps (after_list cs).stack → is_accepted (machine_step lent undo (after_list cs)).0 ≡ true
         → (p : List Call) × (qs : List (List Call)) × (ps ≡ p ∷ qs)
-    top_stands cs [] a h = go (after_list cs).stack refl a
-      where
-        go : (st : Stack) → (after_list cs).stack ≡ st → Along [] st → (p : List Call) × (qs : List (List Call)) × ([] ≡ p ∷ qs)
-        go [] e a = let n = undo-none (after_list cs) (undo-closed (after_list cs) h) e in let z : ◌≡◌ {A = ℕ} 0 1 = cc in absurd (omega arith)
-        go (_ ∷ _) e a = elim a [ ]
+    top_stands cs [] a h = elim (rw (undo-top (after_list cs) h).2 at a) [ ]
     top_stands cs (p ∷ qs) a h = (p, qs, refl)
 
     -- where one stands and no walk is open, a take back is accepted, and the machine is as it was before it, but for a walk

@@ -71,7 +71,7 @@ module _ (s : List ℕ) where
           let z : o + k ≡ n = cc in
           let y : o + k ≤ length s = leb-true _ _ q in
           record { is = sym z; in_s = omega arith }
-      go false q p = let z : ◌≡◌ {A = ℕ} 0 1 = cc in absurd (omega arith)
+      go false q p = cc
 
   flag_end : (o : ℕ) {v : Bool} {n : ℕ} → flag s o ≡ ok v n → Further s o 1 n
   unfolding flag
@@ -111,7 +111,7 @@ module _ (s : List ℕ) where
           let b = inv (register s m) _ p in
           let y : b.1 ≡ n = (inv_ok b.3).1 in
           reg_end s o (λ w. z (sym (u_word 4 o u) ∙ w)) ∙ ap (λ i. jump s i 24) (jumps (u_end 4 o u)) ∙ jumps (register_end m b.2) ∙ y
-      go₂ k m false u z f p = let y : ◌≡◌ {A = ℕ} 0 1 = cc in absurd (omega arith)
+      go₂ k m false u z f p = cc
 
       go : (k m : ℕ) (t : Bool) → uint 4 s o ≡ ok k m → eqb k 0 ≡ t
           → choose t (bind (immediate s m) (λ i j. ok (Imm i) j)) (choose (eqb k 1) (bind (register s m) (λ r j. ok (Reg r) j)) (no 6)) ≡ ok x n → operand_end s o ≡ n

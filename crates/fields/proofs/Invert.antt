@@ -11,14 +11,14 @@ pub inv : {A B : Type 0} (q : Res A) (f : A → ℕ → Res B) {b : B} {n : ℕ}
     → (a : A) × (m : ℕ) × (q ≡ ok a m) × (f a m ≡ ok b n)
 unfolding bind
 inv (ok a m) f e = (a, m, refl, e)
-inv (no k) f e = let z : ◌≡◌ {A = ℕ} 0 1 = cc in absurd (omega arith)
+inv (no k) f e = cc
 
 -- a test was passed
 pub inv_check : {B : Type 0} (t : Bool) (o k : ℕ) (f : Unit {0} → ℕ → Res B) {b : B} {n : ℕ} → bind (choose t (ok tt o) (no k)) f ≡ ok b n
     → (t ≡ true) × (f tt o ≡ ok b n)
 unfolding bind choose
 inv_check true o k f e = (refl, e)
-inv_check false o k f e = let z : ◌≡◌ {A = ℕ} 0 1 = cc in absurd (omega arith)
+inv_check false o k f e = cc
 
 -- two names of one answer
 pub inv_ok : {A : Type 0} {a b : A} {m n : ℕ} → ok a m ≡ ok b n → (a ≡ b) × (m ≡ n)
@@ -28,9 +28,9 @@ inv_ok e = (cc, cc)
 pub inv_span : {A : Type 0} (p : Res A) {n : ℕ} → ok tt n ≡ span p → (a : A) × (p ≡ ok a n)
 unfolding span
 inv_span (ok a m) {n} e = let z : n ≡ m = cc in (a, ap (ok a) (sym z))
-inv_span (no k) e = let z : ◌≡◌ {A = ℕ} 0 1 = cc in absurd (omega arith)
+inv_span (no k) e = cc
 
 pub inv_span_no : {A : Type 0} (p : Res A) {k : ℕ} → no k ≡ span p → p ≡ no k
 unfolding span
-inv_span_no (ok a m) e = let z : ◌≡◌ {A = ℕ} 0 1 = cc in absurd (omega arith)
+inv_span_no (ok a m) e = cc
 inv_span_no (no j) {k} e = let z : j ≡ k = cc in ap no z

@@ -31,38 +31,38 @@ module _ {A : Type 0} (e : ℕ) (q : Outcome A) where
   pub unless_passed : (t : Bool) {a : A} → (refuse_unless t e >> q) ≡ accepted a → (t ≡ true) × (q ≡ accepted a)
   unfolding refuse_unless choose after
   unless_passed true h = (refl, h)
-  unless_passed false h = let z : ◌≡◌ {A = ℕ} 0 1 = cc in absurd (omega arith)
+  unless_passed false h = cc
 
   pub if_passed : (t : Bool) {a : A} → (refuse_if t e >> q) ≡ accepted a → (t ≡ false) × (q ≡ accepted a)
   unfolding refuse_if choose after
-  if_passed true h = let z : ◌≡◌ {A = ℕ} 0 1 = cc in absurd (omega arith)
+  if_passed true h = cc
   if_passed false h = (refl, h)
 
 -- and each step was accepted
 pub came : {A B : Type 0} (x : Outcome A) (f : A → Outcome B) {b : B} → (x >>= f) ≡ accepted b → (a : A) × (x ≡ accepted a) × (f a ≡ accepted b)
 unfolding after
-came (refused k) f h = let z : ◌≡◌ {A = ℕ} 0 1 = cc in absurd (omega arith)
+came (refused k) f h = cc
 came (accepted a) f h = (a, refl, h)
 
 pub was_read : {A : Type 0} (x : Res A) {p : A × ℕ} → what_is_read x ≡ accepted p → x ≡ ok p.0 p.1
 unfolding what_is_read
 was_read (ok a n) h = cc
-was_read (no e) h = let z : ◌≡◌ {A = ℕ} 0 1 = cc in absurd (omega arith)
+was_read (no e) h = cc
 
 -- an answer is no refusal and a value at once
 pub not-both : {A : Type 0} {B : Type 0} {k : ℕ} {a : A} → ◌≡◌ {A = Outcome A} (refused k) (accepted a) → B
-not-both q = let z : ◌≡◌ {A = ℕ} 0 1 = cc in absurd (omega arith)
+not-both q = cc
 
 -- Whatever the call, a refused attempt leaves the state as it was
 pub unaltered : {A S : Type 0} (s : S) (x : Outcome (A × S)) {e : ℕ} → (attempt s x).0 ≡ refused e → (attempt s x).1 ≡ s
 unfolding attempt
 unaltered s (refused k) h = refl
-unaltered s (accepted y) h = let z : ◌≡◌ {A = ℕ} 0 1 = cc in absurd (omega arith)
+unaltered s (accepted y) h = cc
 
 -- and an accepted one leaves what the call made
 pub attempt_was : {A S : Type 0} (s : S) (x : Outcome (A × S)) {a : A} → (attempt s x).0 ≡ accepted a → (t : S) × (x ≡ accepted (a, t)) × ((attempt s x).1 ≡ t)
 unfolding attempt
-attempt_was s (refused k) h = let z : ◌≡◌ {A = ℕ} 0 1 = cc in absurd (omega arith)
+attempt_was s (refused k) h = cc
 attempt_was s (accepted y) {a} h = let e : y.0 ≡ a = cc in (y.1, ap (λ b. accepted (b, y.1)) e, refl)
 
 module _ {A S : Type 0} (s : S) {x : Outcome (A × S)} where

@@ -10,7 +10,7 @@ use native.Mathlib.Omega.{arith}
 use lib.Dec.{eqb}
 use lib.ListN.{length, take, drop, take-append-drop}
 use borrow.Author.Tests.{le-leb, lt-leb, eq-eqb, ne_eqb, eqb-true, eqb-false}
-use Rattle.std.proofs.Common.{Result}
+use Rattle.std.proofs.Common.{Result, Option, Some, None}
 use Rattle.std.specs.Result.{IsErrAnd}
 use Rattle.std.proofs.lemmas.Result.{err_from_is_err_and}
 use Rattle.fields.specs.Refusals.{number}
@@ -44,6 +44,7 @@ pub use Rattle.machine.proofs.Held.{held-sound, sound-held}
 pub use Rattle.book.proofs.Answers.{refused-by, accepted-by}
 use Rattle.book.specs.Holding.{Holding, Sound, IsUnwalked}
 use Rattle.image.specs.Places.{ends_at, is_routine}
+use Rattle.routine.specs.declared.Extent.{Extent}
 use Rattle.image.specs.Inspected.{Notes, FindsBlock, unwalked}
 use Rattle.image.proofs.Stands.{block-found}
 
@@ -57,7 +58,7 @@ is_one s e = go (walked routine routine_bytes routine_sound s 0) e
   where
     go : (r : Res Sight) → ends_at (length s) r ≡ true → (u : Bool) × (r ≡ ok (sight true u) (length s))
     go (ok x n) p = let q = both (eqb n (length s)) x.written p in (x.sound, ap₂ (λ w m. ok (sight w x.sound) m) q.1 (eqb-true n (length s) q.0))
-    go (no k) p = let z : false ≡ true = p in let y : ◌≡◌ {A = ℕ} 0 1 = cc in absurd (omega arith)
+    go (no k) p = let z : false ≡ true = p in cc
 
 is_none : (s : List ℕ) → is_routine s ≡ false → One s → ⊥
 unfolding is_routine
@@ -66,9 +67,28 @@ is_none s e q =
     let y : ◌≡◌ {A = ℕ} 0 1 = cc in
     absurd (omega arith)
 
+-- 13 unless it is one: what the test says of each case, and which case it was
+pub is_whole : {t : Bool} → t ≡ true → 0 ≡ refusal_of (refuse_unless t 13)
+unfolding refuse_unless choose refusal_of
+is_whole e = rw e
+
+pub is_not_whole : {t : Bool} → t ≡ false → 13 ≡ refusal_of (refuse_unless t 13)
+unfolding refuse_unless choose refusal_of
+is_not_whole e = rw e
+
+pub was_whole : (t : Bool) → 0 ≡ refusal_of (refuse_unless t 13) → t ≡ true
+unfolding refuse_unless choose refusal_of
+was_whole true h = refl
+was_whole false h = absurd (omega (arith, h))
+
+was_not_whole : (t : Bool) {k : ℕ} → k ≡ refusal_of (refuse_unless t 13) → (k ≡ 0 → ⊥) → (t ≡ false) × (k ≡ 13)
+unfolding refuse_unless choose refusal_of
+was_not_whole true h z = absurd (z h)
+was_not_whole false h z = (refl, h)
+
 -- an outcome is one thing, and not accepted and refused both
 pub never : {A : Type 0} {o : Outcome A} {x : A} {k : ℕ} → o ≡ accepted x → o ≡ refused k → ⊥
-never p q = let z : ◌≡◌ {A = ℕ} 0 1 = cc in omega arith
+never p q = cc
 
 pub one : {A : Type 0} {o : Outcome A} {x y : A} → o ≡ accepted x → o ≡ accepted y → x ≡ y
 one p q = cc
@@ -141,6 +161,14 @@ module _ (s : State) where
         go (no e) q = refl
         go (ok x m) q = rw (unless_off 13 (accepted x) (same-no part (routine_bytes x) (unread x m q)))
 
+    -- so a refusal by that test is the one of the state
+    pub spoiled-exit : (r : Result (Option Extent) Refusal) (e : Refusal) → IsErrAnd r (λ d. d ≡ e) → number e ≡ refusal_of (refuse_unless (is_routine part) 13)
+        → number_in r ≡ refusal_of (held s)
+    spoiled-exit r e h g =
+        let q = err_from_is_err_and r h in
+        let n = was_not_whole (is_routine part) g (not-zero e) in
+        rw (q.1, q.2) (n.1 ∙ spoiled n.0)
+
     -- it is one, and the bytes after it and the walk decide
     module _ (h : is_routine part ≡ true) where
       pub clean : (x : Routine) × (read_file part ≡ ok x (length part)) × (part ≡ routine_bytes x)
@@ -183,27 +211,17 @@ module _ (s : State) where
           sound = sym (ap refusal_of is_held)
 
           -- what was noted of the block is where it stands in the routine held
-          pub found : {p start end : ℕ} → p ≡ s.book.walk - 1 → Notes part p start end → FindsBlock s start end
-          found at_place n =
+          pub found : (b : Option Extent) {p : ℕ} → p ≡ s.book.walk - 1 → Notes part p b → FindsBlock s b
+          found None at_place n = λ x q.
+              let e : one_held ≡ x = one is_held q in
+              rw (← e) (rw at_place at (n one_held (length part) clean.1))
+          found (Some b) at_place n = λ x q.
               let place = s.book.walk - 1 in
+              let e : one_held ≡ x = one is_held q in
               let note = rw at_place at (n one_held (length part) clean.1) in
-              record {
-                there = λ x q l.
-                    let e : one_held ≡ x = one is_held q in
-                    let i = rw (← e) at l in
-                    let p = note.there i in
-                    rw (← e) (block-found alone place (omega arith) refl p.0, rw (add-one place) (block-found alone (suc place) (omega arith) refl p.1));
-                none = λ x q l.
-                    let e : one_held ≡ x = one is_held q in
-                    let p = note.none (rw (← e) at l) in
-                    p.0 ∙ sym p.1;
-              }
-
--- a refused state holds nothing, so nothing is found
-pub none_found : (s : State) {k start end : ℕ} → k ≡ refusal_of (held s) → (k ≡ 0 → ⊥) → FindsBlock s start end
-none_found s e z =
-    let r = refused-by (held s) e z in
-    record { there = λ x q l. absurd (never q r); none = λ x q l. absurd (never q r) }
+              let i = note.is in
+              rw (← e)
+              record { is = i; from = block-found alone place (omega arith) refl note.from; to = rw (add-one place) (block-found alone (suc place) (omega arith) refl note.to) }
 
 -- no refusal is 0, so without one a routine is held
 pub inspected : (s : State) → refusal_of (held s) ≡ 0 → (r : Routine) × (held s ≡ accepted r)

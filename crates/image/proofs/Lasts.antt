@@ -1,20 +1,18 @@
--- What is known of a block's last instruction from where it begins and ends: whether there is one, since every instruction has some bytes, how many it has,
--- and that it is read there.
+-- What is known of a block's last instruction where there is one: how many bytes it has, and that it is read where it begins.
 -- Assumes nothing.
-use mathlib.Core.Path.{◌≡◌, refl, sym, ap, ◌∙◌}
+use mathlib.Core.Path.{◌≡◌, refl, ap, ◌∙◌}
 use mathlib.Core.List.{List}
-use Prim.Native.Nat.{ℕ, zero, suc, ◌+◌, ◌-◌, ◌≤◌, ◌<◌}
+use Prim.Native.Nat.{ℕ, suc, ◌+◌, ◌-◌, ◌<◌}
 use native.Mathlib.Omega.{arith}
 use lib.ListN.{length, get_or}
+use Rattle.std.proofs.Common.{Some}
 use Rattle.fields.specs.Parse.{ok}
 use Rattle.pod.specs.Values.{Instruction, BasicBlock, Routine}
 use Rattle.pod.specs.Layout.{instruction}
 use Rattle.pod.specs.Written.{instruction_bytes}
-use Rattle.laws.proofs.Sizes.{instruction-size}
 use Rattle.machine.specs.Edits.{block_at}
 use Rattle.book.specs.Holding.{Holding}
-use Rattle.image.specs.Places.{FindsLast, instruction_start}
-use Rattle.image.specs.declared.LastInstruction.{LastInstruction}
+use Rattle.image.specs.Places.{LastBegins, instruction_start}
 use Rattle.image.proofs.Stands.{many-next}
 use Rattle.image.proofs.Parts.{any_instruction, read_in_place}
 
@@ -29,39 +27,16 @@ module _ (x : Routine) (i : ℕ) where
   abbrev is : List Instruction
   is = b.instructions
 
-  module _ {last : LastInstruction} (z : FindsLast x i last) where
-    pub final-size : 0 < length is → last.end ≡ last.from + length (instruction_bytes (final b))
-    final-size n =
+  -- it begins at o
+  module _ {o : ℕ} (z : LastBegins x i (length is) (Some o)) where
+    pub final-size : {end : ℕ} → end ≡ instruction_start x i (length is) → end ≡ o + length (instruction_bytes (final b))
+    final-size {end} e =
+        let n = z.0 in
         let k : suc (length is - 1) ≡ length is = omega arith in
-        omega (arith, z.from, z.end, ap (instruction_start x i) k, many-next instruction_bytes any_instruction (length is - 1) is (omega arith))
+        omega (arith, z.1, e, ap (instruction_start x i) k, many-next instruction_bytes any_instruction (length is - 1) is (omega arith))
 
-    pub none : last.from ≡ last.end → length is ≡ 0
-    none e = go (length is) refl
-      where
-        go : (n : ℕ) → length is ≡ n → length is ≡ 0
-        go zero q = q
-        go (suc n) q = absurd (omega (arith, final-size (omega arith), instruction-size (final b)))
-
-    pub some : (last.from ≡ last.end → ⊥) → 0 < length is
-    some e = go (length is) refl
-      where
-        go : (n : ℕ) → length is ≡ n → 0 < length is
-        go zero q =
-            let k : length is - 1 ≡ length is = omega arith in
-            absurd (e (z.from ∙ ap (instruction_start x i) k ∙ sym z.end))
-        go (suc n) q = omega arith
-
-    -- in that order
-    pub ordered : last.from ≤ last.end
-    ordered = go (length is) refl
-      where
-        go : (n : ℕ) → length is ≡ n → last.from ≤ last.end
-        go zero q =
-            let k : length is - 1 ≡ length is = omega arith in
-            omega (arith, z.from ∙ ap (instruction_start x i) k ∙ sym z.end)
-        go (suc n) q = omega (arith, final-size (omega arith))
-
-    pub final-read : {s : List ℕ} → Holding s x → i < length x.explored_blocks → 0 < length is → (n : ℕ) × (instruction s last.from ≡ ok (final b) n)
-    final-read {s} h l n =
+    pub final-read : {s : List ℕ} → Holding s x → i < length x.explored_blocks → (n : ℕ) × (instruction s o ≡ ok (final b) n)
+    final-read {s} h l =
+        let n = z.0 in
         let r = read_in_place x i h l refl (length is - 1) (omega arith) in
-        (r.0, ap (instruction s) z.from ∙ r.1)
+        (r.0, ap (instruction s) z.1 ∙ r.1)

@@ -2,6 +2,7 @@
 -- the end, that is what is looked for.
 -- Assumes nothing.
 use mathlib.Core.Path.{◌≡◌, sym, ap, ◌∙◌}
+use mathlib.Core.Bool.{true, false}
 use mathlib.Core.List.{List, []}
 use Prim.Native.Nat.{ℕ, suc, ◌+◌, ◌<◌}
 use native.Mathlib.Nat.{add-zero}
@@ -10,13 +11,16 @@ use native.Mathlib.Omega.{arith}
 use lib.ListN.{length, drop, drop_of_length-le}
 use lib.Seq.{drop-cons}
 use borrow.Author.Tests.{eq-eqb, ne_eqb}
+use Rattle.std.specs.Option.{is_some}
+use Rattle.std.specs.Prelude.{MatchOption}
+use Rattle.std.proofs.Common.{Option, Some, None}
 use Rattle.fields.specs.Lists.{choose}
 use Rattle.pod.specs.Values.{Routine}
 use Rattle.pod.specs.Written.{many_bytes}
 use Rattle.machine.specs.Edits.{place, block_at, empty_block}
 use Rattle.book.specs.Holding.{Holding, blocks_start, block_start}
 use Rattle.ends.specs.Ends.{word, block_end}
-use Rattle.image.specs.Places.{Finds}
+use Rattle.image.specs.Places.{IsAbsent, Finds}
 use Rattle.image.specs.declared.Found.{Found}
 use Rattle.image.proofs.Stands.{block-stands, block-holds, block-next, block-far, block-word}
 
@@ -29,31 +33,26 @@ module _ (x : Routine) (v : ℕ) where
   unfolding many_bytes
   walk_start e = record { stands = e ∙ sym (add-zero (blocks_start x)); passed = omega arith }
 
-  finds : {i at : ℕ} (r : Found) → at ≡ block_start x i → place v x.explored_blocks ≡ i → r.place ≡ i → r.at ≡ at
-      → r.count ≡ length x.explored_blocks → Finds x v r
-  finds r e p q t n = record { place = q ∙ sym p; at = t ∙ e ∙ ap (block_start x) (sym p); count = n }
-
   module _ {s : List ℕ} (h : Holding s x) {i at : ℕ} (w : Walked x v i at) where
     -- past the last block
-    pub walk_end : (r : Found) → i ≡ length x.explored_blocks → r.place ≡ i → r.at ≡ at → r.count ≡ length x.explored_blocks → Finds x v r
+    pub walk_end : i ≡ length x.explored_blocks → IsAbsent x v
     unfolding place
-    walk_end r e =
+    walk_end e =
         let none : drop i x.explored_blocks ≡ [] = drop_of_length-le x.explored_blocks {i = i} (omega arith) in
-        let p : place v x.explored_blocks ≡ i = omega (arith, w.passed, ap (place v) none) in
-        finds r w.stands p
+        omega (arith, w.passed, ap (place v) none)
 
     module _ (l : i < length x.explored_blocks) where
       here : word 8 s at ≡ (block_at i x.explored_blocks).vip
       here = ap (word 8 s) w.stands ∙ block-word (block_start x i) _ (block-holds h i l) (block-stands h i l)
 
       -- at the block
-      pub walk-hit : (r : Found) {u : ℕ} → u ≡ word 8 s at → u ≡ v → r.place ≡ i → r.at ≡ at → r.count ≡ length x.explored_blocks → Finds x v r
+      pub walk-hit : {u : ℕ} → u ≡ word 8 s at → u ≡ v → Finds x v (record { place = i; at = at })
       unfolding place choose
-      walk-hit r p q =
+      walk-hit p q =
           let e : place v (drop i x.explored_blocks) ≡ 0 =
           rw (drop-cons x.explored_blocks i (empty_block 0) l, eq-eqb _ v (sym here ∙ sym p ∙ q)) in
           let f : place v x.explored_blocks ≡ i = omega (arith, w.passed, e) in
-          finds r w.stands f
+          record { there = omega arith; place = sym f; at = w.stands ∙ ap (block_start x) (sym f) }
 
       -- past it
       pub walk_next : {u m : ℕ} → u ≡ word 8 s at → m ≡ block_end s at → (u ≡ v → ⊥) → Walked x v (i + 1) m
@@ -65,3 +64,13 @@ module _ (x : Routine) (v : ℕ) where
             stands = q ∙ ap (block_end s) w.stands ∙ block-far (block_start x i) _ (block-holds h i l) (block-stands h i l) ∙ block-next h i l;
             passed = omega (arith, w.passed, e);
           }
+
+-- whether one was found tells whether there is one
+module _ (x : Routine) (v : ℕ) where
+  pub present : (r : Option Found) → MatchOption r (IsAbsent x v) (Finds x v) → is_some r ≡ true → place v x.explored_blocks < length x.explored_blocks
+  present (Some r) f e = f.there
+  present None f e = cc
+
+  pub absent : (r : Option Found) → MatchOption r (IsAbsent x v) (Finds x v) → is_some r ≡ false → IsAbsent x v
+  absent (Some r) f e = cc
+  absent None f e = f

@@ -1,5 +1,5 @@
 -- What is found in an image that holds a routine.
-use Rattle.std.specs.Prelude.{ℕ, zero, suc, ◌+◌, ◌-◌, ◌≡◌, Bool, false, ◌&&◌, List, eqb, length, take}
+use Rattle.std.specs.Prelude.{ℕ, zero, suc, ◌+◌, ◌-◌, ◌<◌, ◌≡◌, Bool, false, ◌&&◌, List, Option, Some, None, eqb, length, take}
 use Rattle.fields.specs.Parse.{Res, ok, no}
 use Rattle.pod.specs.Values.{Routine}
 use Rattle.fields.specs.declared.Sight.{Sight}
@@ -20,11 +20,15 @@ ends_at n (no e) = false
 unfoldable pub is_routine : List ℕ → Bool
 is_routine s = ends_at (length s) (walked routine routine_bytes routine_sound s 0)
 
--- the place of the block with the vip and where it begins; the number of blocks and the end of the last where no block has it
+-- no block has the vip
+abbrev pub IsAbsent : Routine → ℕ → Type 0
+IsAbsent x v = place_of v x.explored_blocks ≡ length x.explored_blocks
+
+-- the place of the block with the vip, and where it begins
 pub record Finds (x : Routine) (v : ℕ) (r : Found) : Type 0 where
+  pub there : place_of v x.explored_blocks < length x.explored_blocks
   pub place : r.place ≡ place_of v x.explored_blocks
   pub at : r.at ≡ block_start x (place_of v x.explored_blocks)
-  pub count : r.count ≡ length x.explored_blocks
 
 -- where the convention at a place begins: after the header and the entry vip, and the special ones after their count
 unfoldable pub convention_start : Routine → ℕ → ℕ
@@ -38,7 +42,12 @@ convention_start x (suc (suc i)) =
 abbrev pub instruction_start : Routine → ℕ → ℕ → ℕ
 instruction_start x i k = block_start x i + 28 + length (many_bytes instruction_bytes (take k (block_at i x.explored_blocks).instructions))
 
--- where the last instruction of the block at place i begins and ends; both are where the first would begin where there is none
+-- of n instructions of the block at place i, the last begins at an offset, or there is none
+abbrev pub LastBegins : Routine → ℕ → ℕ → Option ℕ → Type 0
+LastBegins x i n (Some o) = (0 < n) × (o ≡ instruction_start x i (n - 1))
+LastBegins x i n None = n ≡ 0
+
+-- where the last instruction of the block at place i begins, if there is one, and where they end
 pub record FindsLast (x : Routine) (i : ℕ) (r : LastInstruction) : Type 0 where
-  pub from : r.from ≡ instruction_start x i (length (block_at i x.explored_blocks).instructions - 1)
+  pub from : LastBegins x i (length (block_at i x.explored_blocks).instructions) r.from
   pub end : r.end ≡ instruction_start x i (length (block_at i x.explored_blocks).instructions)

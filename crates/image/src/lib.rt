@@ -2,46 +2,42 @@
 // inspected before, so the walk that reads no name, text or register again is enough.
 #![tactic(auto)]
 
-ghost use Rattle.std.specs.Prelude.{◌≡◌, ◌-◌, ℕ, ◌≤◌, ◌<◌, length, IfOk};
+ghost use Rattle.std.specs.Prelude.{◌≡◌, ◌-◌, ℕ, ◌≤◌, ◌<◌, length, IfOk, MatchOption};
+ghost use Rattle.fields.specs.Refusals.{spoiled_book};
 ghost use Rattle.fields.specs.Answers.{number_in};
+ghost use Rattle.fields.specs.Outcome.{refuse_unless};
 ghost use Rattle.pod.specs.Values.{Routine};
 ghost use Rattle.machine.specs.Edits.{block_at};
 ghost use Rattle.machine.specs.Look.{conventions};
 ghost use Rattle.machine.specs.Book.{held};
 ghost use Rattle.machine.specs.Walk.{walk_fits};
-ghost use Rattle.book.specs.Says.{state, refusal_of};
-ghost use Rattle.book.specs.Holding.{Holding, blocks_start, block_start};
-ghost use Rattle.image.specs.Places.{is_routine, Finds, FindsLast, convention_start, instruction_start};
+ghost use Rattle.book.specs.Says.{state_of, refusal_of};
+ghost use Rattle.book.specs.Holding.{Holding, block_start};
+ghost use Rattle.image.specs.Stand.{BlocksStand};
+ghost use Rattle.image.specs.Places.{is_routine, IsAbsent, Finds, FindsLast, convention_start, instruction_start};
 ghost use Rattle.image.specs.Inspected.{Notes, FindsBlock, unwalked};
 
-use book::Book;
+pub mod blocks;
+
+pub use blocks::Blocks;
+use book::Lent;
 use fields::Refusal;
 use pod::Vip;
+use routine::Extent;
 
-// What the test for 13 says of bytes: whether they are exactly one accepted routine in written form; and where the block that was asked for begins and ends.
-#[derive(Clone, Copy)]
-struct Passed {
-    whole: bool,
-    from: usize,
-    to: usize,
-}
-
-// Whether `s` is exactly one accepted routine in written form. The walk over it notes its block at `place`.
-fn pass_image(s: &[u8], place: u64) -> Passed
-    ensures { (result.whole ≡ is_routine s.now) × Notes s.now place result.from result.to }
+// 13 unless `s` is exactly one accepted routine in written form. The walk over it notes where its block at `place` stands.
+fn pass_image(s: &[u8], place: u64) -> Result<Option<Extent>, Refusal>
+    ensures refusal { number_in result ≡ refusal_of (refuse_unless (is_routine s.now) spoiled_book) }
+    ensures block { IfOk result (λ block. Notes s.now place block) }
 {
-    match routine::routine_noting(s, 0, place) {
-        Ok(noted) => Passed {
-            whole: (noted.end == s.len()) & noted.sight.written,
-            from: noted.from,
-            to: noted.to,
-        },
-        Err(_) => Passed {
-            whole: false,
-            from: 0,
-            to: 0,
-        },
+    let Ok(noted) = routine::routine_noting(s, 0, place) else {
+        return Err(Refusal::SpoiledBook);
+    };
+    let whole = (noted.end == s.len()) & noted.sight.written;
+    if !whole {
+        return Err(Refusal::SpoiledBook);
     }
+    Ok(noted.block)
 }
 
 // The place of the block that next hands out, where a walk is open; else 0, which is not looked at.
@@ -62,19 +58,17 @@ fn walk_fits(image: &[u8], walk: u64) -> bool
     walk - 1 <= blocks.count as u64
 }
 
-// What a call on a book that is not spoiled finds first: where a walk is open, where the block begins and ends that next hands out, which are equal where there
-// is none.
-#[derive(Clone, Copy)]
-pub struct Inspected {
-    pub from: usize,
-    pub to: usize,
-}
-
-// The test that every call on a book makes first: 10, then 13. The walk over the image passes the block that next hands out on its way.
-pub fn inspect_at(book: Book, image: &[u8], journal: &[u8]) -> Result<Inspected, Refusal>
-    ensures refusal { number_in result ≡ refusal_of (held (state image.now journal.now book)) }
-    ensures block { IfOk result (λ found. FindsBlock (state image.now journal.now book) found.from found.to) }
+// The test that every call on a book makes first: 10, then 13. The walk over the image passes the block that next hands out on its way: where it stands, if a walk
+// is open and there is one.
+pub fn inspect_at(lent: Lent) -> Result<Option<Extent>, Refusal>
+    ensures refusal { number_in result ≡ refusal_of (held (state_of lent.entry)) }
+    ensures block { IfOk result (λ block. FindsBlock (state_of lent.entry) block) }
 {
+    let Lent {
+        book,
+        image,
+        journal,
+    } = lent;
     if !fields::is_lent(image.len()) {
         return Err(Refusal::LendingTooLarge);
     }
@@ -90,61 +84,46 @@ pub fn inspect_at(book: Book, image: &[u8], journal: &[u8]) -> Result<Inspected,
         return Err(Refusal::SpoiledBook);
     }
     let end = written as usize;
-    let passed = pass_image(&image[..end], place_of(book.walk));
-    if !passed.whole {
-        return Err(Refusal::SpoiledBook);
-    }
+    let block = pass_image(&image[..end], place_of(book.walk))?;
     if !buffer::is_zero(image, end) {
         return Err(Refusal::SpoiledBook);
     }
     if !walk_fits(image, book.walk) {
         return Err(Refusal::SpoiledBook);
     }
-    Ok(Inspected {
-        from: passed.from,
-        to: passed.to,
-    })
+    Ok(block)
 }
 
 // The test alone.
-pub fn inspect(book: Book, image: &[u8], journal: &[u8]) -> Result<(), Refusal>
-    ensures { number_in result ≡ refusal_of (held (state image.now journal.now book)) }
+pub fn inspect(lent: Lent) -> Result<(), Refusal>
+    ensures { number_in result ≡ refusal_of (held (state_of lent.entry)) }
 {
-    inspect_at(book, image, journal)?;
+    inspect_at(lent)?;
     Ok(())
 }
 
 // The same, and then 20 where a walk is open: what start, remove and undo test first.
-pub fn inspect_unwalked(book: Book, image: &[u8], journal: &[u8]) -> Result<(), Refusal>
-    ensures { number_in result ≡ refusal_of (unwalked (state image.now journal.now book)) }
+pub fn inspect_unwalked(lent: Lent) -> Result<(), Refusal>
+    ensures { number_in result ≡ refusal_of (unwalked (state_of lent.entry)) }
 {
-    inspect(book, image, journal)?;
-    if book.walk != 0 {
+    inspect(lent)?;
+    if lent.book.walk != 0 {
         return Err(Refusal::WalkOpen);
     }
     Ok(())
 }
 
-// Where the blocks begin, and how many there are.
-#[derive(Clone, Copy)]
-pub struct Blocks {
-    pub start: usize,
-    pub count: u32,
-}
-
-// A block's place and the offset at which it begins; where no block has the vip, the number of blocks and the offset past them. And the number
-// of blocks, which tells the two apart.
+// A block's place, and the offset at which it begins.
 #[derive(Clone, Copy)]
 pub struct Found {
-    pub place: usize,
+    pub place: u32,
     pub at: usize,
-    pub count: u32,
 }
 
-// Where the last instruction of a block begins and ends; in a block without instructions both are where its first would begin.
+// Where the last instruction of a block begins, if it has instructions, and where they end.
 #[derive(Clone, Copy)]
 pub struct LastInstruction {
-    pub from: usize,
+    pub from: Option<usize>,
     pub end: usize,
 }
 
@@ -158,8 +137,9 @@ pub fn special_count(image: &[u8]) -> u32
 }
 
 // After the header and the entry vip: the two conventions, the special ones after their count, and the count of blocks.
-pub fn blocks_of(image: &[u8]) -> Blocks
-    ensures { (x : Routine) → Holding image.now x → (result.start ≡ blocks_start x) × (result.count ≡ length x.explored_blocks) }
+pub fn blocks_of(image: &[u8]) -> Blocks<'_>
+    ensures stand { BlocksStand image.now result.start result.count }
+    ensures image { result.image.now ≡ image.now }
 {
     let a = ends::convention_end(image, ends::CONVENTIONS_AT);
     let b = ends::convention_end(image, a);
@@ -168,41 +148,35 @@ pub fn blocks_of(image: &[u8]) -> Blocks
     let d = ends::conventions_end(image, c, special as usize);
     let count = ends::word32(image, d);
     let start = ends::jump(image, d, ends::COUNT_SIZE);
-    Blocks { start, count }
-}
-
-// The block with the vip. The blocks before it are passed, and it is not.
-pub fn find(image: &[u8], vip: Vip) -> Found
-    ensures { (x : Routine) → Holding image.now x → Finds x vip.0 result }
-{
-    let blocks = blocks_of(image);
-    let count = blocks.count;
-    let n = count as usize;
-    let v = vip.0;
-    let mut at = blocks.start;
-    for i in 0..n {
-        if ends::word64(image, at) == v {
-            return Found {
-                place: i,
-                at,
-                count,
-            };
-        }
-        at = ends::block_end(image, at);
-    }
-    Found {
-        place: n,
-        at,
+    Blocks {
+        image,
+        start,
         count,
     }
 }
 
-// The offset of the block at a place, or past the last where the place is the number of blocks.
-pub fn block_offset(image: &[u8], place: usize) -> usize
-    ensures { (x : Routine) → Holding image.now x → place ≤ length x.explored_blocks → result ≡ block_start x place }
-{
-    let blocks = blocks_of(image);
-    ends::blocks_end(image, blocks.start, place)
+impl Blocks<'_> {
+    // The block with the vip. The blocks before it are passed, and it is not.
+    pub fn find(&self, vip: Vip) -> Option<Found>
+        ensures { (x : Routine) → Holding self.now.image.now x → MatchOption result (IsAbsent x vip.0) (Finds x vip.0) }
+    {
+        let v = vip.0;
+        let mut at = self.start;
+        for place in 0..self.count {
+            if ends::word64(self.image, at) == v {
+                return Some(Found { place, at });
+            }
+            at = ends::block_end(self.image, at);
+        }
+        None
+    }
+
+    // The offset of the block at a place, or past the last where the place is the number of blocks.
+    pub fn offset(&self, place: usize) -> usize
+        ensures { (x : Routine) → Holding self.now.image.now x → place ≤ length x.explored_blocks → result ≡ block_start x place }
+    {
+        ends::blocks_end(self.image, self.start, place)
+    }
 }
 
 // The offset of the convention at a place: the routine's, the subroutine's, and after the count of the special ones these.
@@ -237,13 +211,13 @@ pub fn last_instruction(image: &[u8], at: usize) -> LastInstruction
     let head = ends::jump(image, at, ends::BLOCK_HEAD_SIZE);
     let count = ends::word32(image, head);
     if count == 0 {
-        let first = instruction_offset(image, at, 0);
-        return LastInstruction {
-            from: first,
-            end: first,
-        };
+        let end = instruction_offset(image, at, 0);
+        return LastInstruction { from: None, end };
     }
     let from = instruction_offset(image, at, count - 1);
     let end = ends::instruction_end(image, from);
-    LastInstruction { from, end }
+    LastInstruction {
+        from: Some(from),
+        end,
+    }
 }

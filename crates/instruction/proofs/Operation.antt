@@ -3,7 +3,6 @@
 use mathlib.Core.Path.{◌≡◌, sym, ◌∙◌}
 use mathlib.Core.List.{List}
 use Prim.Native.Nat.{ℕ, ◌<◌}
-use native.Mathlib.Omega.{arith}
 use Rattle.fields.specs.Bytes.{Bytes}
 use Rattle.fields.specs.Parse.{ok, no}
 use Rattle.fields.proofs.Invert.{inv_ok}
@@ -17,7 +16,7 @@ module _ (s : List ℕ) (o : ℕ) {i : Instruction} {n : ℕ} (e : instruction s
   op-is q = (inv_ok (sym q ∙ (parts s o e).is_op)).0
 
   pub op-accepted : {k : ℕ} → opcode s o ≡ no k → ⊥
-  op-accepted q = let b = (parts s o e).is_op in let z : ◌≡◌ {A = ℕ} 0 1 = cc in omega arith
+  op-accepted q = let b = (parts s o e).is_op in cc
 
   pub op-listed : Bytes s → i.op < 49
   op-listed y = (read-holds instruction_layout y e).op

@@ -19,9 +19,9 @@ const TAIL_SIZE: usize = 21;
 // Why operands, or an instruction, are refused, and whether every register before the fault is sound. So it also says what append is refused, which asks a
 // register as soon as it has been read.
 #[derive(Clone, Copy, Debug, PartialEq, Eq)]
-pub struct Fault {
-    pub refusal: Refusal,
-    pub sound: bool,
+struct Fault {
+    refusal: Refusal,
+    sound: bool,
 }
 
 // A fault before the first register.
@@ -37,7 +37,7 @@ impl From<Refusal> for Fault {
 }
 
 // What is answered of operands, or of an instruction, that are passed over: whether every register is sound, and the offset past them; or the fault.
-pub type Asked = Result<(bool, usize), Fault>;
+type Asked = Result<(bool, usize), Fault>;
 
 // The operation with the name `name`, whose operand count stands at `at`.
 #[tactic(auto, unfolding(fields::specs::Parse::bind, fields::specs::Lists::choose, pod::specs::Layout::named))]
@@ -110,7 +110,7 @@ pub fn op_of(s: &[u8], at: usize) -> usize
     }
 }
 
-// `count` operands.
+// `count` operands. A loop of its own beside fields::list_skip, since a refusal here also says what was seen before it.
 fn operands_run(s: &[u8], at: usize, count: u32) -> Asked
     ensures plain { of_asked result ≡ span (many operand count s.now at) }
     ensures asked { when_asked result ≡ span (many sound_operand count s.now at) }

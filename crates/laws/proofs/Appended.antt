@@ -4,7 +4,6 @@ use mathlib.Core.Path.{◌≡◌, refl, sym, ap, ap₂, ◌∙◌}
 use mathlib.Core.Bool.{Bool, true, false, ◌&&◌}
 use mathlib.Core.List.{List, ◌∷◌}
 use Prim.Native.Nat.{ℕ, zero, suc}
-use native.Mathlib.Omega.{arith}
 use lib.ListN.{get_or}
 use Rattle.fields.specs.Parse.{Res, ok, no, bind, span, uint, many, flag}
 use Rattle.fields.specs.Lists.{choose, every}
@@ -16,14 +15,17 @@ use Rattle.pod.specs.Sound.{operand_sound, instruction_sound, sound_operand, app
 use Rattle.pod.specs.Told.{asked}
 use Rattle.pod.specs.declared.Operand.{Operand}
 
+-- what was asked first
+pub asked-then : {A B : Type 0} (t : Bool) (r : Res A) (f : A → ℕ → Res B) → bind (asked t r) f ≡ asked t (bind r f)
+unfolding bind asked choose
+asked-then true r f = refl
+asked-then false r f = refl
+
 -- an operand
 pub operand-asked : (s : List ℕ) (o : ℕ) {x : Operand} {n : ℕ} → operand s o ≡ ok x n → sound_operand s o ≡ asked (operand_sound x) (ok x n)
 unfolding sound_operand bind asked choose
-operand-asked s o {x} {n} e = ap (λ r. bind r (λ x n. bind (choose (operand_sound x) (ok (tt {0}) n) (no 19)) (λ _ m. ok x m))) e ∙ go (operand_sound x)
-  where
-    go : (t : Bool) → bind (choose t (ok (tt {0}) n) (no 19)) (λ _ m. ok x m) ≡ choose t (ok x n) (no 19)
-    go true = refl
-    go false = refl
+operand-asked s o {x} {n} e = ap (λ r. bind r (λ x n. bind (choose (operand_sound x) (ok (tt {0}) n) (no 19)) (λ _ m. ok x m))) e
+    ∙ asked-then (operand_sound x) (ok (tt {0}) n) (λ _ m. ok x m)
 
 pub operand-refused : (s : List ℕ) (o : ℕ) {e : ℕ} → operand s o ≡ no e → sound_operand s o ≡ no e
 unfolding sound_operand bind
@@ -45,19 +47,10 @@ operands-asked (suc k) s o {xs} {n} e =
     ∙ ap (λ y. choose (every operand_sound y) (ok y b.1) (no 19)) c.0
     ∙ ap (λ m. choose (every operand_sound xs) (ok xs m) (no 19)) c.1
   where
-    rest : (t : Bool) (x : Operand) (ys : List Operand) (m : ℕ) → bind (choose t (ok ys m) (no 19)) (λ xs e. ok (x ∷ xs) e) ≡ choose t (ok (x ∷ ys) m) (no 19)
-    rest true x ys m = refl
-    rest false x ys m = refl
-
     go : (t : Bool) (x : Operand) (m : ℕ) (ys : List Operand) (j : ℕ) → many sound_operand k s m ≡ choose (every operand_sound ys) (ok ys j) (no 19)
         → bind (choose t (ok x m) (no 19)) (λ x m. bind (many sound_operand k s m) (λ xs e. ok (x ∷ xs) e)) ≡ choose (t && every operand_sound ys) (ok (x ∷ ys) j) (no 19)
-    go true x m ys j h = ap (λ r. bind r (λ xs e. ok (x ∷ xs) e)) h ∙ rest (every operand_sound ys) x ys j
+    go true x m ys j h = ap (λ r. bind r (λ xs e. ok (x ∷ xs) e)) h ∙ asked-then (every operand_sound ys) (ok ys j) (λ xs e. ok (x ∷ xs) e)
     go false x m ys j h = refl
-
-pub asked-then : {A B : Type 0} (t : Bool) (r : Res A) (f : A → ℕ → Res B) → bind (asked t r) f ≡ asked t (bind r f)
-unfolding bind asked choose
-asked-then true r f = refl
-asked-then false r f = refl
 
 pub asked-span : {A : Type 0} (t : Bool) (r : Res A) → span (asked t r) ≡ asked t (span r)
 unfolding asked choose span
@@ -68,8 +61,8 @@ asked-span false r = refl
 pub asked-told : (n : ℕ) (t u : Bool) → asked t (ok (tt {0}) n) ≡ asked u (ok tt n) → t ≡ u
 unfolding asked choose
 asked-told n true true e = refl
-asked-told n true false e = let z : ◌≡◌ {A = ℕ} 0 1 = cc in absurd (omega arith)
-asked-told n false true e = let z : ◌≡◌ {A = ℕ} 0 1 = cc in absurd (omega arith)
+asked-told n true false e = cc
+asked-told n false true e = cc
 asked-told n false false e = refl
 
 -- an instruction that was read: its operation and its operands
@@ -89,8 +82,9 @@ module _ (s : List ℕ) (o : ℕ) {i : Instruction} {n : ℕ} (e : instruction s
       let off = inv _ _ vip.3 in
       let idx = inv (uint 4 s off.1) _ off.3 in
       let rst = inv (flag s idx.1) _ idx.3 in
-      let op : a.0 ≡ i.op = ap (λ (x : Instruction). x.op) (inv_ok rst.3).0 in
-      let xs : ops.0 ≡ i.operands = ap (λ (x : Instruction). x.operands) (inv_ok rst.3).0 in
+      let same = (inv_ok rst.3).0 in
+      let op : a.0 ≡ i.op = ap (λ (x : Instruction). x.op) same in
+      let xs : ops.0 ≡ i.operands = ap (λ (x : Instruction). x.operands) same in
       record {
         at = a.1;
         end = ops.1;

@@ -12,7 +12,6 @@ use lib.ListN.{length, take, drop, length-drop}
 use lib.Seq.{get_or-drop, drop-drop}
 use borrow.Author.Tests.{leb-true, leb-false, le-leb, lt-leb}
 use Rattle.fields.specs.Parse.{Res, ok, no, Reader, bind, ◌>>=◌, done, le, uint, part, many, counted}
-use Rattle.fields.proofs.Le.{uint-ok, uint-no, uint-is}
 use Rattle.pod.specs.Layout.{instruction, convention, block}
 use Rattle.laws.specs.Moved.{moved}
 use Rattle.laws.proofs.Every.{Kept, several, lists, an_instruction, a-convention, a_block}
@@ -51,7 +50,7 @@ local-done a = record { moves = λ s o l. ap (ok a) (sym (add-zero o)); inside =
 
 pub local-no : {A : Type 0} (e : ℕ) → Local {A = A} (λ s o. no e)
 unfolding moved
-local-no e = record { moves = λ s o l. refl; inside = λ s o l q. let z : ◌≡◌ {A = ℕ} 0 1 = cc in absurd (omega arith) }
+local-no e = record { moves = λ s o l. refl; inside = λ s o l q. cc }
 
 pub local-choose : {A : Type 0} (t : Bool) (p q : Reader A) → Local p → Local q → Local (λ s o. choose t (p s o) (q s o))
 unfolding choose
@@ -63,42 +62,34 @@ unfolding le
 le-drop zero s o i = refl
 le-drop (suc k) s o i = ap₂ (λ x y. x + 256 * y) (get_or-drop o s i 0) (le-drop k s o (i + 1) ∙ ap (le k s) (sym (add_assoc o i 1)))
 
-pub local-uint : (k : ℕ) → Local (uint k)
-unfolding moved
-local-uint k =
-    record {
-      moves = λ s o l. go s o l (leb (o + k) (length s)) refl;
-      inside = λ s o l e. omega (arith, (uint-is k s o e).1, (uint-is k s o e).2);
-    }
-  where
-    go : (s : List ℕ) (o : ℕ) → o ≤ length s → (t : Bool) → leb (o + k) (length s) ≡ t → uint k s o ≡ moved o (uint k (drop o s) 0)
-    go s o l true q =
-        let h = leb-true (o + k) (length s) q in
-        uint-ok k s o h
-        ∙ ap₂ (λ v n. ok v n) (sym (le-drop k s o 0 ∙ ap (le k s) (add-zero o))) (ap (λ n. o + n) (sym (zero-add k)))
-        ∙ ap (moved o) (sym (uint-ok k (drop o s) 0 (omega (arith, length-drop o s))))
-    go s o l false q =
-        let h = leb-false (o + k) (length s) q in
-        uint-no k s o h ∙ ap (moved o) (sym (uint-no k (drop o s) 0 (omega (arith, length-drop o s))))
-
-pub local-part : (k : ℕ) → Local (part k)
-unfolding part choose moved
-local-part k =
+-- k bytes, read as what the bytes from o on say
+local-field : {A : Type 0} (k : ℕ) (v : List ℕ → ℕ → A) → ((s : List ℕ) (o : ℕ) → v s o ≡ v (drop o s) 0)
+    → Local (λ s o. choose (leb (o + k) (length s)) (ok (v s o) (o + k)) (no 1))
+unfolding choose moved
+local-field {A} k v f =
     record { moves = λ s o l. go s o l (leb (o + k) (length s)) refl; inside = λ s o l e. ends s o (leb (o + k) (length s)) refl e }
   where
-    ends : (s : List ℕ) (o : ℕ) (t : Bool) → leb (o + k) (length s) ≡ t → {a : List ℕ} {n : ℕ} → choose t (ok (take k (drop o s)) (o + k)) (no 1) ≡ ok a n → n ≤ length s
+    ends : (s : List ℕ) (o : ℕ) (t : Bool) → leb (o + k) (length s) ≡ t → {a : A} {n : ℕ} → choose t (ok (v s o) (o + k)) (no 1) ≡ ok a n → n ≤ length s
     ends s o true q {a} {n} e = let z : n ≡ o + k = cc in rw z (leb-true (o + k) (length s) q)
-    ends s o false q e = let z : ◌≡◌ {A = ℕ} 0 1 = cc in absurd (omega arith)
+    ends s o false q e = cc
 
     go : (s : List ℕ) (o : ℕ) → o ≤ length s → (t : Bool) → leb (o + k) (length s) ≡ t
-        → choose (leb (o + k) (length s)) (ok (take k (drop o s)) (o + k)) (no 1)
-        ≡ moved o (choose (leb (0 + k) (length (drop o s))) (ok (take k (drop o s)) (0 + k)) (no 1))
+        → choose (leb (o + k) (length s)) (ok (v s o) (o + k)) (no 1)
+        ≡ moved o (choose (leb (0 + k) (length (drop o s))) (ok (v (drop o s) 0) (0 + k)) (no 1))
     go s o l true q =
         let h = leb-true (o + k) (length s) q in
-        rw (q, le-leb (0 + k) (length (drop o s)) (omega (arith, length-drop o s))) (ap (λ n. ok (take k (drop o s)) (o + n)) (sym (zero-add k)))
+        rw (q, le-leb (0 + k) (length (drop o s)) (omega (arith, length-drop o s))) (ap₂ (λ x n. ok x n) (f s o) (ap (λ n. o + n) (sym (zero-add k))))
     go s o l false q =
         let h = leb-false (o + k) (length s) q in
         rw (q, lt-leb (0 + k) (length (drop o s)) (omega (arith, length-drop o s)))
+
+pub local-uint : (k : ℕ) → Local (uint k)
+unfolding uint
+local-uint k = local-field k (le k) (λ s o. sym (le-drop k s o 0 ∙ ap (le k s) (add-zero o)))
+
+pub local-part : (k : ℕ) → Local (part k)
+unfolding part
+local-part k = local-field k (λ s o. take k (drop o s)) (λ s o. refl)
 
 kept : Kept (λ e. Unit) (λ A p. Local p)
 kept = record { then = local-bind; gives = local-done; refuses = λ e h. local-no e; either = local-choose; number = local-uint; bytes = local-part }

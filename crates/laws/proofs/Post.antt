@@ -3,7 +3,6 @@
 use mathlib.Core.Path.{◌≡◌, refl, subst₂}
 use mathlib.Core.Bool.{Bool, true, false}
 use Prim.Native.Nat.{ℕ}
-use native.Mathlib.Omega.{arith}
 use Rattle.fields.specs.Parse.{Res, ok, no, bind}
 use Rattle.fields.proofs.Invert.{inv}
 use Rattle.fields.specs.Lists.{choose}
@@ -16,7 +15,7 @@ give {A} {Q} {a} {n} h =
     record { when = λ b m e. let p : a ≡ b = cc in let q : n ≡ m = cc in subst₂ Q p q h }
 
 pub never : {A : Type 0} {Q : A → ℕ → Type 0} (e : ℕ) → Post (no e) Q
-never e = record { when = λ a n q. let z : ◌≡◌ {A = ℕ} 0 1 = cc in absurd (omega arith) }
+never e = record { when = λ a n q. cc }
 
 -- one reader after the other
 pub step : {A B : Type 0} {r : Res A} (f : A → ℕ → Res B) {Q : A → ℕ → Type 0} {R : B → ℕ → Type 0} → Post r Q

@@ -4,7 +4,6 @@ use mathlib.Core.Path.{◌≡◌, refl}
 use mathlib.Core.Bool.{Bool, true, false}
 use mathlib.Core.List.{List}
 use Prim.Native.Nat.{ℕ}
-use native.Mathlib.Omega.{arith}
 use Rattle.fields.specs.Parse.{Res, ok, no, Reader, bind, ◌>>=◌, done, uint, part}
 use Rattle.fields.specs.Lists.{choose}
 use Rattle.laws.proofs.Every.{Kept}
@@ -22,7 +21,7 @@ module _ (R : ℕ → Type 0) where
       go s (no i) g {e} q = let z : i ≡ e = cc in rw (← z) (g i refl)
 
   refuses-gives : {A : Type 0} (a : A) → Refuses R (done a)
-  refuses-gives a = record { refusal = λ s o q. let z : ◌≡◌ {A = ℕ} 0 1 = cc in absurd (omega arith) }
+  refuses-gives a = record { refusal = λ s o q. cc }
 
   refuses_with : {A : Type 0} (k : ℕ) → R k → Refuses R {A = A} (λ s o. no k)
   refuses_with k h = record { refusal = λ s o {e} q. let z : k ≡ e = cc in rw (← z) h }
@@ -35,7 +34,7 @@ module _ (R : ℕ → Type 0) where
   -- a field that passes the end is refused with 1
   short : {A : Type 0} (t : Bool) (a : A) (n : ℕ) {e : ℕ} → R 1 → choose t (ok a n) (no 1) ≡ no e → R e
   unfolding choose
-  short true a n r q = let z : ◌≡◌ {A = ℕ} 0 1 = cc in absurd (omega arith)
+  short true a n r q = cc
   short false a n {e} r q = let z : 1 ≡ e = cc in rw (← z) r
 
   refuses-number : R 1 → (k : ℕ) → Refuses R (uint k)

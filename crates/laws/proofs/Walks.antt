@@ -8,7 +8,7 @@ use mathlib.Core.List.{List, [], ◌∷◌, ◌++◌}
 use Prim.Native.Nat.{ℕ, zero, suc, ◌+◌, ◌-◌, ◌^◌, ◌≤◌, ◌<◌}
 use native.Mathlib.Omega.{arith}
 use lib.Dec.{eqb, leb}
-use lib.ListN.{length, get_or, take, drop, length-append, length-take, length-drop, length-replicate}
+use lib.ListN.{length, get_or, take, drop, length-append, length-take, length-drop, length-replicate, take-append-drop}
 use lib.Seq.{take-add, drop-drop, take_at, take-length, get_or-take, get_or-drop}
 use borrow.Author.Tests.{eq-eqb, ne_eqb, lt-leb}
 use Rattle.fields.specs.Parse.{Res, ok, no, Reader, bind, span, many, counted, u32}
@@ -68,14 +68,13 @@ module _ {s : List ℕ} where
       let e : from_to s o n ≡ l = same_eq _ _ h.is in
       let k : o + (n - o) ≡ n = omega (arith, h.to) in
       record {
-        at = record { rest = drop n s; is = sym (take_all_drop (n - o) (drop o s)) ∙ ap₂ (λ x y. x ++ y) e (drop-drop (n - o) o s ∙ ap (λ i. drop i s) k); within = omega (arith, h.to, h.fits) };
+        at = record {
+          rest = drop n s;
+          is = sym (take-append-drop (n - o) (drop o s)) ∙ ap₂ (λ x y. x ++ y) e (drop-drop (n - o) o s ∙ ap (λ i. drop i s) k);
+          within = omega (arith, h.to, h.fits);
+        };
         to = h.to;
       }
-    where
-      take_all_drop : (i : ℕ) (x : List ℕ) → take i x ++ drop i x ≡ x
-      take_all_drop zero x = refl
-      take_all_drop (suc i) [] = refl
-      take_all_drop (suc i) (y ∷ x) = ap (λ r. y ∷ r) (take_all_drop i x)
 
   infixr 20 ◌beside◌
   pub ◌beside◌ : {o m n : ℕ} {a b : List ℕ} {t u : Bool} → Seen s o a m t → Seen s m b n u → Seen s o (a ++ b) n (t && u)

@@ -16,7 +16,7 @@ use Rattle.ends.proofs.Same.{instruction_ends}
 use Rattle.pread.specs.Answers.{block_read, prev_list}
 use Rattle.pread.specs.declared.BlockRead.{BlockRead}
 use Rattle.pread.proofs.Parts.{Listed, listed, block_at}
-use Rattle.look.specs.Reached.{Standing, Lists}
+use Rattle.look.specs.Reached.{Standing, StandingList}
 use Rattle.look.proofs.Reaches.{element-read}
 use Rattle.look.proofs.Listing.{list-there}
 
@@ -31,10 +31,10 @@ module _ {s : List ℕ} (y : Bytes s) (o : ℕ) {b : BasicBlock} {n : ℕ} (e : 
 
   -- a list of vips
   module _ {r : BlockRead} (q : r ≡ block_read o (block s o)) (k : ℕ) where
-    pub prev-listed : k ≡ 0 → Lists u64 s (vip_list k b) (record { first = r.prev_at; count = r.prev_vips })
+    pub prev-listed : k ≡ 0 → StandingList u64 s (vip_list k b) (record { first = r.prev_at; count = r.prev_vips })
     unfolding block_read choose
     prev-listed z = rw (q ∙ ap (block_read o) e, z) (list-there u64 s _ (block_at s y o e).prev refl)
 
-    pub next-listed : k ≡ 1 → Lists u64 s (vip_list k b) (record { first = r.next_at; count = r.next_vips })
+    pub next-listed : k ≡ 1 → StandingList u64 s (vip_list k b) (record { first = r.next_at; count = r.next_vips })
     unfolding block_read choose
     next-listed z = rw (q ∙ ap (block_read o) e, z) (list-there u64 s _ (block_at s y o e).next refl)

@@ -23,15 +23,17 @@ use Rattle.image.proofs.Stands.{own_at, sub_at, special_at, past-specials}
 use Rattle.pread.specs.Answers.{convention_read}
 use Rattle.pread.specs.declared.ConventionRead.{ConventionRead}
 use Rattle.pread.proofs.Parts.{convention_at}
-use Rattle.look.specs.Reached.{Standing, Lists}
+use Rattle.look.specs.Reached.{Standing, StandingList}
 use Rattle.look.proofs.Reaches.{element-read}
 use Rattle.look.proofs.Listing.{list-there}
 
 -- the convention at a place stands there
-pub convention-stands : {s : List ℕ} {x : Routine} → Holding s x → (i : ℕ) → i < length (conventions x) → Standing convention s (element i (conventions x)) (convention_start x i)
+pub convention-stands : {s : List ℕ} {x : Routine} → Holding s x → (i : ℕ) → i < length (conventions x)
+    → Standing convention s (element i (conventions x)) (convention_start x i)
 unfolding convention_start element
 convention-stands {s} {x} h zero l = record { it = x.routine_convention; end = _; is = refl; reads = convention_layout.back _ h.holds.own s _ (own_at h) }
-convention-stands {s} {x} h (suc zero) l = record { it = x.subroutine_convention; end = _; is = refl; reads = convention_layout.back _ h.holds.sub s _ (sub_at h) }
+convention-stands {s} {x} h (suc zero) l =
+    record { it = x.subroutine_convention; end = _; is = refl; reads = convention_layout.back _ h.holds.sub s _ (sub_at h) }
 convention-stands {s} {x} h (suc (suc i)) l =
     let special = x.spec_subroutine_conventions in
     let m : i < length special = le_of_suc-le-suc (le_of_suc-le-suc l) in
@@ -40,15 +42,16 @@ convention-stands {s} {x} h (suc (suc i)) l =
     (many-reads convention convention_bytes convention_layout.back _ special refl h.holds.special.each s _ (special_at h)) m)
 
 -- a list of registers
-module _ {s : List ℕ} (y : Bytes s) (o : ℕ) {c : RoutineConvention} {n : ℕ} (e : convention s o ≡ ok c n) {r : ConventionRead} (q : r ≡ convention_read o (convention s o)) (k : ℕ) where
-  pub volatile-listed : k ≡ 0 → Lists register s (register_list k c) (record { first = r.volatile_at; count = r.volatile_registers })
+module _ {s : List ℕ} (y : Bytes s) (o : ℕ) {c : RoutineConvention} {n : ℕ} (e : convention s o ≡ ok c n) {r : ConventionRead}
+    (q : r ≡ convention_read o (convention s o)) (k : ℕ) where
+  pub volatile-listed : k ≡ 0 → StandingList register s (register_list k c) (record { first = r.volatile_at; count = r.volatile_registers })
   unfolding convention_read choose
   volatile-listed z = rw (q ∙ ap (convention_read o) e, z) (list-there register s _ (convention_at s y o e).volatile refl)
 
-  pub param-listed : k ≡ 1 → Lists register s (register_list k c) (record { first = r.param_at; count = r.param_registers })
+  pub param-listed : k ≡ 1 → StandingList register s (register_list k c) (record { first = r.param_at; count = r.param_registers })
   unfolding convention_read choose
   param-listed z = rw (q ∙ ap (convention_read o) e, z) (list-there register s _ (convention_at s y o e).param refl)
 
-  pub retval-listed : k ≡ 2 → Lists register s (register_list k c) (record { first = r.retval_at; count = r.retval_registers })
+  pub retval-listed : k ≡ 2 → StandingList register s (register_list k c) (record { first = r.retval_at; count = r.retval_registers })
   unfolding convention_read choose
   retval-listed z = rw (q ∙ ap (convention_read o) e, z) (list-there register s _ (convention_at s y o e).retval refl)

@@ -11,15 +11,13 @@ use Rattle.std.specs.Result.{IsErrAnd}
 use Rattle.std.proofs.lemmas.Result.{err_from_is_err_and}
 use Rattle.fields.specs.Refusals.{number}
 use Rattle.fields.specs.declared.Refusal.{Refusal}
-use Rattle.fields.proofs.Numbers.{not-zero}
 use Rattle.fields.specs.Outcome.{Outcome, refused, accepted, after}
 use Rattle.fields.specs.Parse.{Reader, ok, many}
 use Rattle.fields.proofs.Invert.{inv}
+use Rattle.pod.specs.declared.Vip.{Vip}
 use Rattle.machine.specs.Look.{element}
-use Rattle.book.specs.Says.{refusal_of}
 use Rattle.ends.specs.Ends.{times}
-use Rattle.image.proofs.Inspects.{refused-by}
-use Rattle.look.specs.Reached.{Standing, Reaches}
+use Rattle.look.specs.Reached.{Standing, Reaches, of_vip}
 
 pub element-no : {A : Type 0} (i : ℕ) (xs : List A) → length xs ≤ i → element i xs ≡ refused 15
 unfolding element
@@ -43,6 +41,11 @@ element-read p s f far (suc i) o (x ∷ xs) e h =
     let z : b.0 ≡ xs = cc in
     rw (far o _ _ a.2) (element-read p s f far i a.1 xs (b.2 ∙ ap (λ ys. ok ys b.1) z) (le_of_suc-le-suc h))
 
+-- the exit of a `?` where a vip is answered
+module _ (r : Result Vip Refusal) (e : Refusal) where
+  pub exit-vip : IsErrAnd r (λ d. d ≡ e) → {q : Outcome ℕ} → refused (number e) ≡ q → of_vip r ≡ q
+  exit-vip h g = let p = err_from_is_err_and r h in rw (p.1, p.2) g
+
 -- a look that goes on from another
 module _ {A B : Type 0} (l : Outcome A) (f : A → Outcome B) where
   pub refused_on : {k : ℕ} → l ≡ refused k → after l f ≡ refused k
@@ -53,8 +56,9 @@ module _ {A B : Type 0} (l : Outcome A) (f : A → Outcome B) where
   unfolding after
   goes_on e = rw e
 
-  pub hands_on : (p : Reader B) (s : List ℕ) (r : Result ℕ Refusal) (e : Refusal) → IsErrAnd r (λ d. d ≡ e) → number e ≡ refusal_of l → Reaches p s (after l f) r
-  hands_on p s r e h g = let q = err_from_is_err_and r h in rw (q.1, q.2) (refused_on (refused-by l g (not-zero e)))
+  -- `?` hands a refusal on
+  pub hands_on : (p : Reader B) (s : List ℕ) (r : Result ℕ Refusal) (e : Refusal) → IsErrAnd r (λ d. d ≡ e) → l ≡ refused (number e) → Reaches p s (after l f) r
+  hands_on p s r e h g = let q = err_from_is_err_and r h in rw (q.1, q.2) (refused_on g)
 
   pub comes_to : {p : Reader B} {s : List ℕ} {x : A} {o : ℕ} → l ≡ accepted x → Standing p s (f x) o → Standing p s (after l f) o
   comes_to e t = record { it = t.it; end = t.end; is = goes_on e ∙ t.is; reads = t.reads }

@@ -1,6 +1,6 @@
 // Looking at a book, by place from 0: at its routine, at a block and its instructions and vips, at a convention and its registers. Each look inspects
-// the book first, so the order is 10, 13, 15; it hands no book back, and image and journal are lent read-only. With a refusal the other fields of an
-// answer are 0.
+// the book first, so the order is 10, 13, 15; it hands no book back, and image and journal are lent read-only. What is looked at, or where it stands, is a
+// Result; each public look makes of it the struct that C sees. With a refusal the other fields of that struct are 0.
 #![tactic(auto)]
 
 pub mod blocks;
@@ -8,10 +8,10 @@ pub mod conventions;
 
 ghost use Rattle.std.specs.Prelude.{◌≡◌};
 ghost use Rattle.machine.specs.Look.{look_routine};
-ghost use Rattle.book.specs.Says.{state};
+ghost use Rattle.book.specs.Says.{state_of};
 ghost use Rattle.look.specs.Answers.{routine_look};
 
-use book::Book;
+use book::Lent;
 use pod::{InstructionDesc, RegisterDesc, Vip};
 
 // The machine, the entry vip, and the numbers of special conventions and of blocks.
@@ -80,31 +80,24 @@ struct Elements {
     pub count: u64,
 }
 
-// There is no such list.
-const NO_ELEMENTS: Elements = Elements { first: 0, count: 0 };
-
 // At the routine.
-pub fn look_routine(book: Book, image: &[u8], journal: &[u8]) -> RoutineLook
-    ensures { result ≡ routine_look (look_routine (state image.now journal.now book)) }
+pub fn look_routine(lent: Lent) -> RoutineLook
+    ensures { result ≡ routine_look (look_routine (state_of lent.entry)) }
 {
-    if let Err(refusal) = image::inspect(book, image, journal) {
-        return RoutineLook {
+    match image::inspect(lent) {
+        Ok(()) => RoutineLook {
+            refusal: 0,
+            arch_id: lent.image[ends::MACHINE_AT] as u64,
+            vip: Vip(ends::word64(lent.image, ends::ENTRY_VIP_AT)),
+            spec_conventions: image::special_count(lent.image) as u64,
+            blocks: image::blocks_of(lent.image).count as u64,
+        },
+        Err(refusal) => RoutineLook {
             refusal: u64::from(refusal),
             arch_id: 0,
             vip: Vip(0),
             spec_conventions: 0,
             blocks: 0,
-        };
-    }
-    let arch_id = image[ends::MACHINE_AT] as u64;
-    let vip = Vip(ends::word64(image, ends::ENTRY_VIP_AT));
-    let spec_conventions = image::special_count(image);
-    let blocks = image::blocks_of(image);
-    RoutineLook {
-        refusal: 0,
-        arch_id,
-        vip,
-        spec_conventions: spec_conventions as u64,
-        blocks: blocks.count as u64,
+        },
     }
 }

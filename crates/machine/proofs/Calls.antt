@@ -20,6 +20,12 @@ use Rattle.machine.specs.Journal.{entry, undone}
 use Rattle.machine.specs.Charge.{carried}
 use Rattle.machine.specs.Book.{State, holding, with_walk, book_hands, book_answers, held, edit_book, restored, undo_book, walk_book, call_book, step}
 
+-- a test that did not refuse
+pub passed : (t : Bool) (e : ℕ) → refuse_unless t e ≡ accepted tt → t ≡ true
+unfolding refuse_unless choose
+passed true e q = refl
+passed false e q = not-both q
+
 -- 11, 12, or neither
 module _ (lent : Lengths) (written used : ℕ) where
   pub not_admitted_11 : lent.image < written → admit lent written used ≡ refused 11
@@ -36,17 +42,10 @@ module _ (lent : Lengths) (written used : ℕ) where
 
   -- what an accepted admission says
   pub was_admitted : admit lent written used ≡ accepted tt → (written ≤ lent.image) × (used ≤ lent.journal)
-  unfolding admit refuse_unless choose
+  unfolding admit
   was_admitted h =
       let p = unless_passed 11 _ (leb written lent.image) h in
-      (leb-true written lent.image p.0, fits p.1)
-    where
-      go : (t : Bool) → refuse_unless t 12 ≡ accepted tt → t ≡ true
-      go true q = refl
-      go false q = not-both q
-
-      fits : refuse_unless (leb used lent.journal) 12 ≡ accepted tt → used ≤ lent.journal
-      fits q = leb-true used lent.journal (go (leb used lent.journal) q)
+      (leb-true written lent.image p.0, leb-true used lent.journal (passed (leb used lent.journal) 12 p.1))
 
 -- Which calls a walk turns away: create and append never; remove, take back and start unless none is open; next and abandon where none is
 module _ (n : ℕ) where

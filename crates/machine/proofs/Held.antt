@@ -2,7 +2,7 @@
 -- By what each of its tests was.
 -- Assumes nothing.
 use mathlib.Core.Path.{◌≡◌, refl, sym, ap, ap₂, ◌∙◌}
-use mathlib.Core.Bool.{Bool, true, false, ◌&&◌}
+use mathlib.Core.Bool.{true}
 use mathlib.Core.List.{List, ◌++◌}
 use Prim.Native.Nat.{ℕ, ◌-◌, ◌≤◌, ◌<◌}
 use native.Mathlib.Omega.{arith}
@@ -10,6 +10,7 @@ use lib.ListN.{length, take, drop, length-append, length-replicate, take-append-
 use lib.Seq.{length-take-le, take-append_seam, drop-append_seam}
 use lib.Dec.{leb}
 use borrow.Author.Tests.{le-leb, leb-true}
+pub use Rattle.std.proofs.lemmas.Bool.{and_parts as both}
 use Rattle.fields.specs.Parse.{Res, ok, no}
 use Rattle.fields.specs.Bytes.{zeros, Bytes, most_lent}
 use Rattle.fields.specs.Outcome.{accepted, after, refuse_unless}
@@ -82,10 +83,6 @@ holding-held n r journal used rates sum walk o room u small journal_small fits =
       holds = o;
       walk = fits;
     })
-
-pub both : (t u : Bool) → (t && u) ≡ true → (t ≡ true) × (u ≡ true)
-both true u q = (refl, q)
-both false u q = let z : ◌≡◌ {A = ℕ} 0 1 = cc in absurd (omega arith)
 
 -- what the tests of a book that holds r were
 pub record Tests (s : State) (r : Routine) : Type 0 where

@@ -2,20 +2,19 @@
 -- block has 36 bytes and every instruction 29, and an image at most 2^24.
 -- Assumes nothing.
 use mathlib.Core.Path.{◌≡◌, refl, sym, ap, ◌∙◌}
-use mathlib.Core.Bool.{Bool, true, false}
+use mathlib.Core.Bool.{true, false}
 use mathlib.Core.List.{List, [], ◌∷◌, ◌++◌}
 use Prim.Native.Nat.{ℕ, ◌+◌, ◌*◌, ◌≤◌, ◌<◌, ◌^◌}
 use native.Mathlib.Omega.{arith}
 use lib.ListN.{length}
-use lib.Dec.{ltb, eqb}
-use borrow.Author.Tests.{ltb-false, eqb-true, eqb-false}
+use lib.Dec.{ltb}
+use borrow.Author.Tests.{ltb-false}
 use Rattle.fields.specs.Parse.{ok}
 use Rattle.fields.specs.Outcome.{accepted, what_is_read}
 use Rattle.fields.proofs.Outcomes.{came, was_read, if_passed, unless_passed}
 use Rattle.fields.specs.Lists.{Each}
 use Rattle.fields.specs.Bytes.{Bytes, most_lent}
 use Rattle.pod.specs.Values.{Instruction, BasicBlock, Routine}
-use Rattle.pod.specs.Blocks.{vips, repeats}
 use Rattle.pod.specs.Layout.{instruction}
 use Rattle.pod.specs.Sound.{appended}
 use Rattle.pod.specs.Written.{many_bytes, instruction_bytes, block_bytes, routine_head_bytes}
@@ -26,7 +25,7 @@ use Rattle.laws.proofs.Sizes.{instruction-size, block_size, block-least, block-e
 use Rattle.machine.specs.Edits.{Edit, create, remove, append, present, place, empty_block, block_at, remove_at, change_at, append_to, with_instructions, with_blocks, is_closed, edited, size}
 use Rattle.machine.specs.Machine.{edit, Sendable}
 use Rattle.machine.proofs.Lists.{total, total_snoc, total-least, many-total, total-remove, total_change, each_snoc, each_at, each-remove}
-use Rattle.machine.proofs.Lists.{each_change, one, one_same, one_other, found, absent-count, once-count, count-once}
+use Rattle.machine.proofs.Lists.{each_change, one, found, once_more, once-count, count-once}
 
 -- What an accepted edit did
 pub record Appended (v : ℕ) (s : List ℕ) (r r' : Routine) : Type 0 where
@@ -170,23 +169,13 @@ changed r i g h w k v n =
     (λ u. omega (arith, total_change (one u) i g bs w, same-one u (g (block_at i bs)) (block_at i bs) v, once-count u bs h.blocks.distinct))
     n
 
--- no vip twice, with one more that was absent
-pub once_more : (bs : List BasicBlock) (b : BasicBlock) → present b.vip bs ≡ false → repeats (vips bs) ≡ false → (w : ℕ) → total (one w) bs + one w b ≤ 1
-once_more bs b a d w = go (eqb b.vip w) refl
-  where
-    go : (t : Bool) → eqb b.vip w ≡ t → total (one w) bs + one w b ≤ 1
-    go true q =
-        let e = eqb-true b.vip w q in
-        omega (arith, one_same w b e, absent-count w bs (rw e at a))
-    go false q = omega (arith, one_other w b (eqb-false b.vip w q), once-count w bs d)
-
 pub keeps : (e : Edit) (r r' : Routine) → Sendable (edit e) → RoutineHolds r → Did e r r' → size r' ≤ most_lent → RoutineHolds r'
 keeps (create v) r r' f h d n =
     let bs = r.explored_blocks in
     rw d.1
     (made r (bs ++ (empty_block v ∷ [])) h
     (each_snoc BlockHolds bs (empty_block v) h.blocks.listed.each (empty_holds v f))
-    (λ u. omega (arith, total_snoc (one u) bs (empty_block v), once_more bs (empty_block v) d.0 h.blocks.distinct u))
+    (λ u. omega (arith, total_snoc (one u) bs (empty_block v), once_more bs (empty_block v) d.0 u (once-count u bs h.blocks.distinct)))
     (rw d.1 at n))
 keeps (remove v) r r' f h d n =
     let bs = r.explored_blocks in

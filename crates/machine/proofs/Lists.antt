@@ -9,6 +9,7 @@ use native.Mathlib.Omega.{arith}
 use lib.ListN.{length, get_or, take, length-append}
 use lib.Dec.{eqb}
 use borrow.Author.Tests.{eqb-true, eqb-false, eq-eqb, ne_eqb}
+use Rattle.std.proofs.lemmas.Bool.{false_from_ne_true, true_from_ne_false}
 use Rattle.fields.specs.Lists.{choose, has, Each, last_of, but_last, last_is}
 use Rattle.pod.specs.Values.{BasicBlock}
 use Rattle.pod.specs.Blocks.{vips, repeats}
@@ -174,7 +175,7 @@ module _ {A : Type 0} (f : A → Bool) where
 
   pub last-is-some : (xs : List A) → last_is f xs ≡ true → 0 < length xs
   unfolding last_is
-  last-is-some [] h = let z : false ≡ true = h in let y : ◌≡◌ {A = ℕ} 0 1 = cc in absurd (omega arith)
+  last-is-some [] h = cc
   last-is-some (x ∷ xs) h = omega arith
 
   pub last-is-at : (d : A) (xs : List A) → 0 < length xs → last_is f xs ≡ f (get_or xs (length xs - 1) d)
@@ -216,71 +217,60 @@ pub record Found (v : ℕ) (bs : List BasicBlock) : Type 0 where
 
 pub found : (v : ℕ) (bs : List BasicBlock) → present v bs ≡ true → Found v bs
 unfolding has place choose
-found v [] h = let z : ◌≡◌ {A = ℕ} 0 1 = cc in absurd (omega arith)
+found v [] h = cc
 found v (b ∷ bs) h = go (found v bs) (eqb b.vip v) refl h
   where
     go : (has v (vips bs) ≡ true → Found v bs) → (t : Bool) → eqb b.vip v ≡ t → choose t true (has v (vips bs)) ≡ true → Found v (b ∷ bs)
     go r true q h = record { within = rw q (omega arith); vip = rw q (eqb-true b.vip v q) }
     go r false q h = let f = r h in record { within = rw q (omega (arith, f.within)); vip = rw q f.vip }
 
+-- where neither of two tests passes, both are false
+pub neither : (t u : Bool) → choose t true u ≡ false → (t ≡ false) × (u ≡ false)
+unfolding choose
+neither true u h = cc
+neither false u h = (refl, h)
+
 -- a vip is present where its place is one of the blocks, and absent where it is the number of blocks
 place-absent : (v : ℕ) (bs : List BasicBlock) → present v bs ≡ false → place v bs ≡ length bs
 unfolding has place choose
 place-absent v [] h = refl
-place-absent v (b ∷ bs) h = go (place-absent v bs) (eqb b.vip v) refl h
-  where
-    go : (has v (vips bs) ≡ false → place v bs ≡ length bs) → (t : Bool) → eqb b.vip v ≡ t → choose t true (has v (vips bs)) ≡ false
-        → choose t 0 (suc (place v bs)) ≡ suc (length bs)
-    go f true q p = let z : ◌≡◌ {A = ℕ} 0 1 = cc in absurd (omega arith)
-    go f false q p = ap suc (f p)
+place-absent v (b ∷ bs) h = let n = neither (eqb b.vip v) (has v (vips bs)) h in rw n.0 (ap suc (place-absent v bs n.1))
 
 module _ (v : ℕ) (bs : List BasicBlock) where
   pub present-before : place v bs < length bs → present v bs ≡ true
-  present-before h = go (present v bs) refl
-    where
-      go : (t : Bool) → present v bs ≡ t → t ≡ true
-      go true q = refl
-      go false q = absurd (omega (arith, place-absent v bs q))
+  present-before h = true_from_ne_false _ λ q. omega (arith, place-absent v bs q)
 
   pub absent-after : length bs ≤ place v bs → present v bs ≡ false
-  absent-after h = go (present v bs) refl
-    where
-      go : (t : Bool) → present v bs ≡ t → t ≡ false
-      go true q = absurd (omega (arith, (found v bs q).within))
-      go false q = refl
+  absent-after h = false_from_ne_true _ λ q. omega (arith, (found v bs q).within)
 
 pub absent-count : (v : ℕ) (bs : List BasicBlock) → present v bs ≡ false → total (one v) bs ≡ 0
-unfolding has total choose
+unfolding has total
 absent-count v [] h = refl
-absent-count v (b ∷ bs) h = go (absent-count v bs) (eqb b.vip v) refl h
-  where
-    go : (has v (vips bs) ≡ false → total (one v) bs ≡ 0) → (t : Bool) → eqb b.vip v ≡ t → choose t true (has v (vips bs)) ≡ false
-        → one v b + total (one v) bs ≡ 0
-    go r true q h = let z : ◌≡◌ {A = ℕ} 0 1 = cc in absurd (omega arith)
-    go r false q h = omega (arith, one_other v b (eqb-false b.vip v q), r h)
+absent-count v (b ∷ bs) h =
+    let n = neither (eqb b.vip v) (has v (vips bs)) h in
+    omega (arith, one_other v b (eqb-false b.vip v n.0), absent-count v bs n.1)
 
 pub count-absent : (v : ℕ) (bs : List BasicBlock) → total (one v) bs ≡ 0 → present v bs ≡ false
 unfolding has total choose
 count-absent v [] h = refl
-count-absent v (b ∷ bs) h = go (count-absent v bs) (eqb b.vip v) refl
-  where
-    go : (total (one v) bs ≡ 0 → has v (vips bs) ≡ false) → (t : Bool) → eqb b.vip v ≡ t → choose t true (has v (vips bs)) ≡ false
-    go r true q = absurd (omega (arith, one_same v b (eqb-true b.vip v q)))
-    go r false q = r (omega arith)
+count-absent v (b ∷ bs) h = rw (ne_eqb b.vip v (λ e. omega (arith, one_same v b e))) (count-absent v bs (omega arith))
 
--- no vip twice
-pub once-count : (v : ℕ) (bs : List BasicBlock) → repeats (vips bs) ≡ false → total (one v) bs ≤ 1
-unfolding repeats total choose
-once-count v [] h = omega arith
-once-count v (b ∷ bs) h = go (once-count v bs) (has b.vip (vips bs)) refl h (eqb b.vip v) refl
+-- no vip twice, with one more that was absent
+pub once_more : (bs : List BasicBlock) (b : BasicBlock) → present b.vip bs ≡ false → (v : ℕ) → total (one v) bs ≤ 1 → total (one v) bs + one v b ≤ 1
+once_more bs b a v h = go (eqb b.vip v) refl
   where
-    go : (repeats (vips bs) ≡ false → total (one v) bs ≤ 1) → (t : Bool) → has b.vip (vips bs) ≡ t → choose t true (repeats (vips bs)) ≡ false
-        → (u : Bool) → eqb b.vip v ≡ u → one v b + total (one v) bs ≤ 1
-    go r true q h u p = let z : ◌≡◌ {A = ℕ} 0 1 = cc in absurd (omega arith)
-    go r false q h true p =
-        let e = eqb-true b.vip v p in
-        omega (arith, one_same v b e, absent-count v bs (ap (λ w. has w (vips bs)) (sym e) ∙ q))
-    go r false q h false p = omega (arith, one_other v b (eqb-false b.vip v p), r h)
+    go : (t : Bool) → eqb b.vip v ≡ t → total (one v) bs + one v b ≤ 1
+    go true q =
+        let e = eqb-true b.vip v q in
+        omega (arith, one_same v b e, absent-count v bs (rw e at a))
+    go false q = omega (arith, one_other v b (eqb-false b.vip v q))
+
+pub once-count : (v : ℕ) (bs : List BasicBlock) → repeats (vips bs) ≡ false → total (one v) bs ≤ 1
+unfolding repeats total
+once-count v [] h = omega arith
+once-count v (b ∷ bs) h =
+    let n = neither (has b.vip (vips bs)) (repeats (vips bs)) h in
+    omega (arith, once_more bs b n.0 v (once-count v bs n.1))
 
 pub count-once : (bs : List BasicBlock) → ((v : ℕ) → total (one v) bs ≤ 1) → repeats (vips bs) ≡ false
 unfolding repeats total choose

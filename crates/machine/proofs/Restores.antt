@@ -22,9 +22,9 @@ use Rattle.laws.proofs.Layouts.{block_layout, read-holds}
 use Rattle.machine.specs.Trailer.{trailer_size, Trailer}
 use Rattle.machine.specs.Edits.{size, present, empty_block, block_at, insert_at, change_at, with_instructions, with_blocks}
 use Rattle.machine.specs.Journal.{last_bytes, without_last, undo_create, undo_remove, undo_append, undo_entry, undone}
-use Rattle.machine.proofs.Lists.{total_insert, total_change, total-take, each_last, each_take, each_at, each_insert, but_last_snoc, one, once-count}
+use Rattle.machine.proofs.Lists.{total_insert, total_change, total-take, each_last, each_take, each_at, each_insert, but_last_snoc, one, once_more, once-count}
 use Rattle.machine.proofs.Held.{whole_is}
-use Rattle.machine.proofs.Keeps.{weight, size-blocks, weight-at, weight-append, made, recoded, changed, once_more}
+use Rattle.machine.proofs.Keeps.{weight, size-blocks, weight-at, weight-append, made, recoded, changed}
 
 -- what taking back gave, the routine before an edit and its entry's size, of the used part of a journal
 pub record Restores (N : ℕ) (used : List ℕ) (x : Routine × ℕ) : Type 0 where
@@ -91,7 +91,8 @@ module _ (N : ℕ) (small : N ≤ most_lent) (r : Routine) (h : RoutineHolds r) 
       let bs = insert_at t.place a blocks in
       fits bs (trailer_size + t.len) last.1
       (omega (arith, size-blocks r bs, size-blocks r blocks, total_insert weight t.place a blocks, leb-true (size r + t.len) N last.0))
-      (made r bs h (each_insert BlockHolds t.place a blocks each o) (λ u. omega (arith, total_insert (one u) t.place a blocks, once_more blocks a p h.blocks.distinct u)))
+      (made r bs h (each_insert BlockHolds t.place a blocks each o)
+      (λ u. omega (arith, total_insert (one u) t.place a blocks, once_more blocks a p u (once-count u blocks h.blocks.distinct))))
       (omega (arith, length-take-le (length used - trailer_size) used (omega arith)))
 
   append_restores : (t : Trailer) {x : Routine × ℕ} → undo_append r t ≡ accepted x → Restores N used x

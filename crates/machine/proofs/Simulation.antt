@@ -4,11 +4,11 @@
 use mathlib.Core.Path.{◌≡◌, refl, sym, ap, ap₂, ◌∙◌}
 use mathlib.Core.Bool.{true}
 use mathlib.Core.List.{List, [], ◌∷◌, ◌++◌, append_assoc}
-use Prim.Native.Nat.{ℕ, zero, suc, ◌+◌, ◌-◌, ◌≤◌}
-use native.Mathlib.Nat.{suc-sub-suc, sub-zero, zero-sub}
+use Prim.Native.Nat.{ℕ, ◌+◌, ◌-◌, ◌≤◌}
 use native.Mathlib.Omega.{arith}
-use lib.ListN.{length, take, drop, length-append, length-replicate, replicate-append-replicate}
+use lib.ListN.{length, take, length-append, length-replicate, replicate-append-replicate}
 use lib.Seq.{take-append_seam, drop-append-add, drop-append_seam}
+use Rattle.std.proofs.lemmas.List.{drop-replicate}
 use Rattle.fields.specs.Bytes.{zeros, put, most_lent}
 use Rattle.fields.specs.Outcome.{Outcome, refused, accepted, after, attempt}
 use Rattle.fields.specs.Lists.{Each}
@@ -28,14 +28,9 @@ use Rattle.machine.proofs.Walks.{edit-fits, undo-fits, walked-fits}
 use Rattle.machine.proofs.Calls.{left, was_admitted, step-barred, walk-done, edit-refused, edit_not_admitted, edit-done, undo-empty, undo-done}
 
 -- Bytes put over the zeros after j, and zeros put back
-drop-zeros : (k n : ℕ) → drop k (zeros n) ≡ zeros (n - k)
-drop-zeros zero n = ap zeros (sym (sub-zero n))
-drop-zeros (suc k) zero = ap zeros (sym (zero-sub (suc k)))
-drop-zeros (suc k) (suc n) = drop-zeros k n ∙ ap zeros (sym (suc-sub-suc n k))
-
 pub put-zeros : (j x : List ℕ) (n : ℕ) → put (length j) x (j ++ zeros n) ≡ (j ++ x) ++ zeros (n - length x)
 unfolding put
-put-zeros j x n = rw (take-append_seam j (zeros n), drop-append-add j (zeros n) (length x), drop-zeros (length x) n, append_assoc)
+put-zeros j x n = rw (take-append_seam j (zeros n), drop-append-add j (zeros n) (length x), drop-replicate {X = ℕ} (length x) n 0, append_assoc)
 
 pub put_back : (es x : List ℕ) (n m : ℕ) → m ≡ length x + n → put (length es) (zeros (length x)) ((es ++ x) ++ zeros n) ≡ es ++ zeros m
 unfolding put

@@ -64,7 +64,7 @@ fresh-sum rates b h =
   where
     go : (is : List Instruction) → none is ≡ true → total (rate_of rates) is ≡ 0
     go [] e = refl
-    go (i ∷ is) e = let z : ◌≡◌ {A = ℕ} 0 1 = cc in absurd (omega arith)
+    go (i ∷ is) e = cc
 
 without_last_sum : (rates : Rates) (d : Instruction) (b : BasicBlock) → 0 < length b.instructions
     → block_sum rates (without_last b) + rate_of rates (get_or b.instructions (length b.instructions - 1) d) ≡ block_sum rates b

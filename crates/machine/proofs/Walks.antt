@@ -11,11 +11,11 @@ use lib.Dec.{leb, ltb, eqb}
 use borrow.Author.Tests.{le-leb, leb-true, ltb-true, eqb-true}
 use Rattle.fields.specs.Lists.{choose}
 use Rattle.fields.specs.Outcome.{accepted, refuse_unless}
-use Rattle.fields.proofs.Outcomes.{not-both}
 use Rattle.pod.specs.Values.{Routine}
 use Rattle.machine.specs.Edits.{Edit, create, remove, append, empty_block, append_to, place}
 use Rattle.machine.specs.Walk.{Walk, walk_start, walk_next, walk_abandon, walk_fits, Part, no_part, block_part, hand_out, walked_on}
 use Rattle.machine.specs.Machine.{edit, undo, permit}
+use Rattle.machine.proofs.Calls.{passed}
 use Rattle.machine.proofs.Lists.{length_change}
 use Rattle.machine.proofs.Keeps.{Did}
 
@@ -50,12 +50,7 @@ fits_more n r r' h f = fits_below n r' (omega (arith, below-fits n r f))
 
 -- what is asked only where no walk is open
 pub was_closed : (n : ℕ) → refuse_unless (eqb n 0) 20 ≡ accepted tt → n ≡ 0
-unfolding refuse_unless choose
-was_closed n = go (eqb n 0) refl
-  where
-    go : (t : Bool) → eqb n 0 ≡ t → refuse_unless t 20 ≡ accepted tt → n ≡ 0
-    go true e q = eqb-true n 0 e
-    go false e q = not-both q
+was_closed n q = eqb-true n 0 (passed (eqb n 0) 20 q)
 
 -- an edit that is not turned away
 pub edit-fits : (e : Edit) (n : ℕ) (r r' : Routine) → permit (edit e) n ≡ accepted tt → Did e r r' → walk_fits n r ≡ true → walk_fits n r' ≡ true

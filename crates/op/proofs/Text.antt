@@ -247,7 +247,7 @@ between_4 b y l h i = (
 module _ (n : ℕ) (rest : (s : List ℕ) → length s ≤ n → is_text s ≡ true → IsUtf8 s) (b : ℕ) where
   lost : {P : Type 0} (s : List ℕ) → lead b ≡ None → is_text (b ∷ s) ≡ true → P
   unfolding text
-  lost s d e = let z : false ≡ true = sym (begins b s d) ∙ e in let y : ◌≡◌ {A = ℕ} 0 1 = cc in absurd (omega arith)
+  lost s d e = let z : false ≡ true = sym (begins b s d) ∙ e in cc
 
   bytes_2 : 194 ≤ b → b < 224 → (s : List ℕ) → length s ≤ n → text (due 1 0x80 0xbf) s ≡ true → IsUtf8 (b ∷ s)
   unfolding text

@@ -48,7 +48,7 @@ front-gives : {A : Type 0} (a : A) → Front (done a)
 front-gives a = record { onward = λ s o {a = c} {n} e. let z : o ≡ n = cc in (omega arith, λ l. omega arith); again = λ s s' o l e b. e }
 
 front-refuses : {A : Type 0} (e : ℕ) → Front {A = A} (λ s o. no e)
-front-refuses e = record { onward = λ s o q. let z : ◌≡◌ {A = ℕ} 0 1 = cc in absurd (omega arith); again = λ s s' o l q b. q }
+front-refuses e = record { onward = λ s o q. cc; again = λ s s' o l q b. q }
 
 front-either : {A : Type 0} (t : Bool) (p q : Reader A) → Front p → Front q → Front (λ s o. choose t (p s o) (q s o))
 unfolding choose
@@ -79,7 +79,7 @@ part-is k s o {l} {n} e = go (leb (o + k) (length s)) refl e
   where
     go : (t : Bool) → leb (o + k) (length s) ≡ t → choose t (ok (take k (drop o s)) (o + k)) (no 1) ≡ ok l n → (take k (drop o s) ≡ l) × (n ≡ o + k) × (o + k ≤ length s)
     go true q p = (cc, cc, leb-true (o + k) (length s) q)
-    go false q p = let z : ◌≡◌ {A = ℕ} 0 1 = cc in absurd (omega arith)
+    go false q p = cc
 
 -- a part by the bytes up to its end
 part_of : (k : ℕ) (s : List ℕ) (o : ℕ) → o ≤ length s → drop o (take (o + k) s) ≡ take k (drop o s)

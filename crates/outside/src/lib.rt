@@ -11,14 +11,14 @@ ghost use Rattle.pod.specs.Written.{operand_bytes, instruction_bytes, block_byte
 ghost use Rattle.laws.specs.Holds.{OperandHolds, InstructionHolds, BlockHolds};
 ghost use Rattle.machine.specs.Book.{in_image};
 ghost use Rattle.machine.specs.Outside.{mask_operand, mask_instruction, mask_block, masked, outside_copy};
-ghost use Rattle.book.specs.Says.{state};
+ghost use Rattle.book.specs.Says.{state_of};
 ghost use Rattle.image.specs.Filled.{IsFilled, Filled};
 ghost use Rattle.writer.specs.Answers.{write_answer};
 ghost use Rattle.outside.specs.Masks.{Stands, Masks};
 ghost use Rattle.outside.specs.Chains.{Chain};
 ghost use denote.Ref.{MutBor};
 
-use book::Book;
+use book::Lent;
 use fields::Refusal;
 use writer::Written;
 
@@ -90,29 +90,31 @@ fn put_masked(image: &[u8], copy: &mut [u8], n: usize)
     buffer::copy_at(copy, 0, &image[..n]);
     buffer::clear(copy, n, all);
     let blocks = image::blocks_of(copy);
-    mask_each(copy, blocks.start, blocks.count as u64, mask_block);
+    let first = blocks.start;
+    let count = blocks.count as u64;
+    mask_each(copy, first, count, mask_block);
 }
 
 // How many bytes were copied: 10 for any of the three lendings, 13, then 11. A masked routine is as long as it was, so its size is the book's.
-fn masked_copy(book: Book, image: &[u8], journal: &[u8], copy: &mut [u8]) -> Result<u64, Refusal>
-    ensures { (of_result result, copy.new) ≡ outside_copy (state image.now journal.now book) copy.old }
+fn masked_copy(lent: Lent, copy: &mut [u8]) -> Result<u64, Refusal>
+    ensures { (of_result result, copy.new) ≡ outside_copy (state_of lent.entry) copy.old }
 {
     if !fields::is_lent(copy.len()) {
         return Err(Refusal::LendingTooLarge);
     }
-    image::inspect(book, image, journal)?;
-    let written = book.written;
+    image::inspect(lent)?;
+    let written = lent.book.written;
     if (copy.len() as u64) < written {
         return Err(Refusal::ImageFull);
     }
-    put_masked(image, copy, written as usize);
+    put_masked(lent.image, copy, written as usize);
     Ok(written)
 }
 
 // The call, as C sees it.
-pub fn outside_copy(book: Book, image: &[u8], journal: &[u8], copy: &mut [u8]) -> Written
-    ensures { (result ≡ write_answer (outside_copy (state image.now journal.now book) copy.old).0)
-        × (copy.new ≡ (outside_copy (state image.now journal.now book) copy.old).1) }
+pub fn outside_copy(lent: Lent, copy: &mut [u8]) -> Written
+    ensures { (result ≡ write_answer (outside_copy (state_of lent.entry) copy.old).0)
+        × (copy.new ≡ (outside_copy (state_of lent.entry) copy.old).1) }
 {
-    masked_copy(book, image, journal, copy).into()
+    masked_copy(lent, copy).into()
 }

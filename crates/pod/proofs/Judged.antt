@@ -70,5 +70,5 @@ module _ {A : Type 0} (p : Reader A) (T : A → Bool) (s : List ℕ) (o : ℕ) w
   judged-refused {k} e = go (p s o) e
     where
       go : (r : Res A) → bind r (λ a n. ok (T a) n) ≡ no k → no k ≡ span r
-      go (ok a n) h = let z : ◌≡◌ {A = ℕ} 0 1 = cc in absurd (omega arith)
+      go (ok a n) h = cc
       go (no c) h = let z : k ≡ c = cc in ap no z

@@ -68,8 +68,8 @@ module _ (z y : ℤ) (f : SFits w32 z) (g : SFits w32 y) (h : lt_z (to_z w32 (of
           → z ≡ x → y ≡ w → Both
       go (pos a) (pos b) f g h k p q i j =
           record { a = a; b = b; first = p; second = q; is_a = i; is_b = j; wide = ltb-false a 1 h; small_a = f.sfits; small_b = g.sfits }
-      go (negsuc a) w f g h k p q i j = let z : ◌≡◌ {A = ℕ} 0 1 = cc in absurd (omega arith)
-      go (pos a) (negsuc b) f g h k p q i j = let z : ◌≡◌ {A = ℕ} 0 1 = cc in absurd (omega arith)
+      go (negsuc a) w f g h k p q i j = cc
+      go (pos a) (negsuc b) f g h k p q i j = cc
 
   pub width_cast : T (non_neg (to_z w32 (of_z w32 z))) × Fits w64 (nat_abs (to_z w32 (of_z w32 z)))
   width_cast = let e = both in rw e.first (tt, record { fits = omega (arith, e.small_a) })

@@ -161,12 +161,6 @@ pub fn operand_at(s: &[u8], at: usize) -> Parsed<Operand>
     }
 }
 
-fn wide(x: u8) -> u64
-    ensures { result ≡ x }
-{
-    x as u64
-}
-
 // The operand at `at` is passed over: whether its register, if it is one, is sound, and the offset past it; none where this does not tell. It is pub for the
 // fast way over an instruction, which has tested the length. It has no branch on the kind: an immediate's size and 12 more for a register; the highest byte
 // of the id of a register; and its width and offset, read as unsigned, so that a negative one is too large.
@@ -175,7 +169,7 @@ pub fn fast_operand(s: &[u8], at: usize) -> Option<(bool, usize)>
     ensures { IfSome result (λ x. (judged operand operand_sound s.now at ≡ ok x.0 x.1) × (x.1 ≤ at + 28)) }
 {
     let kind = fields::four(s, at);
-    let top = wide(s[at + 19]);
+    let top = u64::from(s[at + 19]);
     if 1 < kind {
         return None;
     }
@@ -189,7 +183,8 @@ pub fn fast_operand(s: &[u8], at: usize) -> Option<(bool, usize)>
     Some((sound, at + 16 + 12 * (kind as usize)))
 }
 
-// `count` registers are passed over: whether every one is sound.
+// `count` registers are passed over: whether every one is sound. A loop of its own beside fields::list_skip, since nothing is told of a register's written form:
+// through that each would be said to be in written form, and this be taken out of the answer again.
 fn registers_run(s: &[u8], at: usize, count: u32) -> Parsed<bool>
     ensures { of_read result ≡ judged (many register count) (every is_sound) s.now at }
 {

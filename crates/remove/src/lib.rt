@@ -36,7 +36,7 @@ fn swap_remove(image: &mut [u8], at: usize, end: usize, written: usize)
         buffer::put_u32(image, count_at, fewer);
         return;
     }
-    let last = image::block_offset(image, fewer as usize);
+    let last = blocks.offset(fewer as usize);
     let size = end - at;
     let left = written - size;
     exchange::exchange(image, at, end, last, written);
@@ -68,12 +68,10 @@ pub fn remove_block(book: Book, image: &mut [u8], journal: &mut [u8], vip: Vip) 
 {
     let written = book.written as usize;
     let used = book.used as usize;
-    let found = image::find(image, vip);
-    let place = found.place;
-    let at = found.at;
-    if found.count as usize <= place {
+    let Some(found) = image::blocks_of(image).find(vip) else {
         return Err(Refusal::NoSuchBlock);
-    }
+    };
+    let at = found.at;
     let end = ends::block_end(image, at);
     let size = end - at;
     let left = written - size;
@@ -84,7 +82,7 @@ pub fn remove_block(book: Book, image: &mut [u8], journal: &mut [u8], vip: Vip) 
     if sum < less {
         return Err(Refusal::SpoiledBook);
     }
-    put_entry(journal, used, &image[at..end], vip, place as u32);
+    put_entry(journal, used, &image[at..end], vip, found.place);
     swap_remove(image, at, end, written);
     Ok(Book {
         written: left as u64,

@@ -1,11 +1,11 @@
 -- What a walk notes of the block at a place. A run counts the blocks that it has passed: as long as these are no more than the place it has noted nothing, at
--- the block there it notes where it stands and where the block ended, and then it keeps that. And a routine's blocks stand where its head ends, after their
+-- the block there it notes where it stands and where the block ended, and then it keeps that: so it has the note of the blocks passed. And a routine's blocks stand where its head ends, after their
 -- count.
 -- Assumes nothing.
 use mathlib.Core.Path.{◌≡◌, refl, sym, ap, ◌∙◌}
-use Rattle.std.proofs.Common.{Ok}
+use Rattle.std.proofs.Common.{Ok, Option, Some, None}
 use mathlib.Core.List.{List}
-use Prim.Native.Nat.{ℕ, suc, ◌+◌, ◌≤◌, ◌<◌}
+use Prim.Native.Nat.{ℕ, suc, ◌+◌}
 use native.Mathlib.Omega.{arith}
 use lib.ListN.{length}
 use Rattle.fields.specs.Parse.{Res, ok, bind, span, uint, counted, u32}
@@ -25,33 +25,37 @@ use Rattle.ends.specs.Ends.{times, block_end}
 use Rattle.ends.proofs.Steps.{times_more}
 use Rattle.ends.proofs.Same.{block_ends}
 use Rattle.routine.specs.Head.{head_walked}
+use Rattle.routine.specs.declared.Extent.{Extent}
 use Rattle.routine.specs.Noted.{Note, BlocksNote}
 
 module _ (s : List ℕ) (at place : ℕ) where
   -- what is noted where `passed` blocks are passed, up to o
-  pub record Noting (passed o from to : ℕ) : Type 0 where
+  pub record Noting (passed o : ℕ) (b : Option Extent) : Type 0 where
     pub here : o ≡ times (block_end s) passed at
-    pub before : passed ≤ place → (from ≡ 0) × (to ≡ 0)
-    pub after : place < passed → (from ≡ times (block_end s) place at) × (to ≡ times (block_end s) (suc place) at)
+    pub note : Note s at passed place b
 
-  pub noting_start : Noting 0 at 0 0
+  pub noting_start : Noting 0 at None
   unfolding times
-  noting_start = record { here = refl; before = λ l. (refl, refl); after = λ l. absurd (omega arith) }
+  noting_start = record { here = refl; note = omega arith }
 
-  module _ {passed o from to n : ℕ} (h : Noting passed o from to) (e : ok tt n ≡ span (block s o)) where
+  module _ {passed o n : ℕ} {b : Option Extent} (h : Noting passed o b) (e : ok tt n ≡ span (block s o)) where
     -- one more was walked over
     past : n ≡ times (block_end s) (passed + 1) at
     past = times_more (block_end s) passed at h.here (sym (block_ends s o (inv_span (block s o) e).1))
 
     -- the one at the place
-    pub noting_there : passed ≡ place → Noting (passed + 1) n o n
+    pub noting_there : passed ≡ place → Noting (passed + 1) n (Some (record { from = o; to = n }))
     noting_there now =
         let one : passed + 1 ≡ suc place = omega arith in
-        record { here = past; before = λ g. absurd (omega arith); after = λ g. (rw (← now) h.here, rw (← one) past) }
+        record { here = past; note = record { is = omega arith; from = rw (← now) h.here; to = rw (← one) past } }
 
     -- another
-    pub noting_other : (passed ≡ place → ⊥) → Noting (passed + 1) n from to
-    noting_other other = record { here = past; before = λ g. h.before (omega arith); after = λ g. h.after (omega arith) }
+    pub noting_other : (passed ≡ place → ⊥) → Noting (passed + 1) n b
+    noting_other other = record { here = past; note = go b h.note }
+      where
+        go : (b : Option Extent) → Note s at passed place b → Note s at (passed + 1) place b
+        go None k = omega (arith, k)
+        go (Some x) k = record { is = omega (arith, k.is); from = k.from; to = k.to }
 
 -- of a routine that was read
 module _ (s : List ℕ) (b : Bytes s) where
@@ -99,10 +103,10 @@ module _ (s : List ℕ) (b : Bytes s) where
       give (head_made o e₁ e₂ e₃ e₄ e₅ e₆)
 
   -- its head was walked over, and then its blocks
-  pub routine_noted : (o place : ℕ) {n : ℕ} {x : Sight} → ok x n ≡ head_walked s o → {start end : ℕ} → BlocksNote s n place (Ok (record { sight = x; end = n; from = start; to = end }))
-      → (r : Routine) (m : ℕ) → routine s o ≡ ok r m → Note s (o + length (routine_head_bytes r) + 4) (length r.explored_blocks) place start end
+  pub routine_noted : (o place : ℕ) {n : ℕ} {x : Sight} → ok x n ≡ head_walked s o → (b : Option Extent) → BlocksNote s n place (Ok (record { sight = x; end = n; block = b }))
+      → (r : Routine) (m : ℕ) → routine s o ≡ ok r m → Note s (o + length (routine_head_bytes r) + 4) (length r.explored_blocks) place b
   unfolding span
-  routine_noted o place {n} h k r m e =
+  routine_noted o place {n} h b k r m e =
       let a = (head_at o).when r m e in
       let z : n ≡ ends o r = (inv_ok (ap span h ∙ a.walks)).1 in
       k _ _ (rw z a.count)

@@ -25,14 +25,20 @@ const VTIL_MAGIC_2: u16 = 0xdead;
 // In the header, where the pad stands.
 const PAD: usize = 5;
 
-// The blocks of a routine, or a routine, that was walked over: what was seen, the offset past it, and where the block at the place that was asked for begins
-// and ends, 0 and 0 where there is none.
+// Where a block begins and ends.
+#[derive(Clone, Copy, Debug, PartialEq, Eq)]
+pub struct Extent {
+    pub from: usize,
+    pub to: usize,
+}
+
+// The blocks of a routine, or a routine, that was walked over: what was seen, the offset past it, and where the block at the place that was asked for stands, if
+// there is one.
 #[derive(Clone, Copy, Debug, PartialEq, Eq)]
 pub struct Noted {
     pub sight: Sight,
     pub end: usize,
-    pub from: usize,
-    pub to: usize,
+    pub block: Option<Extent>,
 }
 
 // The header is passed over.
@@ -95,7 +101,7 @@ fn floor_after(floor: u64, vip: Vip) -> u64
 fn blocks_run(s: &[u8], at: usize, count: u32, place: u64) -> Result<(Noted, bool), Refusal>
     ensures walk { of_run result ≡ run (walked block block_bytes block_sound s.now) count at }
     ensures rising { IfOk result (λ x. x.1 ≡ true → Apart (many block count s.now at)) }
-    ensures note { IfOk result (λ x. Note s.now at count place x.0.from x.0.to) }
+    ensures note { IfOk result (λ x. Note s.now at count place x.0.block) }
 {
     let mut end = at;
     let mut seen = Sight {
@@ -103,14 +109,15 @@ fn blocks_run(s: &[u8], at: usize, count: u32, place: u64) -> Result<(Noted, boo
         sound: true,
     };
     let mut floor: u64 = 0;
-    let mut from: usize = 0;
-    let mut to: usize = 0;
+    let mut block = None;
     for passed in 0..count {
         let (sight, next) = block::block_skip(s, end)?;
         floor = floor_after(floor, Vip(ends::word64(s, end)));
         if passed as u64 == place {
-            from = end;
-            to = next;
+            block = Some(Extent {
+                from: end,
+                to: next,
+            });
         }
         end = next;
         seen = seen.and(sight);
@@ -118,8 +125,7 @@ fn blocks_run(s: &[u8], at: usize, count: u32, place: u64) -> Result<(Noted, boo
     let noted = Noted {
         sight: seen,
         end,
-        from,
-        to,
+        block,
     };
     Ok((noted, floor < sorting::TOP))
 }

@@ -7,30 +7,16 @@
 ghost use Rattle.std.specs.Prelude.{◌≡◌, ℕ, ◌≤◌, length};
 ghost use Rattle.fields.specs.Outcome.{accepted};
 ghost use Rattle.pod.specs.Values.{Routine};
-ghost use Rattle.machine.specs.Edits.{block_at};
-ghost use Rattle.machine.specs.Journal.{last_size_is, undo_append};
+ghost use Rattle.machine.specs.Journal.{undo_append};
 ghost use Rattle.machine.specs.Book.{held, in_image};
 ghost use Rattle.book.specs.Says.{state, leaves, taking_back};
 ghost use Rattle.book.specs.Holding.{IsSound};
 ghost use Rattle.journal.specs.Says.{trailer_of};
-ghost use Rattle.image.specs.Places.{FindsLast};
 ghost use Rattle.undo_append.specs.Last.{LastIn, HasLast, shortened};
 
 use book::{Answered, Book};
 use fields::Refusal;
-use image::LastInstruction;
 use journal::Trailer;
-
-// Whether there is a last instruction, and it has so many bytes.
-fn has_size(last: LastInstruction, size: usize) -> bool
-    requires { last.from ≤ last.end }
-    ensures { (r : Routine) (i : ℕ) → FindsLast r i last → result ≡ last_size_is size (block_at i r.explored_blocks).instructions }
-{
-    if last.from == last.end {
-        return false;
-    }
-    last.end - last.from == size
-}
 
 // The last instruction of the block at offset `at`, which has so many bytes and ends at `end`, goes, and what stands after it moves down.
 fn drop_instruction(image: &mut [u8], at: usize, end: usize, size: usize, written: usize)
@@ -55,17 +41,20 @@ pub fn undo_append(book: Book, image: &mut [u8], journal: &mut [u8], last: Trail
     if blocks.count <= place {
         return Err(Refusal::SpoiledBook);
     }
-    let at = image::block_offset(image, place as usize);
+    let at = blocks.offset(place as usize);
     if ends::word64(image, at) != last.vip.0 {
         return Err(Refusal::SpoiledBook);
     }
     let instruction = image::last_instruction(image, at);
+    let Some(from) = instruction.from else {
+        return Err(Refusal::SpoiledBook);
+    };
     let size = last.len as usize;
-    if !has_size(instruction, size) {
+    if instruction.end - from != size {
         return Err(Refusal::SpoiledBook);
     }
     let sum = book.sum;
-    let less = charge::sum_of_instruction(image, instruction.from, book.rates);
+    let less = charge::sum_of_instruction(image, from, book.rates);
     if sum < less {
         return Err(Refusal::SpoiledBook);
     }

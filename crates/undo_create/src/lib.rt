@@ -69,14 +69,15 @@ pub fn undo_create(book: Book, image: &mut [u8], journal: &mut [u8], last: Trail
     if place as usize + 1 != blocks.count as usize {
         return Err(Refusal::SpoiledBook);
     }
-    let at = image::block_offset(image, place as usize);
+    let start = blocks.start;
+    let at = blocks.offset(place as usize);
     if ends::word64(image, at) != last.vip.0 {
         return Err(Refusal::SpoiledBook);
     }
     if !is_fresh(image, at) {
         return Err(Refusal::SpoiledBook);
     }
-    drop_block(image, blocks.start, at, book.written as usize, place);
+    drop_block(image, start, at, book.written as usize, place);
     let before = journal::clear_trailer(journal, book.used as usize);
     Ok(Book {
         written: at as u64,

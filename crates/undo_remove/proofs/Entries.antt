@@ -49,7 +49,7 @@ is_one v s h = go (whole_block s) refl h
   where
     go : (o : Outcome BasicBlock) → whole_block s ≡ o → has_vip v o ≡ true → (b : BasicBlock) × (whole_block s ≡ accepted b) × (eqb b.vip v ≡ true)
     go (accepted b) p h = (b, p, h)
-    go (refused e) p h = let z : ◌≡◌ {A = ℕ} 0 1 = cc in absurd (omega arith)
+    go (refused e) p h = cc
 
 -- the bytes of the block, as the code cuts them off the entries
 pub cut-end : (d : ℕ) (s : List ℕ) → take (length s - d) (drop d s) ≡ drop d s

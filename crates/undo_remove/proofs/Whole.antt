@@ -46,7 +46,7 @@ module _ (v : ℕ) (s : List ℕ) (y : Bytes s) where
       go (accepted b) p = absurd (h _ (seen p))
 
   pub not-read : {e : ℕ} → walked block block_bytes block_sound s 0 ≡ no e → false ≡ is_block v s
-  not-read q = none λ u p. let z : ◌≡◌ {A = ℕ} 0 1 = cc in omega arith
+  not-read q = none λ u p. cc
 
   -- the walk passed a block, which ends at n
   module _ {n : ℕ} {x : Sight} (q : walked block block_bytes block_sound s 0 ≡ ok x n) where

@@ -56,7 +56,7 @@ fn swap_insert(image: &mut [u8], place: usize, written: usize, block: &[u8])
         buffer::put_u32(image, count_at, more);
         return;
     }
-    let at = image::block_offset(image, place);
+    let at = blocks.offset(place);
     let next = ends::block_end(image, at);
     buffer::copy_at(image, written, block);
     exchange::exchange(image, at, next, written, end);
@@ -79,12 +79,11 @@ fn entry_fits(image: &[u8], written: usize, entries: &[u8], last: Trailer) -> Re
     if !is_block(&entries[from..], vip) {
         return Err(Refusal::SpoiledBook);
     }
-    let found = image::find(image, vip);
-    let count = found.count as usize;
-    if found.place < count {
+    let blocks = image::blocks_of(image);
+    if blocks.find(vip).is_some() {
         return Err(Refusal::SpoiledBook);
     }
-    if count < place {
+    if (blocks.count as usize) < place {
         return Err(Refusal::SpoiledBook);
     }
     if image.len() - written < size {

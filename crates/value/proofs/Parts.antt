@@ -77,7 +77,7 @@ parts s at k a m h e =
 passed : (t : Bool) (e o : ℕ) {u : Unit {0}} {n : ℕ} → choose t (ok tt o) (no e) ≡ ok u n → t ≡ true
 unfolding choose
 passed true e o h = refl
-passed false e o h = let z : ◌≡◌ {A = ℕ} 0 1 = cc in absurd (omega arith)
+passed false e o h = cc
 
 named-listed : (w s : List ℕ) (o : ℕ) {k n : ℕ} → named w s o ≡ ok k n → k < 49
 unfolding named
@@ -102,7 +102,7 @@ smalls (x ∷ xs) = choose (leb x 3) (smalls xs) false
 both : (a b : Bool) → choose a b false ≡ true → (a ≡ true) × (b ≡ true)
 unfolding choose
 both true b h = (refl, h)
-both false b h = let z : ◌≡◌ {A = ℕ} 0 1 = cc in absurd (omega arith)
+both false b h = cc
 
 small_at : (l : List ℕ) (k : ℕ) → smalls l ≡ true → get_or l k 0 ≤ 3
 unfolding smalls

@@ -22,7 +22,7 @@ ghost use Rattle.call_list.specs.Says.{run_outcome, run_told};
 ghost use Rattle.call_list.specs.Runs.{Runs};
 ghost use Rattle.vtil.specs.Check.{check_file};
 
-use book::{Answer, Book, Rates, WalkAnswer};
+use book::{Answer, Book, Lent, Rates, WalkAnswer};
 use call_list::RunAnswer;
 use charge::ChargeLook;
 use fields::Refusal;
@@ -117,14 +117,25 @@ pub fn vtil_write_instruction(value: InstructionDesc, image: &mut [u8]) -> Writt
 pub fn vtil_routine(book: Book, image: &[u8], journal: &[u8]) -> RoutineLook
     ensures { result ≡ routine_look (look_routine (state image.now journal.now book)) }
 {
-    look::look_routine(book, image, journal)
+    look::look_routine(Lent {
+        book,
+        image,
+        journal,
+    })
 }
 
 // a block,
 pub fn vtil_block(book: Book, image: &[u8], journal: &[u8], place: u64) -> BlockLook
     ensures { result ≡ block_look (look_block place (state image.now journal.now book)) }
 {
-    look::blocks::look_block(book, image, journal, place)
+    look::blocks::look_block(
+        Lent {
+            book,
+            image,
+            journal,
+        },
+        place,
+    )
 }
 
 // one of a block's instructions,
@@ -137,7 +148,15 @@ pub fn vtil_instruction(
 ) -> InstructionLook
     ensures { result ≡ instruction_look (look_instruction block place (state image.now journal.now book)) }
 {
-    look::blocks::look_instruction(book, image, journal, block, place)
+    look::blocks::look_instruction(
+        Lent {
+            book,
+            image,
+            journal,
+        },
+        block,
+        place,
+    )
 }
 
 // one of its prev (list 0) or next (1) vips,
@@ -151,14 +170,30 @@ pub fn vtil_block_vip(
 ) -> VipLook
     ensures { result ≡ vip_look (look_vip block list place (state image.now journal.now book)) }
 {
-    look::blocks::look_vip(book, image, journal, block, list, place)
+    look::blocks::look_vip(
+        Lent {
+            book,
+            image,
+            journal,
+        },
+        block,
+        list,
+        place,
+    )
 }
 
 // a convention: 0 the routine's, 1 the subroutine's, then the special ones,
 pub fn vtil_convention(book: Book, image: &[u8], journal: &[u8], place: u64) -> ConventionLook
     ensures { result ≡ convention_look (look_convention place (state image.now journal.now book)) }
 {
-    look::conventions::look_convention(book, image, journal, place)
+    look::conventions::look_convention(
+        Lent {
+            book,
+            image,
+            journal,
+        },
+        place,
+    )
 }
 
 // one of its volatile (list 0), param (1) or retval (2) registers.
@@ -172,14 +207,30 @@ pub fn vtil_convention_register(
 ) -> RegisterLook
     ensures { result ≡ register_look (look_register convention list place (state image.now journal.now book)) }
 {
-    look::conventions::look_register(book, image, journal, convention, list, place)
+    look::conventions::look_register(
+        Lent {
+            book,
+            image,
+            journal,
+        },
+        convention,
+        list,
+        place,
+    )
 }
 
 // The charge for the routine at the rates of the six groups, in whole cents.
 pub fn vtil_charge(book: Book, image: &[u8], journal: &[u8], rates: Rates) -> ChargeLook
     ensures { result ≡ charge_look (look_charge rates.rate (state image.now journal.now book)) }
 {
-    charge::charge(book, image, journal, rates)
+    charge::charge(
+        Lent {
+            book,
+            image,
+            journal,
+        },
+        rates,
+    )
 }
 
 // The edits, and undo: document 01's take back.
@@ -220,21 +271,42 @@ pub fn vtil_undo(book: Book, image: &mut [u8], journal: &mut [u8]) -> Answer
 pub fn vtil_walk_start(book: Book, image: &[u8], journal: &[u8]) -> Answer
     ensures { outcome result image.now journal.now ≡ step (walking walk_start) (state image.now journal.now book) }
 {
-    Answer::new(book, walk::start(book, image, journal))
+    Answer::new(
+        book,
+        walk::start(Lent {
+            book,
+            image,
+            journal,
+        }),
+    )
 }
 
 // hands out the next block, or says end,
 pub fn vtil_walk_next(book: Book, image: &[u8], journal: &[u8]) -> WalkAnswer
     ensures { walk_outcome result image.now journal.now ≡ told_step (walking walk_next) (state image.now journal.now book) }
 {
-    WalkAnswer::new(book, walk::next(book, image, journal))
+    WalkAnswer::new(
+        book,
+        walk::next(Lent {
+            book,
+            image,
+            journal,
+        }),
+    )
 }
 
 // or is abandoned.
 pub fn vtil_walk_abandon(book: Book, image: &[u8], journal: &[u8]) -> Answer
     ensures { outcome result image.now journal.now ≡ step (walking walk_abandon) (state image.now journal.now book) }
 {
-    Answer::new(book, walk::abandon(book, image, journal))
+    Answer::new(
+        book,
+        walk::abandon(Lent {
+            book,
+            image,
+            journal,
+        }),
+    )
 }
 
 // A copy for outside reviewers: the routine without the values of its immediates, in a second image.
@@ -242,7 +314,14 @@ pub fn vtil_outside_copy(book: Book, image: &[u8], journal: &[u8], copy: &mut [u
     ensures { (result ≡ write_answer (outside_copy (state image.now journal.now book) copy.old).0)
         × (copy.new ≡ (outside_copy (state image.now journal.now book) copy.old).1) }
 {
-    outside::outside_copy(book, image, journal, copy)
+    outside::outside_copy(
+        Lent {
+            book,
+            image,
+            journal,
+        },
+        copy,
+    )
 }
 
 // Opens a file at rates and runs a list of calls on it. By its contract it leaves what the routine machine leaves, and carries the sum of the machine's

@@ -1,16 +1,16 @@
 -- What the step of a walk's call is, by the tests that the code makes: a refusal of the inspection, 20 or 21, or the walk moves. What the inspection noted is
--- the block that next hands out, and a block has 36 bytes at least, so that the two offsets are equal only where there is none.
+-- where the block stands that next hands out, or that there is none.
 -- Assumes nothing.
-use mathlib.Core.Path.{◌≡◌, refl, sym, ap, ◌∙◌}
+use mathlib.Core.Path.{◌≡◌, sym, ap, ◌∙◌}
 use mathlib.Core.Bool.{Bool, true, false}
-use Prim.Native.Nat.{ℕ, suc, ◌+◌, ◌-◌, ◌≤◌, ◌<◌, ◌^◌}
+use Prim.Native.Nat.{ℕ, suc, ◌+◌, ◌-◌, ◌≤◌, ◌^◌}
 use native.Mathlib.Omega.{arith}
-use Rattle.std.proofs.Common.{List, Result}
+use Rattle.std.proofs.Common.{List, Some, None, Result}
 use Rattle.std.specs.Result.{IsErrAnd}
 use Rattle.std.proofs.lemmas.Result.{err_from_is_err_and}
 use lib.Dec.{ltb}
 use lib.ListN.{length}
-use borrow.Author.Tests.{ltb-true, ltb-false}
+use borrow.Author.Tests.{lt-ltb, le-ltb}
 use Rattle.fields.specs.Bytes.{Bytes}
 use Rattle.fields.specs.Lists.{choose}
 use Rattle.fields.specs.Outcome.{refused}
@@ -18,7 +18,6 @@ use Rattle.fields.specs.Refusals.{number}
 use Rattle.fields.specs.declared.Refusal.{Refusal}
 use Rattle.pod.specs.Values.{Routine}
 use Rattle.pod.specs.Written.{block_bytes}
-use Rattle.laws.proofs.Sizes.{block-least}
 use Rattle.machine.specs.Edits.{block_at}
 use Rattle.machine.specs.Walk.{walk_start, walk_next, walk_abandon, Part, no_part, block_part, hand_out, walked_on}
 use Rattle.machine.specs.Machine.{Answer, Call, walking}
@@ -30,7 +29,8 @@ use Rattle.machine.proofs.Calls.{step-refused, step-barred, walk-done, start_per
 use Rattle.book.specs.Says.{state, leaving, handing, hands, refusal_of}
 use Rattle.book.specs.declared.Book.{Book}
 use Rattle.book.specs.declared.HandedOut.{HandedOut}
-use Rattle.image.specs.Inspected.{FindsBlock, unwalked}
+use Rattle.routine.specs.declared.Extent.{Extent}
+use Rattle.image.specs.Inspected.{NextStands, FindsBlock, unwalked}
 use Rattle.image.proofs.Inspects.{Ready, ready, refused-by, sound-held, unwalked_ready, unwalked-step}
 use Rattle.image.proofs.Stands.{block-next}
 
@@ -89,46 +89,34 @@ module _ (s : State) {k : ℕ} (e : k ≡ refusal_of (held s)) where
       unfolding walked_on hand_out told
       moves t q = sym (ap (λ y. (told y.0, y.1)) (walk-done s r here.is walk_next (next_permitted _ n)) ∙ rw q)
 
-      module _ {start end : ℕ} (f : FindsBlock s start end) where
-        -- a block is there, and ends after it began
-        stands : place < count → (start ≡ (block_part r place).offset) × (end ≡ start + len) × (36 ≤ len)
-        stands l =
-            let p = f.there r here.is l in
-            (p.0, omega (arith, p.0, p.1, block-next here.holding place l), block-least (block_at place r.explored_blocks))
+      -- past the last block
+      pub ended : FindsBlock s None → handing 0 0 (with_walk 0 s) ≡ told_step (walking walk_next) s
+      unfolding choose
+      ended f = moves false (le-ltb place count (f r here.is))
 
-        pub ended : start ≡ end → handing 0 0 (with_walk 0 s) ≡ told_step (walking walk_next) s
-        unfolding choose
-        ended q = go (ltb place count) refl
-          where
-            go : (t : Bool) → ltb place count ≡ t → handing 0 0 (with_walk 0 s) ≡ told_step (walking walk_next) s
-            go false w = moves false w
-            go true w = let p = stands (ltb-true place count w) in absurd (omega (arith, p.1, p.2))
+      -- a block stands there
+      module _ (block : Extent) (f : FindsBlock s (Some block)) where
+        stands : NextStands s r block
+        stands = f r here.is
 
-        pub handed : (start ≡ end → ⊥) → handing start (end - start) (with_walk (s.book.walk + 1) s) ≡ told_step (walking walk_next) s
+        long : block.to ≡ block.from + len
+        long = omega (arith, stands.from, stands.to, block-next here.holding place stands.is)
+
+        pub ordered : block.from ≤ block.to
+        ordered = omega (arith, long)
+
+        pub handed : handing block.from (block.to - block.from) (with_walk (s.book.walk + 1) s) ≡ told_step (walking walk_next) s
         unfolding choose
-        handed q = go (ltb place count) refl
-          where
-            go : (t : Bool) → ltb place count ≡ t → handing start (end - start) (with_walk (s.book.walk + 1) s) ≡ told_step (walking walk_next) s
-            go false w = absurd (q (f.none r here.is (ltb-false place count w)))
-            go true w =
-                let p = stands (ltb-true place count w) in
-                let l : end - start ≡ len = omega (arith, p.1) in
-                let m : s.book.walk + 1 ≡ suc (suc place) = omega (arith, n) in
-                ap (λ i. handing i (end - start) (with_walk (s.book.walk + 1) s)) p.0
-                ∙ ap (λ i. handing (block_part r place).offset i (with_walk (s.book.walk + 1) s)) l
-                ∙ ap (λ i. handing (block_part r place).offset len (with_walk i s)) m
-                ∙ moves true w
+        handed =
+            let l : block.to - block.from ≡ len = omega (arith, long) in
+            let m : s.book.walk + 1 ≡ suc (suc place) = omega (arith, n) in
+            ap (λ i. handing i (block.to - block.from) (with_walk (s.book.walk + 1) s)) stands.from
+            ∙ ap (λ i. handing (block_part r place).offset i (with_walk (s.book.walk + 1) s)) l
+            ∙ ap (λ i. handing (block_part r place).offset len (with_walk i s)) m
+            ∙ moves true (lt-ltb place count stands.is)
 
       -- the number of the walk after it fits
       pub small : s.book.walk ≤ 2 ^ 32
       small =
           let g = here.sound in
           omega (arith, below-fits s.book.walk r g.walk, blocks-few r r.explored_blocks, g.room, g.image_lent)
-
-      -- the block begins before it ends
-      pub ordered : {start end : ℕ} → FindsBlock s start end → start ≤ end
-      ordered {start} {end} f = go (ltb place count) refl
-        where
-          go : (t : Bool) → ltb place count ≡ t → start ≤ end
-          go false w = omega (arith, f.none r here.is (ltb-false place count w))
-          go true w = omega (arith, (stands f (ltb-true place count w)).1)

@@ -7,9 +7,9 @@ ghost use Rattle.machine.specs.Walk.{walk_start, walk_next, walk_abandon};
 ghost use Rattle.machine.specs.Machine.{walking};
 ghost use Rattle.machine.specs.Book.{step};
 ghost use Rattle.machine.specs.CallList.{told_step};
-ghost use Rattle.book.specs.Says.{state, leaves, hands};
+ghost use Rattle.book.specs.Says.{state_of, leaves, hands};
 
-use book::{Answered, Book, HandedOut};
+use book::{Answered, Book, HandedOut, Lent};
 use fields::Refusal;
 
 // A walk that is open at the first place.
@@ -19,57 +19,57 @@ const FIRST: u64 = 1;
 const CLOSED: u64 = 0;
 
 // A walk begins at the first block: 20 where one is open.
-pub fn start(book: Book, image: &[u8], journal: &[u8]) -> Answered
-    ensures { leaves book result image.now journal.now ≡ step (walking walk_start) (state image.now journal.now book) }
+pub fn start(lent: Lent) -> Answered
+    ensures { leaves lent.entry.book result lent.entry.image.now lent.entry.journal.now ≡ step (walking walk_start) (state_of lent.entry) }
 {
-    image::inspect_unwalked(book, image, journal)?;
+    image::inspect_unwalked(lent)?;
     Ok(Book {
         walk: FIRST,
-        ..book
+        ..lent.book
     })
 }
 
 // The block at the walk's place, by the part of the image that it is; after the last the end, which closes the walk: 21 where none is open. The inspection
 // passes the block on its way, so that this takes one walk over the image.
-pub fn next(book: Book, image: &[u8], journal: &[u8]) -> Result<HandedOut, Refusal>
-    ensures { hands book result image.now journal.now
-        ≡ told_step (walking walk_next) (state image.now journal.now book) }
+pub fn next(lent: Lent) -> Result<HandedOut, Refusal>
+    ensures { hands lent.entry.book result lent.entry.image.now lent.entry.journal.now
+        ≡ told_step (walking walk_next) (state_of lent.entry) }
 {
-    let found = image::inspect_at(book, image, journal)?;
-    let walk = book.walk;
+    let found = image::inspect_at(lent)?;
+    let walk = lent.book.walk;
     if walk == CLOSED {
         return Err(Refusal::NoWalk);
     }
-    if found.from == found.to {
+    let Some(block) = found else {
         return Ok(HandedOut {
             book: Book {
                 walk: CLOSED,
-                ..book
+                ..lent.book
             },
             offset: 0,
             len: 0,
         });
-    }
+    };
     Ok(HandedOut {
         book: Book {
             walk: walk + 1,
-            ..book
+            ..lent.book
         },
-        offset: found.from as u64,
-        len: (found.to - found.from) as u64,
+        offset: block.from as u64,
+        len: (block.to - block.from) as u64,
     })
 }
 
 // The walk is closed before its end: 21 where none is open.
-pub fn abandon(book: Book, image: &[u8], journal: &[u8]) -> Answered
-    ensures { leaves book result image.now journal.now ≡ step (walking walk_abandon) (state image.now journal.now book) }
+pub fn abandon(lent: Lent) -> Answered
+    ensures { leaves lent.entry.book result lent.entry.image.now lent.entry.journal.now ≡ step (walking walk_abandon) (state_of lent.entry) }
 {
-    image::inspect(book, image, journal)?;
-    if book.walk == CLOSED {
+    image::inspect(lent)?;
+    if lent.book.walk == CLOSED {
         return Err(Refusal::NoWalk);
     }
     Ok(Book {
         walk: CLOSED,
-        ..book
+        ..lent.book
     })
 }

@@ -1,7 +1,6 @@
 -- `append::append` meets its contract: each answer is one law of an edit's step, with what `refusal_of_bytes` tells of the bytes, `find` of the routine
 -- held, and with what appending makes of it and of its sum.
 use mathlib.Core.Path.{◌≡◌, sym, ap, ◌∙◌, refl}
-use mathlib.Core.Bool.{true, false}
 use native.Mathlib.Omega.{arith}
 use Prim.Native.Nat.{ℕ, ◌+◌, ◌≤◌, ◌<◌, ◌^◌}
 use lib.ListN.{length}
@@ -20,6 +19,7 @@ use Rattle.book.specs.Says.{state}
 use Rattle.fields.proofs.Numbers.{not-zero}
 use Rattle.book.proofs.Answers.{refused-by, admits, leaves-refused}
 use Rattle.book.proofs.Steps.{refused-step, not_admitted_step, sum_spoiled_step, admitted_step}
+use Rattle.book.specs.Holding.{Holding}
 use Rattle.image.specs.Places.{Finds, FindsLast}
 use Rattle.image.proofs.Inspects.{sound-holding}
 use Rattle.image.proofs.Fills.{sound-filled}
@@ -28,16 +28,13 @@ use Rattle.append.specs.Target.{Target, with_one}
 use Rattle.append.proofs.Appends.{is_whole, as_instruction, sized, one_size, not-one, no_block, closed, appends, entry-is, append-costs}
 use borrow.Author.Rules.{rules}
 use Rattle.append.proofs.append.Goals as goal
-use Rattle.append.proofs.append.Goals.{After-admit, After-find-found, After-is_closed, After-last_instruction-last, After-one_instruction, After-sum_of_instruction-more, Else-found-place, In_ok-admit, In_ok-one_instruction, Start}
+use Rattle.append.proofs.append.Goals.{After-admit, After-blocks_of, In-Some, After-is_closed, After-last_instruction-last, After-one_instruction, After-sum_of_instruction-more, In_ok-admit, In_ok-one_instruction, Start}
 
 abbrev reading : In_ok-one_instruction → After-one_instruction
 reading c = (goal.at.In_ok-one_instruction c).After-one_instruction
 
-abbrev passing : After-find-found → In_ok-one_instruction
-passing c = (goal.at.After-find-found c).In_ok-one_instruction
-
-abbrev finding : Else-found-place → After-find-found
-finding c = (goal.at.Else-found-place c).After-find-found
+abbrev passing : In-Some → In_ok-one_instruction
+passing c = (goal.at.In-Some c).In_ok-one_instruction
 
 abbrev admitting : In_ok-admit → After-admit
 admitting c = (goal.at.In_ok-admit c).After-admit
@@ -74,28 +71,31 @@ octets c = c.type_inv.instruction
 whole : (c : In_ok-one_instruction) → Whole c.args.instruction.now
 whole c = is_whole _ (octets (goal.at.In_ok-one_instruction c).After-one_instruction) (sym c.in_ok-one_instruction.ensures)
 
-finds : (c : After-find-found) → Finds (R (goal.at.After-find-found c).Start) c.args.vip.0 c.find-found.result
-finds c = c.find-found.ensures (R (goal.at.After-find-found c).Start) (sound-holding c.requires.sound)
+held : (c : After-blocks_of) → Holding c.blocks_of.result.image.now (R (goal.at.After-blocks_of c).Start)
+held c = rw c.blocks_of.ensures.image (sound-holding c.requires.sound)
 
-there : (c : Else-found-place) → I (goal.at.Else-found-place c).Start < length (R (goal.at.Else-found-place c).Start).explored_blocks
-there c = let f = finds (goal.at.Else-found-place c).After-find-found in omega (arith, c.if-found-place.false, f.place, f.count)
+finds : (c : In-Some) → Finds (R (goal.at.In-Some c).Start) c.args.vip.0 c.in-Some.found
+finds c = let here = goal.at.In-Some c in c.in-Some.ensures (R here.Start) (held here.After-blocks_of)
+
+there : (c : In-Some) → I (goal.at.In-Some c).Start < length (R (goal.at.In-Some c).Start).explored_blocks
+there c = (finds c).there
 
 -- its last instruction was reached
-abbrev block : After-last_instruction-last → Else-found-place
-block c = (goal.at.After-last_instruction-last c).Else-found-place
+abbrev block : After-last_instruction-last → In-Some
+block c = (goal.at.After-last_instruction-last c).In-Some
 
 last : (c : After-last_instruction-last) → FindsLast (R (goal.at.After-last_instruction-last c).Start) (I (goal.at.After-last_instruction-last c).Start) c.last_instruction-last.result
-last c = let here = goal.at.After-last_instruction-last c in c.last_instruction-last.ensures (R here.Start) (I here.Start) (sound-holding c.requires.sound) (there here.Else-found-place) (finds here.After-find-found).at
+last c = let here = goal.at.After-last_instruction-last c in c.last_instruction-last.ensures (R here.Start) (I here.Start) (sound-holding c.requires.sound) (there here.In-Some) (finds here.In-Some).at
 
 target : (c : After-last_instruction-last) →
-    Target c.args.image.now c.args.book.written c.find-found.result.at c.last_instruction-last.result.end (R (goal.at.After-last_instruction-last c).Start) (I (goal.at.After-last_instruction-last c).Start)
-target c = let here = goal.at.After-last_instruction-last c in record { filled = sound-filled c.requires.sound; there = there here.Else-found-place; begins = (finds here.After-find-found).at; ends = (last c).end }
+    Target c.args.image.now c.args.book.written c.in-Some.found.at c.last_instruction-last.result.end (R (goal.at.After-last_instruction-last c).Start) (I (goal.at.After-last_instruction-last c).Start)
+target c = let here = goal.at.After-last_instruction-last c in record { filled = sound-filled c.requires.sound; there = there here.In-Some; begins = (finds here.In-Some).at; ends = (last c).end }
 
 -- and tells whether the block is closed
 told : (c : After-is_closed) → c.is_closed.result ≡ is_closed (block_at (I (goal.at.After-is_closed c).Start) (R (goal.at.After-is_closed c).Start).explored_blocks)
 told c =
     let here = goal.at.After-is_closed c in
-    c.is_closed.ensures (R here.Start) (I here.Start) (sound-holding c.requires.sound) (there here.Else-found-place) (last here.After-last_instruction-last)
+    c.is_closed.ensures (R here.Start) (I here.Start) (sound-holding c.requires.sound) (there here.In-Some) (last here.After-last_instruction-last)
 
 -- after the edit's own tests: what it makes of the routine, and what is written and used then
 module _ (c : After-admit) where
@@ -106,7 +106,7 @@ module _ (c : After-admit) where
   s = (goal.at.After-admit c).Start
 
   abbrev Y : Whole s.args.instruction.now
-  Y = whole (passing (finding (block p)))
+  Y = whole (passing (block p))
 
   abbrev R' : Routine
   R' = with_one (R s) (I s) Y.x
@@ -115,7 +115,7 @@ module _ (c : After-admit) where
   made = appends (R s) s.args.vip.0 s.args.instruction.now Y (there (block p)) (sym (told (goal.at.After-admit c).After-is_closed) ∙ c.if-is_closed.false)
 
   grown : s.args.book.written + length s.args.instruction.now ≡ size R'
-  grown = omega (arith, one_size (target p) Y.x, sized (octets (reading (passing (finding (block p))))) Y)
+  grown = omega (arith, one_size (target p) Y.x, sized (octets (reading (passing (block p)))) Y)
 
   spent : s.args.book.used + 20 ≡ s.args.book.used + length (entry (E s) (R s))
   spent = omega (arith, append-costs (R s) s.args.vip.0 s.args.instruction.now Y)
@@ -160,11 +160,11 @@ returns-in_err-one_instruction c =
     leaves-refused _ _ _ _ _ c.from_residual.ensures.1
     (sym (refused-step (S s) (R s) c.requires.sound (E s) (free s) _ (not-one (R s) _ _ (refused-by _ c.in_err-one_instruction.ensures (not-zero _)))))
 
-pub returns-then-found-place : goal.returns-then-found-place
-returns-then-found-place c =
-    let here = goal.at.returns-then-found-place c in
-    let f = finds here.After-find-found in
-    sym (refused-step (S here.Start) (R here.Start) c.requires.sound (E here.Start) (free here.Start) _ (no_block (R here.Start) _ _ (whole here.In_ok-one_instruction) (omega (arith, c.if-found-place.true, f.place, f.count))))
+pub returns-in_default : goal.returns-in_default
+returns-in_default c =
+    let here = goal.at.returns-in_default c in
+    let none = c.in_default.ensures (R here.Start) (held here.After-blocks_of) in
+    sym (refused-step (S here.Start) (R here.Start) c.requires.sound (E here.Start) (free here.Start) _ (no_block (R here.Start) _ _ (whole here.In_ok-one_instruction) (omega (arith, none))))
 
 pub is_closed-requires : goal.is_closed-requires
 is_closed-requires c = search rules
@@ -172,7 +172,7 @@ is_closed-requires c = search rules
 pub returns-then-is_closed : goal.returns-then-is_closed
 returns-then-is_closed c =
     let here = goal.at.returns-then-is_closed c in
-    sym (refused-step (S here.Start) (R here.Start) c.requires.sound (E here.Start) (free here.Start) _ (closed (R here.Start) _ _ (whole here.In_ok-one_instruction) (there here.Else-found-place) (sym (told here.After-is_closed) ∙ c.if-is_closed.true)))
+    sym (refused-step (S here.Start) (R here.Start) c.requires.sound (E here.Start) (free here.Start) _ (closed (R here.Start) _ _ (whole here.In_ok-one_instruction) (there here.In-Some) (sym (told here.After-is_closed) ∙ c.if-is_closed.true)))
 
 pub returns-in_err-admit : goal.returns-in_err-admit
 returns-in_err-admit c =
@@ -194,8 +194,8 @@ insert_instruction-requires c =
     let here = goal.at.insert_instruction-requires c in
     (record { x = R here.Start; i = I here.Start; target = target here.After-last_instruction-last }, (Y here.After-admit, (room here.In_ok-admit).0))
 
-pub overflow_cast-trailer-2 : goal.overflow_cast-trailer-2
-overflow_cast-trailer-2 c = omega (arith, (room (goal.at.overflow_cast-trailer-2 c).In_ok-admit).0, c.requires.sound.image_lent)
+pub overflow_cast-trailer : goal.overflow_cast-trailer
+overflow_cast-trailer c = omega (arith, (room (goal.at.overflow_cast-trailer c).In_ok-admit).0, c.requires.sound.image_lent)
 
 pub put_trailer-requires : goal.put_trailer-requires
 put_trailer-requires c = (room (goal.at.put_trailer-requires c).In_ok-admit).1
@@ -209,7 +209,7 @@ returns c =
     (admitted_step (S here.Start) (R here.Start) c.requires.sound (E here.Start) (free here.Start) (R' here.After-admit) (made here.After-admit) (grown here.After-admit) (spent here.After-admit) c.in_ok-admit.ensures refl (sum_carried here.After-sum_of_instruction-more (rw (← sum.0) sum.1))
     (c.insert_instruction.ensures (R here.Start) (I here.Start) (Y here.After-admit) (target here.After-last_instruction-last))
     (c.put_trailer.ensures
-    ∙ ap (λ j. put c.args.book.used (trailer_bytes (trailer_with v j (length c.args.instruction.now) 3)) c.args.journal.now) (finds here.After-find-found).place
+    ∙ ap (λ j. put c.args.book.used (trailer_bytes (trailer_with v j (length c.args.instruction.now) 3)) c.args.journal.now) (finds here.In-Some).place
     ∙ ap (λ e. put c.args.book.used e c.args.journal.now) (sym (entry-is (R here.Start) v c.args.instruction.now (Y here.After-admit)))))
 
 -- what is written is within an image

@@ -10,5 +10,5 @@ returns-then-eight-eq0 c =
       | then-within w ↦ λ last.
           let here : c.args.at + 36 ≤ length c.args.s.now = leb-true _ _ (sym w.if-within.ensures) in
           (here, bare _ c.type_inv.s _ here (sym w.eight.ensures ∙ eqb-true _ _ (sym w.value-is ∙ c.if-eight-eq0.true)) (sym c.four.ensures ∙ eqb-true _ _ last))
-      | else-within w ↦ λ last. let z : ◌≡◌ {A = ℕ} 0 1 = cc in absurd (omega arith)
+      | else-within w ↦ λ last. cc
     ]

@@ -1,6 +1,5 @@
 -- What C sees of the charge: by what it answers.
-use Rattle.std.proofs.Common.{◌≡◌, refl}
-use Rattle.fields.specs.Outcome.{refused, accepted}
+use Rattle.std.proofs.Common.{refl}
 use Rattle.charge.specs.Answers.{charge_look}
 use Rattle.charge.proofs.charge.Goals as goal
 

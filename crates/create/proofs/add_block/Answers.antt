@@ -18,10 +18,10 @@ use Rattle.create.proofs.add_block.Goals.{After-blocks_of-blocks}
 -- What is known at them: where the blocks begin and how many they are, of every routine that fills the image.
 module _ (c : After-blocks_of-blocks) (x : Routine) (f : Filled c.args.image.now c.args.written x) where
   begins : c.blocks_of-blocks.result.start ≡ blocks_start x
-  begins = (c.blocks_of-blocks.ensures x (filled-holding f)).0
+  begins = (c.blocks_of-blocks.ensures.stand x (filled-holding f)).0
 
   counted : c.blocks_of-blocks.result.count ≡ length x.explored_blocks
-  counted = (c.blocks_of-blocks.ensures x (filled-holding f)).1
+  counted = (c.blocks_of-blocks.ensures.stand x (filled-holding f)).1
 
 pub overflow_sub-start : goal.overflow_sub-start
 overflow_sub-start c = let p = c.requires.0 in omega (arith, begins (goal.at.overflow_sub-start c).After-blocks_of-blocks p.x p.filled)

@@ -20,13 +20,14 @@ use Rattle.book.specs.Says.{state}
 use Rattle.fields.proofs.Numbers.{not-zero}
 use Rattle.book.proofs.Answers.{admits, leaves-refused}
 use Rattle.book.proofs.Steps.{refused-step, not_admitted_step, admitted_step}
-use Rattle.image.specs.Places.{Finds}
+use Rattle.book.specs.Holding.{Holding}
+use Rattle.image.proofs.Searches.{present, absent}
 use Rattle.image.proofs.Inspects.{sound-holding}
 use Rattle.image.proofs.Fills.{sound-filled, is-filled}
 use Rattle.create.specs.Created.{with_new}
 use Rattle.create.proofs.Creates.{not_created, creates, create-costs}
 use Rattle.create.proofs.create_block.Goals as goal
-use Rattle.create.proofs.create_block.Goals.{After-find-found, Else-found-count, In_ok-admit, Start}
+use Rattle.create.proofs.create_block.Goals.{After-blocks_of-blocks, Else-is_some, In_ok-admit, Start}
 
 -- What is known at them. At the start: the state, the routine that it holds, the edit, and what is written and used after it.
 module _ (s : Start) where
@@ -56,26 +57,33 @@ module _ (s : Start) where
   sum_stays : carried s.args.book.rates.rate R R' s.args.book.sum ≡ accepted s.args.book.sum
   sum_stays = let rates = s.args.book.rates.rate in carried-to rates R R' _ _ (omega (arith, created-sum rates R s.args.vip.0)) (omega arith)
 
-finds : (c : After-find-found) → Finds (R (goal.at.After-find-found c).Start) c.args.vip.0 c.find-found.result
-finds c = c.find-found.ensures (R (goal.at.After-find-found c).Start) (sound-holding c.requires.sound)
+-- the blocks are those of the routine
+held : (c : After-blocks_of-blocks) → Holding c.blocks_of-blocks.result.image.now (R (goal.at.After-blocks_of-blocks c).Start)
+held c = rw c.blocks_of-blocks.ensures.image (sound-holding c.requires.sound)
 
-made : (c : Else-found-count) → edited (E (goal.at.Else-found-count c).Start) (R (goal.at.Else-found-count c).Start) ≡ accepted (R' (goal.at.Else-found-count c).Start)
-made c = let f = finds (goal.at.Else-found-count c).After-find-found in creates _ _ (omega (arith, c.if-found-count.false, f.place, f.count))
+counted : (c : After-blocks_of-blocks) → c.blocks_of-blocks.result.count ≡ length (R (goal.at.After-blocks_of-blocks c).Start).explored_blocks
+counted c = (c.blocks_of-blocks.ensures.stand _ (sound-holding c.requires.sound)).1
+
+made : (c : Else-is_some) → edited (E (goal.at.Else-is_some c).Start) (R (goal.at.Else-is_some c).Start) ≡ accepted (R' (goal.at.Else-is_some c).Start)
+made c =
+    let here = goal.at.Else-is_some c in
+    let none = absent _ _ _ (c.find.ensures _ (held here.After-blocks_of-blocks)) (sym c.is_some.ensures ∙ c.if-is_some.false) in
+    creates _ _ (omega (arith, none))
 
 room : (c : In_ok-admit) → (c.args.book.written + 36 ≤ length c.args.image.now) × (c.args.book.used + 20 ≤ length c.args.journal.now)
 room c = admits _ _ _ (sym c.in_ok-admit.ensures)
 
-pub returns-then-found-count : goal.returns-then-found-count
-returns-then-found-count c =
-    let here = goal.at.returns-then-found-count c in
-    let f = finds here.After-find-found in
-    sym (refused-step (S here.Start) (R here.Start) c.requires.sound (E here.Start) (free here.Start) _ (not_created _ _ (omega (arith, c.if-found-count.true, f.place, f.count))))
+pub returns-then-is_some : goal.returns-then-is_some
+returns-then-is_some c =
+    let here = goal.at.returns-then-is_some c in
+    let there = present _ _ _ (c.find.ensures _ (held here.After-blocks_of-blocks)) (sym c.is_some.ensures ∙ c.if-is_some.true) in
+    sym (refused-step (S here.Start) (R here.Start) c.requires.sound (E here.Start) (free here.Start) _ (not_created _ _ there))
 
 pub returns-in_err-admit : goal.returns-in_err-admit
 returns-in_err-admit c =
     let here = goal.at.returns-in_err-admit c in
     leaves-refused _ _ _ _ _ c.from_residual.ensures.1
-    (not_admitted_step (S here.Start) (R here.Start) c.requires.sound (E here.Start) (free here.Start) (R' here.Start) (made here.Else-found-count) (grown here.Start) (spent here.Start) c.in_err-admit.ensures (not-zero _))
+    (not_admitted_step (S here.Start) (R here.Start) c.requires.sound (E here.Start) (free here.Start) (R' here.Start) (made here.Else-is_some) (grown here.Start) (spent here.Start) c.in_err-admit.ensures (not-zero _))
 
 pub add_block-requires : goal.add_block-requires
 add_block-requires c = (is-filled c.requires, (room (goal.at.add_block-requires c).In_ok-admit).0)
@@ -87,6 +95,6 @@ pub returns : goal.returns
 unfolding entry
 returns c =
     let here = goal.at.returns c in
-    admitted_step (S here.Start) (R here.Start) c.requires.sound (E here.Start) (free here.Start) (R' here.Start) (made here.Else-found-count) (grown here.Start) (spent here.Start) c.in_ok-admit.ensures refl (sum_stays here.Start)
+    admitted_step (S here.Start) (R here.Start) c.requires.sound (E here.Start) (free here.Start) (R' here.Start) (made here.Else-is_some) (grown here.Start) (spent here.Start) c.in_ok-admit.ensures refl (sum_stays here.Start)
     (c.add_block.ensures (R here.Start) (sound-filled c.requires.sound))
-    (c.put_trailer.ensures ∙ ap (λ n. put c.args.book.used (trailer_bytes (trailer_with c.args.vip.0 n 0 1)) c.args.journal.now) (finds here.After-find-found).count)
+    (c.put_trailer.ensures ∙ ap (λ n. put c.args.book.used (trailer_bytes (trailer_with c.args.vip.0 n 0 1)) c.args.journal.now) (counted here.After-blocks_of-blocks))

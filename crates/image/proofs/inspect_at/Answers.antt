@@ -6,18 +6,16 @@ use Prim.Native.Nat.{◌≤◌}
 use native.Mathlib.Omega.{arith}
 use lib.ListN.{length, length-take}
 use Rattle.fields.specs.Bytes.{most_lent, Bytes}
-use Rattle.fields.specs.Outcome.{refusal_of}
-use Rattle.machine.specs.Book.{State, held}
-use Rattle.book.specs.Says.{state}
+use Rattle.machine.specs.Book.{State}
+use Rattle.book.specs.Says.{state_of}
 use Rattle.image.specs.Places.{is_routine}
-use Rattle.image.specs.Inspected.{FindsBlock}
-use Rattle.image.proofs.Inspects.{Within, part, rest_is_zero, too_large_image, too_large_journal, past-image, past-journal, spoiled, not_zero, stands, astray, sound, found, none_found}
-use borrow.Author.Tests.{leb-true, leb-false, not-true, not-false}
+use Rattle.image.proofs.Inspects.{Within, part, rest_is_zero, too_large_image, too_large_journal, past-image, past-journal, not_zero, stands, astray, sound, spoiled-exit, was_whole, found}
+use borrow.Author.Tests.{leb-true, leb-false}
 use Rattle.image.proofs.inspect_at.Goals as goal
-use Rattle.image.proofs.inspect_at.Goals.{After-is_lent, Else-image-written, After-place_of, Else-not-is_lent, Else-not-is_lent-2, Else-not-is_zero, Else-not-passed}
+use Rattle.image.proofs.inspect_at.Goals.{After-is_lent, Else-image-written, After-place_of, Else-not-is_lent, Else-not-is_lent-2, Else-not-is_zero, In_ok-block}
 
 abbrev lent : After-is_lent → State
-lent c = let args = c.args in state args.image.now args.journal.now args.book
+lent c = state_of c.args.lent
 
 abbrev S : Else-not-is_lent-2 → State
 S c = lent (goal.at.Else-not-is_lent-2 c).After-is_lent
@@ -44,10 +42,10 @@ within c =
     }
 
 bytes : (c : After-place_of) → Bytes (S (goal.at.After-place_of c).Else-not-is_lent-2).image
-bytes c = c.type_inv.image
+bytes c = c.args.lent.bytes
 
-one : (c : Else-not-passed) → is_routine (part (S (goal.at.Else-not-passed c).Else-not-is_lent-2)) ≡ true
-one c = sym c.pass_image-passed.ensures.0 ∙ not-false _ c.if-not-passed.false
+one : (c : In_ok-block) → is_routine (part (S (goal.at.In_ok-block c).Else-not-is_lent-2)) ≡ true
+one c = was_whole _ c.in_ok-block.ensures.refusal
 
 zero-after : (c : Else-not-is_zero) → rest_is_zero (S (goal.at.Else-not-is_zero c).Else-not-is_lent-2) ≡ true
 zero-after c = sym c.is_zero.ensures ∙ c.if-not-is_zero.false
@@ -73,32 +71,32 @@ returns-then-journal-used-clause-refusal c =
 pub slice_bounds-pass_image-end : goal.slice_bounds-pass_image-end
 slice_bounds-pass_image-end c = let here = goal.at.slice_bounds-pass_image-end c in let s = S here.Else-not-is_lent-2 in omega (arith, length-take s.book.written s.image, written here.Else-image-written)
 
-pub returns-then-not-passed-clause-refusal : goal.returns-then-not-passed-clause-refusal
-returns-then-not-passed-clause-refusal c =
-    let here = goal.at.returns-then-not-passed-clause-refusal c in
-    spoiled (S here.Else-not-is_lent-2) (bytes here.After-place_of) (within here.After-place_of) (sym c.pass_image-passed.ensures.0 ∙ not-true _ c.if-not-passed.true)
+pub returns-in_err-block-clause-refusal : goal.returns-in_err-block-clause-refusal
+returns-in_err-block-clause-refusal c =
+    let here = goal.at.returns-in_err-block-clause-refusal c in
+    spoiled-exit (S here.Else-not-is_lent-2) (bytes here.After-place_of) (within here.After-place_of) _ _ c.from_residual.ensures.1 c.in_err-block.ensures.refusal
 
 pub returns-then-not-is_zero-clause-refusal : goal.returns-then-not-is_zero-clause-refusal
 returns-then-not-is_zero-clause-refusal c =
     let here = goal.at.returns-then-not-is_zero-clause-refusal c in
-    not_zero (S here.Else-not-is_lent-2) (bytes here.After-place_of) (within here.After-place_of) (one here.Else-not-passed) (sym c.is_zero.ensures ∙ c.if-not-is_zero.true)
+    not_zero (S here.Else-not-is_lent-2) (bytes here.After-place_of) (within here.After-place_of) (one here.In_ok-block) (sym c.is_zero.ensures ∙ c.if-not-is_zero.true)
 
 pub returns-then-not-walk_fits-clause-refusal : goal.returns-then-not-walk_fits-clause-refusal
 returns-then-not-walk_fits-clause-refusal c =
     let here = goal.at.returns-then-not-walk_fits-clause-refusal c in
     let s = S here.Else-not-is_lent-2 in
-    astray s (bytes here.After-place_of) (within here.After-place_of) (one here.Else-not-passed) (zero-after here.Else-not-is_zero) (sym (c.walk_fits.ensures _ (stands s (bytes here.After-place_of) (within here.After-place_of) (one here.Else-not-passed))) ∙ c.if-not-walk_fits.true)
+    astray s (bytes here.After-place_of) (within here.After-place_of) (one here.In_ok-block) (zero-after here.Else-not-is_zero) (sym (c.walk_fits.ensures _ (stands s (bytes here.After-place_of) (within here.After-place_of) (one here.In_ok-block))) ∙ c.if-not-walk_fits.true)
 
 pub returns-clause-refusal : goal.returns-clause-refusal
 returns-clause-refusal c =
     let here = goal.at.returns-clause-refusal c in
     let s = S here.Else-not-is_lent-2 in
-    let fits = sym (c.walk_fits.ensures _ (stands s (bytes here.After-place_of) (within here.After-place_of) (one here.Else-not-passed))) ∙ c.if-not-walk_fits.false in
-    sound s (bytes here.After-place_of) (within here.After-place_of) (one here.Else-not-passed) (zero-after here.Else-not-is_zero) fits
+    let fits = sym (c.walk_fits.ensures _ (stands s (bytes here.After-place_of) (within here.After-place_of) (one here.In_ok-block))) ∙ c.if-not-walk_fits.false in
+    sound s (bytes here.After-place_of) (within here.After-place_of) (one here.In_ok-block) (zero-after here.Else-not-is_zero) fits
 
 pub returns-clause-block : goal.returns-clause-block
 returns-clause-block c =
     let here = goal.at.returns-clause-block c in
     let s = S here.Else-not-is_lent-2 in
-    let fits = sym (c.walk_fits.ensures _ (stands s (bytes here.After-place_of) (within here.After-place_of) (one here.Else-not-passed))) ∙ c.if-not-walk_fits.false in
-    found s (bytes here.After-place_of) (within here.After-place_of) (one here.Else-not-passed) (zero-after here.Else-not-is_zero) fits c.place_of.ensures c.pass_image-passed.ensures.1
+    let fits = sym (c.walk_fits.ensures _ (stands s (bytes here.After-place_of) (within here.After-place_of) (one here.In_ok-block))) ∙ c.if-not-walk_fits.false in
+    found s (bytes here.After-place_of) (within here.After-place_of) (one here.In_ok-block) (zero-after here.Else-not-is_zero) fits _ c.place_of.ensures c.in_ok-block.ensures.block

@@ -6,8 +6,8 @@ use Rattle.image.proofs.inspect_unwalked.Goals as goal
 pub returns-in_err-inspect : goal.returns-in_err-inspect
 returns-in_err-inspect c = unwalked-exit _ _ _ c.from_residual.ensures.1 c.in_err-inspect.ensures
 
-pub returns-then-book-ne0 : goal.returns-then-book-ne0
-returns-then-book-ne0 c = unwalked_open _ c.in_ok-inspect.ensures refl (λ z. omega (arith, c.if-book-ne0.true))
+pub returns-then-lent-ne0 : goal.returns-then-lent-ne0
+returns-then-lent-ne0 c = unwalked_open _ c.in_ok-inspect.ensures refl (λ z. omega (arith, c.if-lent-ne0.true))
 
 pub returns : goal.returns
-returns c = unwalked-held _ c.in_ok-inspect.ensures refl (omega (arith, c.if-book-ne0.false))
+returns c = unwalked-held _ c.in_ok-inspect.ensures refl (omega (arith, c.if-lent-ne0.false))

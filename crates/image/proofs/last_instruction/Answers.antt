@@ -28,8 +28,7 @@ module _ (x : Routine) (i : ℕ) where
 pub returns-then-count-eq0 : goal.returns-then-count-eq0
 returns-then-count-eq0 c x i h l e =
     let n : N x i ≡ 0 = sym (counted x i (goal.at.returns-then-count-eq0 c).After-word32-count h l e) ∙ c.if-count-eq0.true in
-    let first = c.instruction_offset-first.ensures x i h l e (omega arith) in
-    record { from = first ∙ ap (λ k. instruction_start x i (k - 1)) (sym n); end = first ∙ ap (instruction_start x i) (sym n) }
+    record { from = n; end = c.instruction_offset-end.ensures x i h l e (omega arith) ∙ ap (instruction_start x i) (sym n) }
 
 pub returns : goal.returns
 returns c x i h l e =
@@ -39,7 +38,7 @@ returns c x i h l e =
     = c.instruction_offset-from.ensures x i h l e (omega (arith, n)) ∙ ap (λ k. instruction_start x i (k - 1)) n in
     let last : suc (N x i - 1) ≡ N x i = omega arith in
     record {
-      from = from;
+      from = (some, from);
       end = c.instruction_end-end.ensures ∙ ap (instruction_end c.args.image.now) from ∙ instruction-next x i h l e (N x i - 1) (omega arith)
           ∙ ap (instruction_start x i) last;
     }

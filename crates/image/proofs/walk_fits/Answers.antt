@@ -12,4 +12,4 @@ returns-then-walk-eq0 c = λ x h. sym (fits-closed _ x (omega (arith, c.if-walk-
 pub returns : goal.returns
 returns c = λ x h.
     let n = c.args.walk in
-    ap (leb (n - 1)) (c.blocks_of-blocks.ensures x h).1 ∙ fits-is n x (λ z. omega (arith, c.if-walk-eq0.false))
+    ap (leb (n - 1)) (c.blocks_of-blocks.ensures.stand x h).1 ∙ fits-is n x (λ z. omega (arith, c.if-walk-eq0.false))

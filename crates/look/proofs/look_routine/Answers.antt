@@ -9,13 +9,13 @@ use Rattle.laws.proofs.At.{fits, first}
 use Rattle.laws.proofs.Back.{length-bytes}
 use Rattle.fields.proofs.Numbers.{not-zero}
 use Rattle.machine.specs.Book.{State, held}
-use Rattle.book.specs.Says.{state}
+use Rattle.book.specs.Says.{state_of}
 use Rattle.ends.specs.Ends.{word}
 use Rattle.image.proofs.Inspects.{Ready, ready, refused-by}
 use Rattle.image.proofs.Stands.{word_at, machine-at, entry_at}
 use Rattle.look.specs.Answers.{no_routine, routine_look}
 use Rattle.look.proofs.look_routine.Goals as goal
-use Rattle.look.proofs.look_routine.Goals.{In_default}
+use Rattle.look.proofs.look_routine.Goals.{In-Ok}
 
 -- the machine's byte
 module _ {s : State} (r : Ready s) where
@@ -34,20 +34,17 @@ module _ {s : State} (r : Ready s) where
   unfolding routine_look
   routine-is e f g = rw (e ∙ word_at 8 _ _ r.holding.holds.entry (entry_at r.holding), f, g, machine-is, r.is)
 
-inspected : (c : In_default) → let a = c.args in Ready (state a.image.now a.journal.now a.book)
-inspected c = ready _ c.type_inv.image c.in_default.ensures refl
+inspected : (c : In-Ok) → let a = c.args in Ready (state_of a.lent)
+inspected c = ready _ c.args.lent.bytes c.in-Ok.ensures refl
 
 pub returns-in-Err : goal.returns-in-Err
 unfolding routine_look
 returns-in-Err c = ap no_routine c.from.ensures ∙ ap routine_look (sym (refused-by _ c.in-Err.ensures (not-zero _)))
 
-pub returns : goal.returns
-returns c =
-    let r = inspected (goal.at.returns c).In_default in
-    routine-is r c.word64.ensures (c.special_count-spec_conventions.ensures _ r.holding) (c.blocks_of-blocks.ensures _ r.holding).1
+pub returns-in-Ok : goal.returns-in-Ok
+returns-in-Ok c =
+    let r = inspected (goal.at.returns-in-Ok c).In-Ok in
+    routine-is r c.word64.ensures (c.special_count.ensures _ r.holding) (c.blocks_of.ensures.stand _ r.holding).1
 
-pub bounds-image-4 : goal.bounds-image-4
-bounds-image-4 c = machine-room (inspected (goal.at.bounds-image-4 c).In_default)
-
-pub overflow_cast-arch_id : goal.overflow_cast-arch_id
-overflow_cast-arch_id c = omega (arith, c.type_inv.image 4)
+pub bounds-lent-4 : goal.bounds-lent-4
+bounds-lent-4 c = machine-room (inspected (goal.at.bounds-lent-4 c).In-Ok)

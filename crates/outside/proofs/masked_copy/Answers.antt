@@ -10,7 +10,7 @@ use Rattle.fields.specs.Outcome.{Outcome, accepted}
 use Rattle.fields.proofs.Numbers.{not-zero}
 use Rattle.fields.proofs.Results.{exit-result}
 use Rattle.machine.specs.Book.{State}
-use Rattle.book.specs.Says.{state}
+use Rattle.book.specs.Says.{state_of}
 use Rattle.image.proofs.Inspects.{Ready, ready, refused-by}
 use Rattle.image.proofs.Fills.{sound-filled}
 use Rattle.outside.proofs.Copies.{too_large, not-held, no_room, copied}
@@ -19,7 +19,7 @@ use Rattle.outside.proofs.masked_copy.Goals as goal
 use Rattle.outside.proofs.masked_copy.Goals.{Else-not-is_lent, In_ok-inspect, Start}
 
 abbrev S : Start → State
-S s = state s.args.image.now s.args.journal.now s.args.book
+S s = state_of s.args.lent
 
 abbrev C : Start → List ℕ
 C s = s.args.copy.now

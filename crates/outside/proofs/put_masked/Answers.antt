@@ -26,13 +26,13 @@ copy_at-requires c = omega (arith, c.requires.1, part-long (goal.at.copy_at-requ
 pub mask_each-requires : goal.mask_each-requires
 mask_each-requires c =
     let f = c.requires.0.filled in
-    let there = c.blocks_of-blocks.ensures _ (holding c.args.image.now c.args.copy.now f c.requires.1 c.copy_at.ensures c.clear.ensures) in
+    let there = c.blocks_of-blocks.ensures.stand _ (holding c.args.image.now c.args.copy.now f c.requires.1 c.copy_at.ensures c.clear.ensures) in
     let all = blocks_stand c.args.image.now c.args.copy.now f c.requires.1 c.copy_at.ensures c.clear.ensures there.0 there.1 in
     λ n s o l k x e. chain_stands BlockHolds block_bytes mask_block block-kept (λ x o r y p. search rules) all l k x e
 
 pub returns : goal.returns
 returns c =
     λ x f.
-    let there = c.blocks_of-blocks.ensures x (holding c.args.image.now c.args.copy.now f c.requires.1 c.copy_at.ensures c.clear.ensures) in
+    let there = c.blocks_of-blocks.ensures.stand x (holding c.args.image.now c.args.copy.now f c.requires.1 c.copy_at.ensures c.clear.ensures) in
     masked-is c.args.image.now c.args.copy.now f c.requires.1 c.copy_at.ensures c.clear.ensures there.0 there.1
     (chain_masks BlockHolds block_bytes mask_block block-kept (λ x o r y p. search rules) c.mask_each.ensures)

@@ -14,11 +14,11 @@ offset-fits : (c : After-four-offset) → c.four-offset.result < 2 ^ 32
 offset-fits c = rw c.four-offset.ensures (le_lt 4 _ _ c.type_inv.s)
 
 pub overflow_mul-kind : goal.overflow_mul-kind
-overflow_mul-kind c = record { fits = small _ _ (omega arith) (rw c.wide-top.ensures (c.type_inv.s _).fits) }
+overflow_mul-kind c = record { fits = small _ _ (omega arith) (rw c.from-top.ensures (c.type_inv.s _).fits) }
 
 pub returns : goal.returns
 returns c = (
-  fast _ _ c.type_inv.s c.requires _ _ _ _ c.four-kind.ensures c.wide-top.ensures c.four-width.ensures c.four-offset.ensures
+  fast _ _ c.type_inv.s c.requires _ _ _ _ c.four-kind.ensures c.from-top.ensures c.four-width.ensures c.four-offset.ensures
       (omega arith) (omega arith),
   omega arith,
 )

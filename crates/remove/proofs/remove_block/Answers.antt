@@ -22,7 +22,7 @@ use Rattle.image.proofs.Inspects.{sound-holding}
 use Rattle.image.proofs.Here as B
 use Rattle.remove.proofs.Steps as K
 use Rattle.remove.proofs.remove_block.Goals as goal
-use Rattle.remove.proofs.remove_block.Goals.{After-admit, After-block_end-end, After-find-found, After-put_entry, After-sum_of_block-less, Else-found-place, In_ok-admit, Else-sum-less, Start}
+use Rattle.remove.proofs.remove_block.Goals.{After-admit, After-block_end-end, After-blocks_of, After-put_entry, After-sum_of_block-less, In-Some, In_ok-admit, Else-sum-less, Start}
 
 -- the state at entry, the routine that it holds, the place of the vip, and the block there
 abbrev S : Start → State
@@ -44,11 +44,11 @@ lent : (s : Start) → (size (R s) ≤ 16777216) × (s.args.book.used ≤ 167772
 lent s = let g = s.requires.sound in (omega (arith, g.room, g.image_lent), omega (arith, g.used, g.journal_lent))
 
 -- The way through the code, each place from the next: every distance is counted here.
-abbrev start : After-find-found → Start
-start c = (goal.at.After-find-found c).Start
+abbrev start : In-Some → Start
+start c = (goal.at.In-Some c).Start
 
-abbrev being_there : After-block_end-end → Else-found-place
-being_there c = (goal.at.After-block_end-end c).Else-found-place
+abbrev being_there : After-block_end-end → In-Some
+being_there c = (goal.at.After-block_end-end c).In-Some
 
 abbrev ending : After-admit → After-block_end-end
 ending c = (goal.at.After-admit c).After-block_end-end
@@ -77,27 +77,30 @@ abbrev passing : After-put_entry → Passed
 passing c = (goal.at.After-put_entry c).Else-sum-less
 
 -- What is known at them.
-finds : (c : After-find-found) → Finds (R (goal.at.After-find-found c).Start) c.args.vip.0 c.find-found.result
-finds c = let here = goal.at.After-find-found c in c.find-found.ensures (R here.Start) (holding here.Start)
+held : (c : After-blocks_of) → Holding c.blocks_of.result.image.now (R (goal.at.After-blocks_of c).Start)
+held c = rw c.blocks_of.ensures.image (holding (goal.at.After-blocks_of c).Start)
 
-there : (c : Else-found-place) → (P (goal.at.Else-found-place c).Start < length (R (goal.at.Else-found-place c).Start).explored_blocks)
-there c = let here = goal.at.Else-found-place c in omega (arith, c.if-found-place.false, (finds here.After-find-found).place, (finds here.After-find-found).count)
+finds : (c : In-Some) → Finds (R (goal.at.In-Some c).Start) c.args.vip.0 c.in-Some.found
+finds c = let here = goal.at.In-Some c in c.in-Some.ensures (R here.Start) (held here.After-blocks_of)
+
+there : (c : In-Some) → (P (goal.at.In-Some c).Start < length (R (goal.at.In-Some c).Start).explored_blocks)
+there c = (finds c).there
 
 -- at the end of the block, which stands in the routine
 module _ (c : After-block_end-end) where
-  abbrev f : After-find-found
-  f = (goal.at.After-block_end-end c).After-find-found
+  abbrev f : In-Some
+  f = being_there c
 
   abbrev s : Start
   s = (goal.at.After-block_end-end c).Start
 
-  ends : c.block_end-end.result ≡ f.find-found.result.at + W s
-  ends = c.block_end-end.ensures ∙ B.end-here (R s) (P s) (there (goal.at.After-block_end-end c).Else-found-place) s.args.image.now (holding s) _ (finds f).at
+  ends : c.block_end-end.result ≡ f.in-Some.found.at + W s
+  ends = c.block_end-end.ensures ∙ B.end-here (R s) (P s) (there f) s.args.image.now (holding s) _ (finds f).at
 
   whole : c.block_end-end.result ≤ size (R s)
-  whole = omega (arith, ends, (finds f).at, B.tail-size (R s) (P s) (there (goal.at.After-block_end-end c).Else-found-place))
+  whole = omega (arith, ends, (finds f).at, B.tail-size (R s) (P s) (there f))
 
-  removable : Removable (R s) (P s) s.args.image.now f.find-found.result.at c.block_end-end.result s.args.book.written
+  removable : Removable (R s) (P s) s.args.image.now f.in-Some.found.at c.block_end-end.result s.args.book.written
   removable =
       let g = s.requires.sound in
       record {
@@ -106,14 +109,14 @@ module _ (c : After-block_end-end) where
         whole = g.written;
         room = g.room;
         lent = g.image_lent;
-        within = there (goal.at.After-block_end-end c).Else-found-place;
+        within = there f;
         start = (finds f).at;
         stop = ends;
       }
 
   -- what will be written and used
   abbrev size_of : ℕ
-  size_of = c.block_end-end.result - f.find-found.result.at
+  size_of = c.block_end-end.result - f.in-Some.found.at
 
   is_left : s.args.book.written - size_of + W s ≡ size (R s)
   is_left = omega (arith, ends, whole, s.requires.sound.written)
@@ -134,16 +137,17 @@ comes_to c =
     let s = s e in
     c.sum_of_block-less.ensures _ _ (B.read_here (R s) (P s) (there (being_there e)) s.args.image.now (holding s) _ (finds (f e)).at)
 
-pub returns-then-found-place : goal.returns-then-found-place
-returns-then-found-place c =
-    let here = goal.at.returns-then-found-place c in
-    sym (K.no_block (S here.Start) (R here.Start) c.requires.sound c.requires.none_open _ (omega (arith, c.if-found-place.true, (finds here.After-find-found).place, (finds here.After-find-found).count)))
+pub returns-in_default : goal.returns-in_default
+returns-in_default c =
+    let here = goal.at.returns-in_default c in
+    let none = c.in_default.ensures (R here.Start) (held here.After-blocks_of) in
+    sym (K.no_block (S here.Start) (R here.Start) c.requires.sound c.requires.none_open _ (omega (arith, none)))
 
 pub returns-in_err-admit : goal.returns-in_err-admit
 returns-in_err-admit c =
     let here = goal.at.returns-in_err-admit c in
     leaves-refused _ _ _ _ _ c.from_residual.ensures.1
-    (sym (K.not_admitted (S here.Start) (R here.Start) c.requires.sound c.requires.none_open _ (there here.Else-found-place) _ _ (is_left here.After-block_end-end) (is_spent here.After-block_end-end) c.in_err-admit.ensures (not-zero _)))
+    (sym (K.not_admitted (S here.Start) (R here.Start) c.requires.sound c.requires.none_open _ (there here.In-Some) _ _ (is_left here.After-block_end-end) (is_spent here.After-block_end-end) c.in_err-admit.ensures (not-zero _)))
 
 pub returns-then-sum-less : goal.returns-then-sum-less
 returns-then-sum-less c =

@@ -9,7 +9,7 @@ use Rattle.book.specs.Holding.{blocks_start, block_start}
 use Rattle.remove.specs.Removable.{Removable}
 use Rattle.remove.proofs.Taken as T
 use Rattle.remove.proofs.swap_remove.Goals as goal
-use Rattle.remove.proofs.swap_remove.Goals.{After-block_offset-last, After-blocks_of-blocks, Start}
+use Rattle.remove.proofs.swap_remove.Goals.{After-offset-last, After-blocks_of-blocks, Start}
 
 abbrev Goes : Start → Routine → ℕ → Type 0
 Goes s r i = Removable r i s.args.image.now s.args.at s.args.end s.args.written
@@ -17,7 +17,7 @@ Goes s r i = Removable r i s.args.image.now s.args.at s.args.end s.args.written
 -- What is known at them.
 counted : (c : After-blocks_of-blocks) (r : Routine) (i : ℕ) → Goes (goal.at.After-blocks_of-blocks c).Start r i
     → (c.blocks_of-blocks.result.start ≡ blocks_start r) × (c.blocks_of-blocks.result.count ≡ length r.explored_blocks)
-counted c r i l = c.blocks_of-blocks.ensures r (T.holding r i _ _ _ _ l)
+counted c r i l = c.blocks_of-blocks.ensures.stand r (T.holding r i _ _ _ _ l)
 
 -- the block's bytes are some of the routine's
 within : (s : Start) → (s.args.at ≤ s.args.end) × ((s.args.end ≤ s.args.written) × (s.args.written ≤ length s.args.image.now))
@@ -31,10 +31,10 @@ sure c =
     let k = counted c c.requires.r c.requires.i l in
     (omega (arith, k.0), (omega (arith, k.1, l.within), omega (arith, k.0, l.start, within (goal.at.After-blocks_of-blocks c).Start)))
 
-last_is : (c : After-block_offset-last) (r : Routine) (i : ℕ) → Goes (goal.at.After-block_offset-last c).Start r i → c.block_offset-last.result ≡ block_start r (length r.explored_blocks - 1)
+last_is : (c : After-offset-last) (r : Routine) (i : ℕ) → Goes (goal.at.After-offset-last c).Start r i → c.offset-last.result ≡ block_start r (length r.explored_blocks - 1)
 last_is c r i l =
-    let k = (counted (goal.at.After-block_offset-last c).After-blocks_of-blocks r i l).1 in
-    c.block_offset-last.ensures r (T.holding r i _ _ _ _ l) (omega arith) ∙ ap (λ (n : ℕ). block_start r (n - 1)) k
+    let k = (counted (goal.at.After-offset-last c).After-blocks_of-blocks r i l).1 in
+    c.offset-last.ensures r (rw c.blocks_of-blocks.ensures.image (T.holding r i _ _ _ _ l)) (omega arith) ∙ ap (λ (n : ℕ). block_start r (n - 1)) k
 
 -- the last block goes
 pub returns-then-end-written : goal.returns-then-end-written
@@ -46,14 +46,14 @@ pub exchange-requires : goal.exchange-requires
 exchange-requires c =
     let here = goal.at.exchange-requires c in
     let p = c.requires in
-    let w = T.last-after p.r p.i _ _ _ _ p.removable (λ z. omega (arith, z, c.if-end-written.false)) _ (last_is here.After-block_offset-last p.r p.i p.removable) in
+    let w = T.last-after p.r p.i _ _ _ _ p.removable (λ z. omega (arith, z, c.if-end-written.false)) _ (last_is here.After-offset-last p.r p.i p.removable) in
     ((within here.Start).0, (w.0, (w.1, (within here.Start).1.1)))
 
 -- another goes, and the last takes its place
 pub returns : goal.returns
 returns c = let here = goal.at.returns c in λ r i l.
     let k = counted here.After-blocks_of-blocks r i l in
-    T.out_mid r i _ _ _ _ l (λ z. omega (arith, z, c.if-end-written.false)) _ _ _ k.0 k.1 (last_is here.After-block_offset-last r i l) _ _ _ c.exchange.ensures c.clear-2.ensures c.put_u32-2.ensures
+    T.out_mid r i _ _ _ _ l (λ z. omega (arith, z, c.if-end-written.false)) _ _ _ k.0 k.1 (last_is here.After-offset-last r i l) _ _ _ c.exchange.ensures c.clear-2.ensures c.put_u32-2.ensures
 
 pub overflow_sub-count_at : goal.overflow_sub-count_at
 overflow_sub-count_at c = omega (arith, sure (goal.at.overflow_sub-count_at c).After-blocks_of-blocks)

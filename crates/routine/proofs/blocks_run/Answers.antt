@@ -33,8 +33,8 @@ loop-passed-preserved c =
       rises = λ t r. let f = c.floor_after-floor.ensures t in l.rises (omega (arith, f.0, f.1)) (rises-more _ _ _ _ _ _ _ h e c.word64.ensures f.0 (rw f.1 at r));
       noting =
           elim c.if-passed-place.branch [
-            | then-passed-place w ↦ rw (w.from-is, w.to-is) (noting_there _ _ _ l.noting e w.if-passed-place.true)
-            | else-passed-place w ↦ rw (w.from-is, w.to-is) (noting_other _ _ _ l.noting e w.if-passed-place.false)
+            | then-passed-place w ↦ rw w.block-is (noting_there _ _ _ l.noting e w.if-passed-place.true)
+            | else-passed-place w ↦ rw w.block-is (noting_other _ _ _ l.noting e w.if-passed-place.false)
           ];
     }
 

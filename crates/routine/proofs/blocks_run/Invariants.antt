@@ -13,5 +13,5 @@ abbrev pub invariant-loop-passed : goal.invariant-loop-passed
 invariant-loop-passed l = record {
   walk : left (walked block block_bytes block_sound l.s) l.seen (l.count - l.passed) l.end ≡ run (walked block block_bytes block_sound l.s) l.count l.at;
   rises : l.floor < TOP → RisesFrom l.s (l.count - l.passed) l.end l.floor → RisesFrom l.s l.count l.at 0;
-  noting : Noting l.s l.at l.place l.passed l.end l.from l.to;
+  noting : Noting l.s l.at l.place l.passed l.end l.block;
 }

@@ -18,4 +18,4 @@ unfolding bind
 returns-clause-walk c = rw (← routine-walked _ c.type_inv.s _) (search rules)
 
 pub returns-clause-note : goal.returns-clause-note
-returns-clause-note c = routine_noted _ c.type_inv.s _ _ c.in_ok-head.ensures c.in_ok-noted.ensures.note
+returns-clause-note c = routine_noted _ c.type_inv.s _ _ c.in_ok-head.ensures _ c.in_ok-noted.ensures.note

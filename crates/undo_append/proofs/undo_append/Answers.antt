@@ -1,6 +1,8 @@
 -- `undo_append::undo_append` meets its contract: at each place of the code, what is left of the definition's tests, with what the image's readers tell of
 -- the routine held.
-use mathlib.Core.Path.{◌≡◌, sym, ◌∙◌, refl}
+use mathlib.Core.Path.{◌≡◌, ap, sym, ◌∙◌, refl}
+use lib.Dec.{eqb}
+use Rattle.std.proofs.Common.{Some}
 use native.Mathlib.Omega.{arith}
 use Prim.Native.Nat.{ℕ, ◌+◌, ◌-◌, ◌≤◌, ◌<◌, ◌^◌}
 use lib.ListN.{length}
@@ -8,6 +10,7 @@ use borrow.Author.Tests.{eq-eqb, ne_eqb, lt-ltb, le-ltb}
 use Rattle.fields.specs.Outcome.{refused, accepted}
 use Rattle.fields.proofs.Outcomes.{unless_on, unless_off}
 use Rattle.pod.specs.Values.{BasicBlock, Routine}
+use Rattle.pod.specs.Written.{instruction_bytes}
 use Rattle.machine.specs.Machine.{Answer}
 use Rattle.machine.specs.Journal.{last_size_is, undo_append}
 use Rattle.machine.specs.Charge.{Rates, rate_of, sum, carried}
@@ -20,14 +23,15 @@ use Rattle.book.proofs.Restored.{spoiled, sum_spoiled, restored-to}
 use Rattle.journal.specs.Says.{trailer_of}
 use Rattle.image.proofs.Inspects.{of_held, sound-holding}
 use Rattle.image.proofs.Stands.{block-holds, block-word}
-use Rattle.image.specs.Places.{FindsLast}
+use Rattle.image.specs.Places.{LastBegins, FindsLast}
 use Rattle.image.proofs.Parts.{any_instruction, stands_here}
-use Rattle.image.proofs.Lasts.{final, ordered, final-read}
+use Rattle.image.proofs.Lasts.{final, final-size, final-read}
+use Rattle.machine.proofs.Lists.{last-is-none, last-is-at}
 use Rattle.undo_append.specs.Last.{BlockIn, LastIn, shortened}
 use Rattle.undo_append.proofs.Unappends.{some, inside, longer, shortened-size}
 use Rattle.undo_append.proofs.Unappends as U
 use Rattle.undo_append.proofs.undo_append.Goals as goal
-use Rattle.undo_append.proofs.undo_append.Goals.{After-block_offset-at, After-blocks_of-blocks, After-has_size, After-last_instruction-instruction, After-sum_of_instruction-less, After-word64, Else-blocks-place, Else-not-has_size, Else-word64-last, Start}
+use Rattle.undo_append.proofs.undo_append.Goals.{After-offset-at, After-blocks_of-blocks, After-last_instruction-instruction, In-Some, After-sum_of_instruction-less, After-word64, Else-blocks-place, Else-instruction-from, Else-word64-last, Start}
 
 -- the state at entry, the routine that it holds, the trailer and the block at its place
 module _ (s : Start) where
@@ -62,7 +66,7 @@ module _ (s : Start) where
 
 -- What is known at them.
 counted : (c : After-blocks_of-blocks) → c.blocks_of-blocks.result.count ≡ length (R (goal.at.After-blocks_of-blocks c).Start).explored_blocks
-counted c = let here = goal.at.After-blocks_of-blocks c in (c.blocks_of-blocks.ensures (R here.Start) (holding here.Start)).1
+counted c = let here = goal.at.After-blocks_of-blocks c in (c.blocks_of-blocks.ensures.stand (R here.Start) (holding here.Start)).1
 
 within : (c : Else-blocks-place) → (T (goal.at.Else-blocks-place c).Start).place < length (R (goal.at.Else-blocks-place c).Start).explored_blocks
 within c = omega (arith, c.if-blocks-place.false, counted (goal.at.Else-blocks-place c).After-blocks_of-blocks)
@@ -70,20 +74,20 @@ within c = omega (arith, c.if-blocks-place.false, counted (goal.at.Else-blocks-p
 placed : (c : Else-blocks-place) → undo_append (R (goal.at.Else-blocks-place c).Start) (T (goal.at.Else-blocks-place c).Start) ≡ U.if_there (R (goal.at.Else-blocks-place c).Start) (T (goal.at.Else-blocks-place c).Start)
 placed c = U.tests _ _ ∙ unless_on 13 _ (lt-ltb _ _ (within c))
 
-stands : (c : After-block_offset-at) → BlockIn c.args.image.now (R (goal.at.After-block_offset-at c).Start) (T (goal.at.After-block_offset-at c).Start).place c.block_offset-at.result
+stands : (c : After-offset-at) → BlockIn c.args.image.now (R (goal.at.After-offset-at c).Start) (T (goal.at.After-offset-at c).Start).place c.offset-at.result
 stands c =
-    let here = goal.at.After-block_offset-at c in
+    let here = goal.at.After-offset-at c in
     record {
       holding = holding here.Start;
       within = within here.Else-blocks-place;
-      at_is = c.block_offset-at.ensures (R here.Start) (holding here.Start) (omega (arith, within here.Else-blocks-place));
+      at_is = c.offset-at.ensures (R here.Start) (rw c.blocks_of-blocks.ensures.image (holding here.Start)) (omega (arith, within here.Else-blocks-place));
     }
 
 -- its vip is that of the entry
 vip_read : (c : After-word64) → c.word64.result ≡ (B (goal.at.After-word64 c).Start).vip
 vip_read c =
     let here = goal.at.After-word64 c in
-    let o = stands here.After-block_offset-at in
+    let o = stands here.After-offset-at in
     c.word64.ensures ∙ block-word _ (B here.Start) (block-holds (holding here.Start) (T here.Start).place o.within) (stands_here (R here.Start) (T here.Start).place (holding here.Start) o.within o.at_is)
 
 same-vip : (c : Else-word64-last) → undo_append (R (goal.at.Else-word64-last c).Start) (T (goal.at.Else-word64-last c).Start) ≡ U.if_last (R (goal.at.Else-word64-last c).Start) (T (goal.at.Else-word64-last c).Start)
@@ -94,38 +98,46 @@ same-vip c =
 found : (c : After-last_instruction-instruction) → FindsLast (R (goal.at.After-last_instruction-instruction c).Start) (T (goal.at.After-last_instruction-instruction c).Start).place c.last_instruction-instruction.result
 found c =
     let here = goal.at.After-last_instruction-instruction c in
-    let o = stands here.After-block_offset-at in
+    let o = stands here.After-offset-at in
     c.last_instruction-instruction.ensures (R here.Start) (T here.Start).place o.holding o.within o.at_is
 
--- and has the entry's size
-last-read : (c : After-has_size) → c.has_size.result ≡ last_size_is (T (goal.at.After-has_size c).Start).len (B (goal.at.After-has_size c).Start).instructions
-last-read c = let here = goal.at.After-has_size c in c.has_size.ensures (R here.Start) (T here.Start).place (found here.After-last_instruction-instruction)
+-- it begins there, and the definition asks its size
+begins : (c : In-Some) → LastBegins (R (goal.at.In-Some c).Start) (T (goal.at.In-Some c).Start).place (length (B (goal.at.In-Some c).Start).instructions) (Some c.in-Some.from)
+begins c = let here = goal.at.In-Some c in rw c.in-Some.is at (found here.After-last_instruction-instruction).from
 
-abbrev last : Else-not-has_size → After-last_instruction-instruction
-last c = (goal.at.Else-not-has_size c).After-last_instruction-instruction
+size_of : (c : In-Some) → c.last_instruction-instruction.result.end ≡ c.in-Some.from + length (instruction_bytes (final (B (goal.at.In-Some c).Start)))
+size_of c = let here = goal.at.In-Some c in final-size (R here.Start) (T here.Start).place (begins c) (found here.After-last_instruction-instruction).end
 
-abbrev block : Else-not-has_size → After-block_offset-at
-block c = (goal.at.Else-not-has_size c).After-block_offset-at
+sized : (c : In-Some) → last_size_is (T (goal.at.In-Some c).Start).len (B (goal.at.In-Some c).Start).instructions
+    ≡ eqb (c.last_instruction-instruction.result.end - c.in-Some.from) (T (goal.at.In-Some c).Start).len
+sized c =
+    last-is-at _ any_instruction _ (begins c).0 ∙ ap (λ k. eqb k (T (goal.at.In-Some c).Start).len) (omega (arith, size_of c))
 
-last_in : (c : Else-not-has_size) →
-    LastIn c.args.image.now (R (goal.at.Else-not-has_size c).Start) (T (goal.at.Else-not-has_size c).Start).place c.block_offset-at.result c.last_instruction-instruction.result.end (T (goal.at.Else-not-has_size c).Start).len c.args.book.written
+abbrev some_from : Else-instruction-from → In-Some
+some_from c = (goal.at.Else-instruction-from c).In-Some
+
+abbrev block : Else-instruction-from → After-offset-at
+block c = (goal.at.Else-instruction-from c).After-offset-at
+
+last_in : (c : Else-instruction-from) →
+    LastIn c.args.image.now (R (goal.at.Else-instruction-from c).Start) (T (goal.at.Else-instruction-from c).Start).place c.offset-at.result c.last_instruction-instruction.result.end (T (goal.at.Else-instruction-from c).Start).len c.args.book.written
 last_in c =
-    let here = goal.at.Else-not-has_size c in
+    let here = goal.at.Else-instruction-from c in
     record {
-      block = stands here.After-block_offset-at;
+      block = stands here.After-offset-at;
       is = (sound here.Start).image;
       written_is = (sound here.Start).written;
       ends = (found here.After-last_instruction-instruction).end;
-      last = sym (last-read here.After-has_size) ∙ c.if-not-has_size.false;
+      last = sized here.In-Some ∙ eq-eqb _ _ (omega (arith, c.if-instruction-from.false));
     }
 
-passed : (c : Else-not-has_size) → undo_append (R (goal.at.Else-not-has_size c).Start) (T (goal.at.Else-not-has_size c).Start) ≡ U.done (R (goal.at.Else-not-has_size c).Start) (T (goal.at.Else-not-has_size c).Start)
-passed c = same-vip (goal.at.Else-not-has_size c).Else-word64-last ∙ unless_on 13 _ (last_in c).last
+passed : (c : Else-instruction-from) → undo_append (R (goal.at.Else-instruction-from c).Start) (T (goal.at.Else-instruction-from c).Start) ≡ U.done (R (goal.at.Else-instruction-from c).Start) (T (goal.at.Else-instruction-from c).Start)
+passed c = same-vip (goal.at.Else-instruction-from c).Else-word64-last ∙ unless_on 13 _ (last_in c).last
 
 -- what the sum becomes without what that instruction comes to
 module _ (c : After-sum_of_instruction-less) where
-  abbrev e : Else-not-has_size
-  e = (goal.at.After-sum_of_instruction-less c).Else-not-has_size
+  abbrev e : Else-instruction-from
+  e = (goal.at.After-sum_of_instruction-less c).Else-instruction-from
 
   abbrev s : Start
   s = (goal.at.After-sum_of_instruction-less c).Start
@@ -141,7 +153,7 @@ module _ (c : After-sum_of_instruction-less) where
 
   comes_to : less ≡ rate_of rates (final (B s))
   comes_to =
-      let r = final-read (R s) (T s).place (found (last e)) (holding s) (stands (block e)).within (some (last_in e)) in
+      let r = final-read (R s) (T s).place (begins (some_from e)) (holding s) (stands (block e)).within in
       c.sum_of_instruction-less.ensures _ _ r.1
 
   loses : sum rates R' + less ≡ sum rates (R s)
@@ -165,24 +177,31 @@ returns-then-word64-last c =
     refuses here.Start refl
     (placed here.Else-blocks-place ∙ unless_off 13 _ (ne_eqb (B here.Start).vip (T here.Start).vip (λ e. omega (arith, c.if-word64-last.true, vip_read here.After-word64))))
 
-pub has_size-requires : goal.has_size-requires
-has_size-requires c = let here = goal.at.has_size-requires c in ordered (R here.Start) (T here.Start).place (found here.After-last_instruction-instruction)
+pub returns-in_default : goal.returns-in_default
+returns-in_default c =
+    let here = goal.at.returns-in_default c in
+    let none = rw c.in_default.is at (found here.After-last_instruction-instruction).from in
+    refuses here.Start refl (same-vip here.Else-word64-last ∙ unless_off 13 _ (last-is-none _ _ none))
 
-pub returns-then-not-has_size : goal.returns-then-not-has_size
-returns-then-not-has_size c =
-    let here = goal.at.returns-then-not-has_size c in
-    refuses here.Start refl (same-vip here.Else-word64-last ∙ unless_off 13 _ (sym (last-read here.After-has_size) ∙ c.if-not-has_size.true))
+-- it begins before it ends
+pub overflow_sub-instruction : goal.overflow_sub-instruction
+overflow_sub-instruction c = let here = goal.at.overflow_sub-instruction c in omega (arith, size_of here.In-Some)
+
+pub returns-then-instruction-from : goal.returns-then-instruction-from
+returns-then-instruction-from c =
+    let here = goal.at.returns-then-instruction-from c in
+    refuses here.Start refl (same-vip here.Else-word64-last ∙ unless_off 13 _ (sized here.In-Some ∙ ne_eqb _ _ (λ e. omega (arith, e, c.if-instruction-from.true))))
 
 pub returns-then-sum-less : goal.returns-then-sum-less
 returns-then-sum-less c =
     let here = goal.at.returns-then-sum-less c in
-    over here.Start _ (sum_spoiled (S here.Start) (R here.Start) (R' here.After-sum_of_instruction-less) (passed here.Else-not-has_size) (sum-short here.After-sum_of_instruction-less (omega (arith, c.if-sum-less.true))))
+    over here.Start _ (sum_spoiled (S here.Start) (R here.Start) (R' here.After-sum_of_instruction-less) (passed here.Else-instruction-from) (sum-short here.After-sum_of_instruction-less (omega (arith, c.if-sum-less.true))))
 
 pub overflow_sub-left : goal.overflow_sub-left
-overflow_sub-left c = let here = goal.at.overflow_sub-left c in omega (arith, inside (last_in here.Else-not-has_size), longer (last_in here.Else-not-has_size))
+overflow_sub-left c = let here = goal.at.overflow_sub-left c in omega (arith, inside (last_in here.Else-instruction-from), longer (last_in here.Else-instruction-from))
 
 pub drop_instruction-requires : goal.drop_instruction-requires
-drop_instruction-requires c = let here = goal.at.drop_instruction-requires c in record { r = R here.Start; i = (T here.Start).place; last_in = last_in here.Else-not-has_size }
+drop_instruction-requires c = let here = goal.at.drop_instruction-requires c in record { r = R here.Start; i = (T here.Start).place; last_in = last_in here.Else-instruction-from }
 
 -- an entry is used, and all that is used is in the journal
 pub clear_trailer-before-requires : goal.clear_trailer-before-requires
@@ -192,5 +211,5 @@ pub returns : goal.returns
 returns c =
     let here = goal.at.returns c in
     over here.Start _
-    (restored-to (S here.Start) (R here.Start) (R' here.After-sum_of_instruction-less) (passed here.Else-not-has_size) (sum_left here.After-sum_of_instruction-less (omega (arith, c.if-sum-less.false))) _ _ _ _ (sym (shortened-size (last_in here.Else-not-has_size)))
-    c.clear_trailer-before.ensures.0 (c.drop_instruction.ensures (R here.Start) (T here.Start).place (last_in here.Else-not-has_size)) c.clear_trailer-before.ensures.1)
+    (restored-to (S here.Start) (R here.Start) (R' here.After-sum_of_instruction-less) (passed here.Else-instruction-from) (sum_left here.After-sum_of_instruction-less (omega (arith, c.if-sum-less.false))) _ _ _ _ (sym (shortened-size (last_in here.Else-instruction-from)))
+    c.clear_trailer-before.ensures.0 (c.drop_instruction.ensures (R here.Start) (T here.Start).place (last_in here.Else-instruction-from)) c.clear_trailer-before.ensures.1)

@@ -27,7 +27,7 @@ use Rattle.undo_create.specs.Last.{EndsWith, up_to}
 use Rattle.undo_create.proofs.Uncreates.{up_to_size}
 use Rattle.undo_create.proofs.Uncreates as U
 use Rattle.undo_create.proofs.undo_create.Goals as goal
-use Rattle.undo_create.proofs.undo_create.Goals.{After-block_offset-at, After-blocks_of-blocks, After-is_fresh, After-word64, Else-last-ne0, Else-not-is_fresh, Else-place-blocks, Else-word64-last, Start}
+use Rattle.undo_create.proofs.undo_create.Goals.{After-offset-at, After-blocks_of-blocks, After-is_fresh, After-word64, Else-last-ne0, Else-not-is_fresh, Else-place-blocks, Else-word64-last, Start}
 
 -- the state at entry, the routine that it holds, the trailer and the block at its place
 module _ (s : Start) where
@@ -64,10 +64,10 @@ empty : (c : Else-last-ne0) → undo_create (R (goal.at.Else-last-ne0 c).Start) 
 empty c = U.tests _ _ ∙ unless_on 13 _ (eq-eqb _ 0 c.if-last-ne0.false)
 
 counted : (c : After-blocks_of-blocks) → c.blocks_of-blocks.result.count ≡ length (R (goal.at.After-blocks_of-blocks c).Start).explored_blocks
-counted c = let here = goal.at.After-blocks_of-blocks c in (c.blocks_of-blocks.ensures (R here.Start) (holding here.Start)).1
+counted c = let here = goal.at.After-blocks_of-blocks c in (c.blocks_of-blocks.ensures.stand (R here.Start) (holding here.Start)).1
 
 begins : (c : After-blocks_of-blocks) → c.blocks_of-blocks.result.start ≡ blocks_start (R (goal.at.After-blocks_of-blocks c).Start)
-begins c = let here = goal.at.After-blocks_of-blocks c in (c.blocks_of-blocks.ensures (R here.Start) (holding here.Start)).0
+begins c = let here = goal.at.After-blocks_of-blocks c in (c.blocks_of-blocks.ensures.stand (R here.Start) (holding here.Start)).0
 
 last-place : (c : Else-place-blocks) → (T (goal.at.Else-place-blocks c).Start).place + 1 ≡ length (R (goal.at.Else-place-blocks c).Start).explored_blocks
 last-place c = omega (arith, c.if-place-blocks.false, counted (goal.at.Else-place-blocks c).After-blocks_of-blocks)
@@ -78,17 +78,17 @@ last c = empty (goal.at.Else-place-blocks c).Else-last-ne0 ∙ unless_on 13 _ (e
 within : (c : Else-place-blocks) → (T (goal.at.Else-place-blocks c).Start).place < length (R (goal.at.Else-place-blocks c).Start).explored_blocks
 within c = omega (arith, last-place c)
 
-placed : (c : After-block_offset-at) → c.block_offset-at.result ≡ block_start (R (goal.at.After-block_offset-at c).Start) (T (goal.at.After-block_offset-at c).Start).place
-placed c = let here = goal.at.After-block_offset-at c in c.block_offset-at.ensures (R here.Start) (holding here.Start) (omega (arith, within here.Else-place-blocks))
+placed : (c : After-offset-at) → c.offset-at.result ≡ block_start (R (goal.at.After-offset-at c).Start) (T (goal.at.After-offset-at c).Start).place
+placed c = let here = goal.at.After-offset-at c in c.offset-at.ensures (R here.Start) (rw c.blocks_of-blocks.ensures.image (holding here.Start)) (omega (arith, within here.Else-place-blocks))
 
-ends : (c : After-block_offset-at) → c.block_offset-at.result + 36 ≤ c.args.book.written
-ends c = let here = goal.at.After-block_offset-at c in omega (arith, placed c, block-fits (S here.Start) (R here.Start) (sound here.Start) (T here.Start).place (within here.Else-place-blocks))
+ends : (c : After-offset-at) → c.offset-at.result + 36 ≤ c.args.book.written
+ends c = let here = goal.at.After-offset-at c in omega (arith, placed c, block-fits (S here.Start) (R here.Start) (sound here.Start) (T here.Start).place (within here.Else-place-blocks))
 
 vip_read : (c : After-word64) → c.word64.result ≡ (B (goal.at.After-word64 c).Start).vip
 vip_read c =
     let here = goal.at.After-word64 c in
     let l = within here.Else-place-blocks in
-    c.word64.ensures ∙ block-word _ (B here.Start) (block-holds (holding here.Start) (T here.Start).place l) (stands_here (R here.Start) (T here.Start).place (holding here.Start) l (placed here.After-block_offset-at))
+    c.word64.ensures ∙ block-word _ (B here.Start) (block-holds (holding here.Start) (T here.Start).place l) (stands_here (R here.Start) (T here.Start).place (holding here.Start) l (placed here.After-offset-at))
 
 same-vip : (c : Else-word64-last) → undo_create (R (goal.at.Else-word64-last c).Start) (T (goal.at.Else-word64-last c).Start) ≡ U.if_fresh (R (goal.at.Else-word64-last c).Start) (T (goal.at.Else-word64-last c).Start)
 same-vip c =
@@ -99,7 +99,7 @@ fresh : (c : After-is_fresh) → c.is_fresh.result ≡ is_fresh (B (goal.at.Afte
 fresh c =
     let here = goal.at.After-is_fresh c in
     let l = within here.Else-place-blocks in
-    c.is_fresh.ensures (B here.Start) (block-holds (holding here.Start) (T here.Start).place l) (stands_here (R here.Start) (T here.Start).place (holding here.Start) l (placed here.After-block_offset-at))
+    c.is_fresh.ensures (B here.Start) (block-holds (holding here.Start) (T here.Start).place l) (stands_here (R here.Start) (T here.Start).place (holding here.Start) l (placed here.After-offset-at))
 
 is_new : (c : Else-not-is_fresh) → is_fresh (B (goal.at.Else-not-is_fresh c).Start) ≡ true
 is_new c = sym (fresh (goal.at.Else-not-is_fresh c).After-is_fresh) ∙ c.if-not-is_fresh.false
@@ -117,13 +117,13 @@ sum_stays c =
 
 -- The block, as what drops it asks for it
 ends_with : (c : Else-not-is_fresh) →
-    EndsWith c.args.image.now (R (goal.at.Else-not-is_fresh c).Start) c.blocks_of-blocks.result.start c.block_offset-at.result c.args.book.written (T (goal.at.Else-not-is_fresh c).Start).place
+    EndsWith c.args.image.now (R (goal.at.Else-not-is_fresh c).Start) c.blocks_of-blocks.result.start c.offset-at.result c.args.book.written (T (goal.at.Else-not-is_fresh c).Start).place
 ends_with c =
     let here = goal.at.Else-not-is_fresh c in
     record {
       is = (sound here.Start).image;
       start_is = begins here.After-blocks_of-blocks;
-      at_is = placed here.After-block_offset-at;
+      at_is = placed here.After-offset-at;
       written_is = (sound here.Start).written;
       last = last-place here.Else-place-blocks;
     }
@@ -144,7 +144,7 @@ returns-then-word64-last c =
     (last here.Else-place-blocks ∙ unless_off 13 _ (ne_eqb (B here.Start).vip (T here.Start).vip (λ e. omega (arith, c.if-word64-last.true, vip_read here.After-word64))))
 
 pub is_fresh-requires : goal.is_fresh-requires
-is_fresh-requires c = let here = goal.at.is_fresh-requires c in let o = sound here.Start in omega (arith, ends here.After-block_offset-at, o.written, o.room)
+is_fresh-requires c = let here = goal.at.is_fresh-requires c in let o = sound here.Start in omega (arith, ends here.After-offset-at, o.written, o.room)
 
 pub returns-then-not-is_fresh : goal.returns-then-not-is_fresh
 returns-then-not-is_fresh c =
@@ -155,11 +155,11 @@ pub drop_block-requires : goal.drop_block-requires
 drop_block-requires c =
     let here = goal.at.drop_block-requires c in
     let o = sound here.Start in
-    (omega (arith, begins here.After-blocks_of-blocks), (omega (arith, begins here.After-blocks_of-blocks, placed here.After-block_offset-at), (omega (arith, ends here.After-block_offset-at), omega (arith, o.written, o.room))))
+    (omega (arith, begins here.After-blocks_of-blocks), (omega (arith, begins here.After-blocks_of-blocks, placed here.After-offset-at), (omega (arith, ends here.After-offset-at), omega (arith, o.written, o.room))))
 
 pub returns : goal.returns
 returns c =
     let here = goal.at.returns c in
     over here.Start _
-    (restored-to (S here.Start) (R here.Start) (up_to (R here.Start) (T here.Start).place) (passed here.Else-not-is_fresh) (sum_stays here.Else-not-is_fresh) _ _ _ _ (placed here.After-block_offset-at ∙ sym (up_to_size (R here.Start) (T here.Start).place (omega (arith, within here.Else-place-blocks))))
+    (restored-to (S here.Start) (R here.Start) (up_to (R here.Start) (T here.Start).place) (passed here.Else-not-is_fresh) (sum_stays here.Else-not-is_fresh) _ _ _ _ (placed here.After-offset-at ∙ sym (up_to_size (R here.Start) (T here.Start).place (omega (arith, within here.Else-place-blocks))))
     c.clear_trailer-before.ensures.0 (c.drop_block.ensures (R here.Start) (ends_with here.Else-not-is_fresh)) c.clear_trailer-before.ensures.1)

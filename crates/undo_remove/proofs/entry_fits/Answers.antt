@@ -9,18 +9,15 @@ use Rattle.machine.specs.Edits.{place}
 use Rattle.machine.specs.Journal.{last_bytes}
 use Rattle.machine.specs.Trailer.{Trailer}
 use Rattle.book.specs.Holding.{Holding}
-use Rattle.image.specs.Places.{Finds}
+use Rattle.image.proofs.Searches.{present, absent}
 use Rattle.journal.specs.Says.{trailer_of}
 use Rattle.undo_remove.specs.Blocks.{is_block}
 use Rattle.undo_remove.proofs.Entries as K
 use Rattle.undo_remove.proofs.entry_fits.Goals as goal
-use Rattle.undo_remove.proofs.entry_fits.Goals.{After-find-found, After-is_block, Else-entries-size, Else-found-count, Start}
+use Rattle.undo_remove.proofs.entry_fits.Goals.{After-blocks_of-blocks, After-is_block, Else-entries-size, Else-is_some, Start}
 
 abbrev T : Start → Trailer
 T s = trailer_of s.args.last
-
-abbrev finding : Else-found-count → After-find-found
-finding c = (goal.at.Else-found-count c).After-find-found
 
 -- What is known at them.
 long : (c : Else-entries-size) → (T (goal.at.Else-entries-size c).Start).len ≤ length c.args.entries.now
@@ -32,20 +29,21 @@ tested c =
     let here = goal.at.After-is_block c in
     c.is_block.ensures ∙ ap (is_block (T here.Start).vip) (K.cut-end (length c.args.entries.now - (T here.Start).len) c.args.entries.now)
 
-abbrev at_find : After-find-found → Start
-at_find c = (goal.at.After-find-found c).Start
+abbrev at_blocks : After-blocks_of-blocks → Start
+at_blocks c = (goal.at.After-blocks_of-blocks c).Start
 
-whole : (c : After-find-found) → (is_block (T (goal.at.After-find-found c).Start).vip (last_bytes (T (goal.at.After-find-found c).Start).len c.args.entries.now) ≡ true)
-whole c = sym (tested (goal.at.After-find-found c).After-is_block) ∙ c.if-not-is_block.false
+whole : (c : After-blocks_of-blocks) → (is_block (T (at_blocks c)).vip (last_bytes (T (at_blocks c)).len c.args.entries.now) ≡ true)
+whole c = sym (tested (goal.at.After-blocks_of-blocks c).After-is_block) ∙ c.if-not-is_block.false
 
 -- the routine that the image holds
 module _ (r : Routine) where
-  finds : (c : After-find-found) → Holding (at_find c).args.image.now r → Finds r (T (at_find c)).vip c.find-found.result
-  finds c h = c.find-found.ensures r h
+  counted : (c : After-blocks_of-blocks) → Holding (at_blocks c).args.image.now r → c.blocks_of-blocks.result.count ≡ length r.explored_blocks
+  counted c h = (c.blocks_of-blocks.ensures.stand r h).1
 
-  gone : (c : Else-found-count) → Holding (at_find (finding c)).args.image.now r
-      → length r.explored_blocks ≤ place (T (at_find (finding c))).vip r.explored_blocks
-  gone c h = let f = finds (finding c) h in omega (arith, c.if-found-count.false, f.place, f.count)
+  gone : (c : Else-is_some) → Holding c.args.image.now r → length r.explored_blocks ≤ place (T (goal.at.Else-is_some c).Start).vip r.explored_blocks
+  gone c h =
+      let none = absent r _ _ (c.find.ensures r (rw c.blocks_of-blocks.ensures.image h)) (sym c.is_some.ensures ∙ c.if-is_some.false) in
+      omega (arith, none)
 
 pub returns-then-entries-size : goal.returns-then-entries-size
 returns-then-entries-size c = λ r h w. K.too_long _ r _ _ (omega (arith, c.if-entries-size.true))
@@ -53,18 +51,19 @@ returns-then-entries-size c = λ r h w. K.too_long _ r _ _ (omega (arith, c.if-e
 pub returns-then-not-is_block : goal.returns-then-not-is_block
 returns-then-not-is_block c = let here = goal.at.returns-then-not-is_block c in λ r h w. K.no_block _ r _ _ (long here.Else-entries-size) (sym (tested here.After-is_block) ∙ c.if-not-is_block.true)
 
-pub returns-then-found-count : goal.returns-then-found-count
-returns-then-found-count c = let here = goal.at.returns-then-found-count c in λ r h w.
-    K.vip-there _ r _ _ (long here.Else-entries-size) (whole here.After-find-found) (omega (arith, c.if-found-count.true, (finds r here.After-find-found h).place, (finds r here.After-find-found h).count))
+pub returns-then-is_some : goal.returns-then-is_some
+returns-then-is_some c = let here = goal.at.returns-then-is_some c in λ r h w.
+    let there = present r _ _ (c.find.ensures r (rw c.blocks_of-blocks.ensures.image h)) (sym c.is_some.ensures ∙ c.if-is_some.true) in
+    K.vip-there _ r _ _ (long here.Else-entries-size) (whole here.After-blocks_of-blocks) there
 
-pub returns-then-count-place : goal.returns-then-count-place
-returns-then-count-place c = let here = goal.at.returns-then-count-place c in λ r h w.
-    K.no_place _ r _ _ (long here.Else-entries-size) (whole here.After-find-found) (gone r here.Else-found-count h) (omega (arith, c.if-count-place.true, (finds r here.After-find-found h).count))
+pub returns-then-blocks-place : goal.returns-then-blocks-place
+returns-then-blocks-place c = let here = goal.at.returns-then-blocks-place c in λ r h w.
+    K.no_place _ r _ _ (long here.Else-entries-size) (whole here.After-blocks_of-blocks) (gone r here.Else-is_some h) (omega (arith, c.if-blocks-place.true, counted r here.After-blocks_of-blocks h))
 
 pub returns-then-image-written : goal.returns-then-image-written
 returns-then-image-written c = let here = goal.at.returns-then-image-written c in λ r h w.
-    K.no_room _ r _ _ (long here.Else-entries-size) (whole here.After-find-found) (gone r here.Else-found-count h) (omega (arith, c.if-count-place.false, (finds r here.After-find-found h).count)) (omega (arith, c.if-image-written.true, c.requires, w))
+    K.no_room _ r _ _ (long here.Else-entries-size) (whole here.After-blocks_of-blocks) (gone r here.Else-is_some h) (omega (arith, c.if-blocks-place.false, counted r here.After-blocks_of-blocks h)) (omega (arith, c.if-image-written.true, c.requires, w))
 
 pub returns : goal.returns
 returns c = let here = goal.at.returns c in λ r h w.
-    K.fits _ r _ _ (long here.Else-entries-size) (whole here.After-find-found) (gone r here.Else-found-count h) (omega (arith, c.if-count-place.false, (finds r here.After-find-found h).count)) (omega (arith, c.if-image-written.false, c.requires, w))
+    K.fits _ r _ _ (long here.Else-entries-size) (whole here.After-blocks_of-blocks) (gone r here.Else-is_some h) (omega (arith, c.if-blocks-place.false, counted r here.After-blocks_of-blocks h)) (omega (arith, c.if-image-written.false, c.requires, w))

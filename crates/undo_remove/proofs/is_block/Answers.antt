@@ -1,5 +1,5 @@
 -- `undo_remove::is_block` meets its contract: the walk says where a block ends and whether it is in written form, and eight bytes its vip.
-use mathlib.Core.Path.{◌≡◌, sym, ap, ◌∙◌}
+use mathlib.Core.Path.{◌≡◌, sym}
 use native.Mathlib.Omega.{arith}
 use Rattle.fields.specs.Parse.{ok}
 use Rattle.pod.specs.Layout.{block}

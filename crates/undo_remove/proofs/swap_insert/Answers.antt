@@ -12,7 +12,7 @@ use Rattle.image.proofs.Here as B
 use Rattle.undo_remove.specs.Insertable.{Insertable}
 use Rattle.undo_remove.proofs.Entered as E
 use Rattle.undo_remove.proofs.swap_insert.Goals as goal
-use Rattle.undo_remove.proofs.swap_insert.Goals.{After-block_end-next, After-block_offset-at, After-blocks_of-blocks, Start}
+use Rattle.undo_remove.proofs.swap_insert.Goals.{After-block_end-next, After-offset-at, After-blocks_of-blocks, Start}
 
 abbrev Comes : Start → Routine → Type 0
 Comes s r = Insertable r s.args.image.now s.args.place s.args.written s.args.block.now
@@ -20,7 +20,7 @@ Comes s r = Insertable r s.args.image.now s.args.place s.args.written s.args.blo
 -- What is known at them.
 counted : (c : After-blocks_of-blocks) (r : Routine) → Comes (goal.at.After-blocks_of-blocks c).Start r
     → (c.blocks_of-blocks.result.start ≡ blocks_start r) × (c.blocks_of-blocks.result.count ≡ length r.explored_blocks)
-counted c r l = c.blocks_of-blocks.ensures r (E.holding r _ _ _ _ l)
+counted c r l = c.blocks_of-blocks.ensures.stand r (E.holding r _ _ _ _ l)
 
 -- the count stands in the image, and one more fits it
 sure : (c : After-blocks_of-blocks)
@@ -35,8 +35,8 @@ room s = E.room s.requires.r _ _ _ _ s.requires.insertable
 
 -- the place is that of a block, which stands from `at` to `next`
 module _ (c : After-block_end-next) where
-  abbrev o : After-block_offset-at
-  o = (goal.at.After-block_end-next c).After-block_offset-at
+  abbrev o : After-offset-at
+  o = (goal.at.After-block_end-next c).After-offset-at
 
   abbrev k : After-blocks_of-blocks
   k = (goal.at.After-block_end-next c).After-blocks_of-blocks
@@ -48,10 +48,10 @@ module _ (c : After-block_end-next) where
     there : s.args.place < length r.explored_blocks
     there = omega (arith, o.if-count-place.false, (counted k r l).1)
 
-    at_is : o.block_offset-at.result ≡ block_start r s.args.place
-    at_is = o.block_offset-at.ensures r (E.holding r _ _ _ _ l) (omega (arith, there))
+    at_is : o.offset-at.result ≡ block_start r s.args.place
+    at_is = o.offset-at.ensures r (rw k.blocks_of-blocks.ensures.image (E.holding r _ _ _ _ l)) (omega (arith, there))
 
-    next-is : c.block_end-next.result ≡ o.block_offset-at.result + weight (block_at s.args.place r.explored_blocks)
+    next-is : c.block_end-next.result ≡ o.offset-at.result + weight (block_at s.args.place r.explored_blocks)
     next-is = c.block_end-next.ensures ∙ B.end-here r _ there _ (E.holding r _ _ _ _ l) _ at_is
 
     before-end : c.block_end-next.result ≤ s.args.written

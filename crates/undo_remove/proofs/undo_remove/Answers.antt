@@ -1,7 +1,6 @@
 -- `undo_remove::undo_remove` meets its contract: each answer is what taking back a removal is at the tests made so far. A state holds one routine, so
 -- that of `requires` is every one that it holds.
-use mathlib.Core.Path.{◌≡◌, sym, ◌∙◌, refl}
-use mathlib.Core.Bool.{true, false}
+use mathlib.Core.Path.{◌≡◌, refl}
 use mathlib.Core.List.{List}
 use Prim.Native.Nat.{ℕ, ◌+◌, ◌-◌, ◌≤◌, ◌<◌, ◌^◌}
 use native.Mathlib.Omega.{arith}
@@ -13,7 +12,7 @@ use Rattle.machine.specs.Charge.{block_sum}
 use Rattle.machine.specs.Book.{State, held}
 use Rattle.machine.specs.Journal as journal
 use Rattle.machine.specs.Trailer.{Trailer}
-use Rattle.book.specs.Says.{state, taking_back, refusal_of}
+use Rattle.book.specs.Says.{state, taking_back}
 use Rattle.book.specs.Holding.{Sound}
 use Rattle.fields.proofs.Numbers.{not-zero}
 use Rattle.book.proofs.Answers.{refused-by, leaves-refused}

@@ -9,8 +9,8 @@ use Rattle.walk.proofs.abandon.Goals as goal
 pub returns-in_err-inspect : goal.returns-in_err-inspect
 returns-in_err-inspect c = leaves-refused _ _ _ _ _ c.from_residual.ensures.1 (spoiled _ c.in_err-inspect.ensures _ (not-zero _))
 
-pub returns-then-book-eq-CLOSED : goal.returns-then-book-eq-CLOSED
-returns-then-book-eq-CLOSED c = not_abandoned _ c.in_ok-inspect.ensures c.type_inv.image refl c.if-book-eq-CLOSED.true
+pub returns-then-lent-eq-CLOSED : goal.returns-then-lent-eq-CLOSED
+returns-then-lent-eq-CLOSED c = not_abandoned _ c.in_ok-inspect.ensures c.args.lent.bytes refl c.if-lent-eq-CLOSED.true
 
 pub returns : goal.returns
-returns c = abandoned _ c.in_ok-inspect.ensures c.type_inv.image refl (λ z. omega (arith, c.if-book-eq-CLOSED.false))
+returns c = abandoned _ c.in_ok-inspect.ensures c.args.lent.bytes refl (λ z. omega (arith, c.if-lent-eq-CLOSED.false))

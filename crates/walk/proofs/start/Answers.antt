@@ -9,4 +9,4 @@ pub returns-in_err-inspect_unwalked : goal.returns-in_err-inspect_unwalked
 returns-in_err-inspect_unwalked c = leaves-refused _ _ _ _ _ c.from_residual.ensures.1 (not_started _ c.in_err-inspect_unwalked.ensures (not-zero _))
 
 pub returns : goal.returns
-returns c = started _ c.in_ok-inspect_unwalked.ensures c.type_inv.image refl
+returns c = started _ c.in_ok-inspect_unwalked.ensures c.args.lent.bytes refl

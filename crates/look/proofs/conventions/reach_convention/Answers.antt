@@ -4,18 +4,19 @@ use Prim.Native.Nat.{◌<◌}
 use native.Mathlib.Omega.{arith}
 use lib.ListN.{length}
 use Rattle.machine.specs.Look.{conventions}
-use Rattle.book.specs.Says.{state}
-use Rattle.image.proofs.Inspects.{Ready, ready}
+use Rattle.fields.proofs.Numbers.{not-zero}
+use Rattle.book.specs.Says.{state_of}
+use Rattle.image.proofs.Inspects.{Ready, ready, refused-by}
 use Rattle.look.proofs.Reaches.{element-no, hands_on, goes_on, comes_to}
 use Rattle.look.proofs.InConvention.{convention-stands}
 use Rattle.look.proofs.conventions.reach_convention.Goals as goal
 use Rattle.look.proofs.conventions.reach_convention.Goals.{In_ok-inspect}
 
-inspected : (c : In_ok-inspect) → let a = c.args in Ready (state a.image.now a.journal.now a.book)
-inspected c = ready _ c.type_inv.image c.in_ok-inspect.ensures refl
+inspected : (c : In_ok-inspect) → let a = c.args in Ready (state_of a.lent)
+inspected c = ready _ c.args.lent.bytes c.in_ok-inspect.ensures refl
 
 pub returns-in_err-inspect : goal.returns-in_err-inspect
-returns-in_err-inspect c = hands_on _ _ _ _ _ _ c.from_residual.ensures.1 c.in_err-inspect.ensures
+returns-in_err-inspect c = hands_on _ _ _ _ _ _ c.from_residual.ensures.1 (refused-by _ c.in_err-inspect.ensures (not-zero _))
 
 pub returns-then-special-place : goal.returns-then-special-place
 returns-then-special-place c =
