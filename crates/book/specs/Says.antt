@@ -1,6 +1,6 @@
 -- What the lent bytes and the structs say in the terms of the machine's definitions: the state that a call finds, and the answer and the state that
 -- it leaves.
-use Rattle.std.specs.Prelude.{ℕ, List, eqb, Result, Ok, Err}
+use Rattle.std.specs.Prelude.{ℕ, List, eqb, Option, Some, None, Result, Ok, Err}
 use Rattle.fields.specs.Refusals.{number}
 use Rattle.fields.specs.declared.Refusal.{Refusal}
 use Rattle.fields.specs.Outcome.{Outcome, refused, accepted, attempt}
@@ -10,12 +10,14 @@ use Rattle.pod.specs.Values.{Routine}
 use Rattle.machine.specs.Machine as machine
 use Rattle.machine.specs.Book as machine_book
 use Rattle.machine.specs.Book.{State, book_answers, restored, unopened}
+use Rattle.machine.specs.Walk as walks
 use Rattle.machine.specs.Walk.{no_part}
 use Rattle.machine.specs.CallList.{Told}
 use Rattle.book.specs.declared.Book.{Book}
 use Rattle.book.specs.declared.lent.Lent.{Lent}
 use Rattle.book.specs.declared.Answer.{Answer}
 use Rattle.book.specs.declared.WalkAnswer.{WalkAnswer}
+use Rattle.book.specs.declared.Part.{Part}
 use Rattle.book.specs.declared.HandedOut.{HandedOut}
 
 abbrev pub book_of : Book → machine_book.Book
@@ -57,9 +59,14 @@ outcome a image journal =
 abbrev pub handing : ℕ → ℕ → State → Told × State
 handing offset len s = (record { refusal = 0; part = record { offset = offset; len = len } }, s)
 
+-- a part that is handed out; where there is none, offset and length are 0
+abbrev pub part_of : Option Part → walks.Part
+part_of (Some p) = record { offset = p.offset; len = p.len }
+part_of None = no_part
+
 -- what next answers beside its book, and the state that it leaves
 abbrev pub hands : Book → Result HandedOut Refusal → List ℕ → List ℕ → Told × State
-hands b (Ok h) image journal = handing h.offset h.len (state image journal h.book)
+hands b (Ok h) image journal = (record { refusal = 0; part = part_of h.part }, state image journal h.book)
 hands b (Err e) image journal = (record { refusal = number e; part = no_part }, state image journal b)
 
 -- the same, as C sees it

@@ -1,11 +1,11 @@
-// What is lent to a call, in a file of its own, since a struct with a ghost field imports all that its file imports for clauses, and what this crate's clauses
-// import speaks of the struct.
+// What is lent to a call. A struct with a ghost field has a file of its own here: it imports every `ghost use`
+// of its file, and those of the crate's other clauses name the struct.
 ghost use Rattle.fields.specs.Bytes.{Bytes};
 
 use crate::Book;
 
-// The book and the lent image and journal, as a call finds them that writes neither of the two. A call that does takes each by itself: a struct that held them
-// to be written would have to promise, in each contract, that it keeps both references.
+// The book, the lent image and the lent journal, for a call that only reads the two. A call that writes them has three parameters: each contract of a struct with
+// a `&mut` has to promise that the reference is kept.
 #[derive(Clone, Copy)]
 pub struct Lent<'a> {
     pub book: Book,

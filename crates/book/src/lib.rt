@@ -34,13 +34,22 @@ pub struct Book {
 // What a call on a book answers: the book after it; or the refusal, and then the book stays as it was.
 pub type Answered = Result<Book, Refusal>;
 
-// An accepted next: the book after it, and the part of the image that it hands out, by its offset and length, which are both 0 at the end.
+// A part of the image.
 #[derive(Clone, Copy)]
-pub struct HandedOut {
-    pub book: Book,
+pub struct Part {
     pub offset: u64,
     pub len: u64,
 }
+
+// An accepted next: the book after it, and the part of the image that it hands out, if this is not the end.
+#[derive(Clone, Copy)]
+pub struct HandedOut {
+    pub book: Book,
+    pub part: Option<Part>,
+}
+
+// What C sees where no part is handed out.
+const NO_PART: Part = Part { offset: 0, len: 0 };
 
 // What C sees of an opening, an edit, an undo, a start or an abandon: refusal 0 with the new book, or a refusal's number with the book as handed in (of an
 // opening: a book of zeros).
@@ -103,11 +112,12 @@ impl WalkAnswer {
         match answered {
             Ok(handed) => {
                 let book = handed.book;
+                let part = handed.part.unwrap_or(NO_PART);
                 WalkAnswer {
                     refusal: 0,
                     book,
-                    offset: handed.offset,
-                    len: handed.len,
+                    offset: part.offset,
+                    len: part.len,
                 }
             }
             Err(refusal) => WalkAnswer {

@@ -82,14 +82,10 @@ fn without_part(answered: Answered) -> Result<HandedOut, Refusal>
         ≡ (told (leaves book answered image journal).0, (leaves book answered image journal).1) }
 {
     let book = answered?;
-    Ok(HandedOut {
-        book,
-        offset: 0,
-        len: 0,
-    })
+    Ok(HandedOut { book, part: None })
 }
 
-// One call, by its kind. Only next hands out a part of the image.
+// One call, by its kind, the number that C hands over: nothing else reads it, so it is no enum. Only next hands out a part of the image.
 fn call(
     book: Book,
     image: &mut [u8],

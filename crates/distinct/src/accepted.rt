@@ -1,5 +1,5 @@
-// The blocks of a file that a walk accepted before. In a file of their own, since a struct with a ghost field imports all that its file imports for clauses, and
-// what this crate's clauses import speaks of the struct.
+// The blocks of a file that a walk accepted before. A struct with a ghost field has a file of its own here: it imports every `ghost use`
+// of its file, and those of the crate's other clauses name the struct.
 ghost use Rattle.fields.specs.Bytes.{Bytes};
 
 // `count` blocks, one after the other from `start` on.

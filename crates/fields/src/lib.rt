@@ -125,8 +125,8 @@ pub fn skip(s: &[u8], at: usize, k: usize) -> Skipped
     }
 }
 
-// A number of `k` bytes, whatever the field's size. It is pub with the layouts' `uint`, of which it is the reader; here it reads the field of 2 bytes, of which
-// a file has one, and those of 1, 4 and 8 have a load each.
+// A number of `k` bytes, whatever the field's size: the reader of the layouts' `uint`. Only the field of 2 bytes is read by it here; those of 1, 4 and 8 are a load
+// each.
 pub fn uint_at(s: &[u8], at: usize, k: usize) -> Parsed<u64>
     requires { k ≤ 8 }
     ensures { of_read result ≡ uint k s.now at }

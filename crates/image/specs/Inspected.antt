@@ -20,7 +20,7 @@ pub record NextStands (s : State) (r : Routine) (x : Extent) : Type 0 where
   pub from : x.from ≡ block_start r (s.book.walk - 1)
   pub to : x.to ≡ block_start r (s.book.walk - 1 + 1)
 
--- of a state that is not spoiled: where the block stands that next hands out, if there is one
+-- of a state that is not spoiled: where the block stands that next hands out, at the place of an open walk, if there is one
 abbrev pub FindsBlock : State → Option Extent → Type 0
 FindsBlock s (Some x) = (r : Routine) → held s ≡ accepted r → NextStands s r x
 FindsBlock s None = (r : Routine) → held s ≡ accepted r → length r.explored_blocks ≤ s.book.walk - 1

@@ -1,5 +1,5 @@
-// The blocks of a lent image. In a file of their own, since a struct with a ghost field imports all that its file imports for clauses, and what this crate's clauses
-// import speaks of the struct.
+// The blocks of a lent image. A struct with a ghost field has a file of its own here: it imports every `ghost use`
+// of its file, and those of the crate's other clauses name the struct.
 ghost use Rattle.image.specs.Stand.{BlocksStand};
 
 // Where the blocks begin, and how many there are, if the image holds a routine.

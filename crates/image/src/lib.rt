@@ -58,8 +58,8 @@ fn walk_fits(image: &[u8], walk: u64) -> bool
     walk - 1 <= blocks.count as u64
 }
 
-// The test that every call on a book makes first: 10, then 13. The walk over the image passes the block that next hands out on its way: where it stands, if a walk
-// is open and there is one.
+// The test that every call on a book makes first: 10, then 13. The walk over the image passes the block at the place of an open walk on its way, which next hands
+// out: where that stands, if there is one. Where no walk is open this is not looked at.
 pub fn inspect_at(lent: Lent) -> Result<Option<Extent>, Refusal>
     ensures refusal { number_in result ≡ refusal_of (held (state_of lent.entry)) }
     ensures block { IfOk result (λ block. FindsBlock (state_of lent.entry) block) }

@@ -97,7 +97,7 @@ pub fn op_at(s: &[u8], at: usize) -> Parsed<usize>
 }
 
 // The operation of the instruction at `at`, which was accepted before. The fast way is asked here first, though `op_at` asks it too: through that alone the
-// charge takes a tenth longer. Where it does not tell, as near the end of the bytes, the name is looked for among all.
+// charge takes a tenth longer. Where it does not tell, as near the end of the bytes, the name is looked for among all. It is never refused, so 0 is never answered.
 pub fn op_of(s: &[u8], at: usize) -> usize
     ensures { (i : Instruction) (n : ℕ) → instruction s.now at ≡ ok i n → result ≡ i.op }
 {

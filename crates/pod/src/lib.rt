@@ -183,8 +183,8 @@ pub fn fast_operand(s: &[u8], at: usize) -> Option<(bool, usize)>
     Some((sound, at + 16 + 12 * (kind as usize)))
 }
 
-// `count` registers are passed over: whether every one is sound. A loop of its own beside fields::list_skip, since nothing is told of a register's written form:
-// through that each would be said to be in written form, and this be taken out of the answer again.
+// `count` registers are passed over: whether every one is sound. A loop of its own beside fields::list_skip, which also tells whether each part is in written
+// form: of a register nothing is told of that.
 fn registers_run(s: &[u8], at: usize, count: u32) -> Parsed<bool>
     ensures { of_read result ≡ judged (many register count) (every is_sound) s.now at }
 {

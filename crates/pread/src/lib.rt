@@ -129,7 +129,7 @@ pub fn convention_at(s: &[u8], at: usize) -> ConventionRead
             let param = ends::registers_end(s, at);
             let retval = ends::registers_end(s, param);
             let frame = ends::registers_end(s, retval);
-            // it was read before, by the walk over the convention: so none stands for a refusal here
+            // the walk over the convention has read it before, so it is never refused, and NO_REGISTER never answered
             let frame_register = pod::register_at(s, frame).map_or(pod::NO_REGISTER, |(x, _)| x);
             let shadow = ends::jump(s, frame, ends::SHADOW_SPACE_AT);
             let last = end - 1;

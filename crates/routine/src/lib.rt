@@ -32,8 +32,8 @@ pub struct Extent {
     pub to: usize,
 }
 
-// The blocks of a routine, or a routine, that was walked over: what was seen, the offset past it, and where the block at the place that was asked for stands, if
-// there is one.
+// The blocks of a routine, or a routine, that was walked over: what was seen, the offset past it, and where the block at the place that was asked for stands,
+// if there is one.
 #[derive(Clone, Copy, Debug, PartialEq, Eq)]
 pub struct Noted {
     pub sight: Sight,

@@ -9,7 +9,7 @@ ghost use Rattle.machine.specs.Book.{step};
 ghost use Rattle.machine.specs.CallList.{told_step};
 ghost use Rattle.book.specs.Says.{state_of, leaves, hands};
 
-use book::{Answered, Book, HandedOut, Lent};
+use book::{Answered, Book, HandedOut, Lent, Part};
 use fields::Refusal;
 
 // A walk that is open at the first place.
@@ -46,8 +46,7 @@ pub fn next(lent: Lent) -> Result<HandedOut, Refusal>
                 walk: CLOSED,
                 ..lent.book
             },
-            offset: 0,
-            len: 0,
+            part: None,
         });
     };
     Ok(HandedOut {
@@ -55,8 +54,10 @@ pub fn next(lent: Lent) -> Result<HandedOut, Refusal>
             walk: walk + 1,
             ..lent.book
         },
-        offset: block.from as u64,
-        len: (block.to - block.from) as u64,
+        part: Some(Part {
+            offset: block.from as u64,
+            len: (block.to - block.from) as u64,
+        }),
     })
 }
 

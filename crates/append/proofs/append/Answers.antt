@@ -1,4 +1,4 @@
--- `append::append` meets its contract: each answer is one law of an edit's step, with what `refusal_of_bytes` tells of the bytes, `find` of the routine
+-- `append::append` meets its contract: each answer is one law of an edit's step, with what `one_instruction` tells of the bytes, `find` of the routine
 -- held, and with what appending makes of it and of its sum.
 use mathlib.Core.Path.{◌≡◌, sym, ap, ◌∙◌, refl}
 use native.Mathlib.Omega.{arith}
