@@ -114,7 +114,7 @@ pub fn append(
         vip,
         place: found.place,
         len: size as u32,
-        kind: Edit::Append,
+        kind: u32::from(Edit::Append),
     };
     journal::put_trailer(journal, used, trailer);
     Ok(Book {

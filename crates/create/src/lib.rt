@@ -50,7 +50,7 @@ pub fn create_block(book: Book, image: &mut [u8], journal: &mut [u8], vip: Vip) 
         vip,
         place: count,
         len: 0,
-        kind: Edit::Create,
+        kind: u32::from(Edit::Create),
     };
     journal::put_trailer(journal, used, trailer);
     Ok(Book {

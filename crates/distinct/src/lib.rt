@@ -66,6 +66,7 @@ impl Blocks<'_> {
     }
 
     // Pass after pass, each from where the last one's vips end: every pass but the last settles as many vips as the buffer holds.
+    #[inline(never)]
     fn passes(&self, b: &mut [u64]) -> bool
         requires { (0 < length b.old) × TopTwice (vips_of self.now) false }
         ensures { result ≡ repeats (vips_of self.now) }

@@ -193,14 +193,12 @@ fn fast_block_end(s: &[u8], at: usize) -> Option<usize>
     Some(at + EMPTY_BLOCK_SIZE)
 }
 
-// The end of the block at `at`.
+// The end of the block at `at`, list by list. Not inlined: so the fast way, which most blocks of a search take, is a few instructions where it is used.
+#[inline(never)]
 #[tactic(auto, unfolding(crate::specs::Ends::block_end))]
-pub fn block_end(s: &[u8], at: usize) -> usize
+fn listed_block_end(s: &[u8], at: usize) -> usize
     ensures { result ≡ block_end s.now at }
 {
-    if let Some(end) = fast_block_end(s, at) {
-        return end;
-    }
     let i = jump(s, at, BLOCK_HEAD_SIZE);
     let count = word32(s, i);
     let a = jump(s, i, COUNT_SIZE);
@@ -209,7 +207,19 @@ pub fn block_end(s: &[u8], at: usize) -> usize
     vips_end(s, p)
 }
 
-// The vip and the end of the block at `at`.
+// The end of the block at `at`.
+#[inline(always)]
+pub fn block_end(s: &[u8], at: usize) -> usize
+    ensures { result ≡ block_end s.now at }
+{
+    if let Some(end) = fast_block_end(s, at) {
+        return end;
+    }
+    listed_block_end(s, at)
+}
+
+// The vip and the end of the block at `at`. Inlined into the search for repeated vips, which asks it of each block in each pass.
+#[inline(always)]
 pub fn block_at(s: &[u8], at: usize) -> PassedBlock
     ensures { (result.vip.0 ≡ word 8 s.now at) × (result.next ≡ block_end s.now at) }
 {

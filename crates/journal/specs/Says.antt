@@ -1,6 +1,5 @@
 -- What a trailer struct says in the terms of the machine's definitions.
-use Rattle.std.specs.Prelude.{◌≡◌, ℕ, ◌+◌, List}
-use Rattle.fields.specs.Parse.{ok}
+use Rattle.std.specs.Prelude.{◌≡◌, ℕ}
 use Rattle.machine.specs.Trailer as machine
 pub use Rattle.machine.specs.Trailer.{trailer_with}
 use Rattle.journal.specs.declared.Edit.{Edit}
@@ -14,7 +13,7 @@ kind_of edit.Remove = 2
 kind_of edit.Append = 3
 
 abbrev pub trailer_of : Trailer → machine.Trailer
-trailer_of t = trailer_with t.vip.0 t.place t.len (kind_of t.kind)
+trailer_of t = trailer_with t.vip.0 t.place t.len t.kind
 
 -- a number is that of the edit, or of none
 abbrev pub IsOf : ℕ → Edit → Type 0
@@ -22,7 +21,3 @@ IsOf kind e = kind ≡ kind_of e
 
 abbrev pub IsOfNone : ℕ → Type 0
 IsOfNone kind = (e : Edit) → IsOf kind e → ⊥
-
--- the trailer at that place has the number of no edit
-abbrev pub ReadsNone : List ℕ → ℕ → Type 0
-ReadsNone journal at = (t : machine.Trailer) × ((machine.trailer journal at ≡ ok t (at + 20)) × IsOfNone t.kind)

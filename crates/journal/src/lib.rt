@@ -8,7 +8,7 @@ ghost use Rattle.std.specs.Prelude.{◌≡◌, ◌+◌, ◌-◌, ◌≤◌, leng
 ghost use Rattle.machine.specs.Trailer.{trailer, trailer_bytes};
 ghost use Rattle.fields.specs.Parse.{ok};
 ghost use Rattle.fields.specs.Bytes.{put, zeros};
-ghost use Rattle.journal.specs.Says.{kind_of, trailer_of, IsOf, IsOfNone, ReadsNone};
+ghost use Rattle.journal.specs.Says.{kind_of, trailer_of, IsOf, IsOfNone};
 
 use pod::Vip;
 
@@ -28,13 +28,14 @@ impl From<Edit> for u32 {
     }
 }
 
-// `place` is the block's, and `len` the size of what was removed or appended; 0 at a create.
+// `place` is the block's, and `len` the size of what was removed or appended; 0 at a create. `kind` is an edit's number; of a journal that somebody else wrote it
+// may be any.
 #[derive(Clone, Copy)]
 pub struct Trailer {
     pub vip: Vip,
     pub place: u32,
     pub len: u32,
-    pub kind: Edit,
+    pub kind: u32,
 }
 
 // The bytes of a trailer.
@@ -47,11 +48,11 @@ pub fn put_trailer(journal: &mut [u8], at: usize, trailer: Trailer)
     buffer::put_u64(journal, at, trailer.vip.0);
     buffer::put_u32(journal, at + 8, trailer.place);
     buffer::put_u32(journal, at + 12, trailer.len);
-    buffer::put_u32(journal, at + 16, u32::from(trailer.kind));
+    buffer::put_u32(journal, at + 16, trailer.kind);
 }
 
-// The edit whose number stands in a trailer.
-fn edit_of(kind: u32) -> Option<Edit>
+// The edit whose number a trailer's kind is, if it is one's.
+pub fn edit_of(kind: u32) -> Option<Edit>
     ensures { MatchOption result (IsOfNone kind) (IsOf kind) }
 {
     match kind {
@@ -62,22 +63,20 @@ fn edit_of(kind: u32) -> Option<Edit>
     }
 }
 
-// None where the kind is none of the three.
-pub fn read_trailer(journal: &[u8], at: usize) -> Option<Trailer>
+pub fn read_trailer(journal: &[u8], at: usize) -> Trailer
     requires { at + 20 ≤ length journal.now }
-    ensures { MatchOption result (ReadsNone journal.now at) (λ t. trailer journal.now at ≡ ok (trailer_of t) (at + 20)) }
+    ensures { trailer journal.now at ≡ ok (trailer_of result) (at + 20) }
 {
     let vip = Vip(fields::eight(journal, at));
     let place = fields::four(journal, at + 8) as u32;
     let len = fields::four(journal, at + 12) as u32;
     let kind = fields::four(journal, at + 16) as u32;
-    let kind = edit_of(kind)?;
-    Some(Trailer {
+    Trailer {
         vip,
         place,
         len,
         kind,
-    })
+    }
 }
 
 // The trailer at the end of the used part becomes zeros. Answers how much is used before it.

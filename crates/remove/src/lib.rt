@@ -56,7 +56,7 @@ fn put_entry(journal: &mut [u8], used: usize, block: &[u8], vip: Vip, place: u32
         vip,
         place,
         len: size as u32,
-        kind: Edit::Remove,
+        kind: u32::from(Edit::Remove),
     };
     journal::put_trailer(journal, end, trailer);
 }

@@ -25,10 +25,11 @@ pub fn undo(book: Book, image: &mut [u8], journal: &mut [u8]) -> Answered
     if used < journal::TRAILER_SIZE {
         return Err(Refusal::SpoiledBook);
     }
-    let Some(last) = journal::read_trailer(journal, used - journal::TRAILER_SIZE) else {
+    let last = journal::read_trailer(journal, used - journal::TRAILER_SIZE);
+    let Some(edit) = journal::edit_of(last.kind) else {
         return Err(Refusal::SpoiledBook);
     };
-    match last.kind {
+    match edit {
         Edit::Create => undo_create::undo_create(book, image, journal, last),
         Edit::Remove => undo_remove::undo_remove(book, image, journal, last),
         Edit::Append => undo_append::undo_append(book, image, journal, last),

@@ -209,6 +209,7 @@ returns c =
     (admitted_step (S here.Start) (R here.Start) c.requires.sound (E here.Start) (free here.Start) (R' here.After-admit) (made here.After-admit) (grown here.After-admit) (spent here.After-admit) c.in_ok-admit.ensures refl (sum_carried here.After-sum_of_instruction-more (rw (← sum.0) sum.1))
     (c.insert_instruction.ensures (R here.Start) (I here.Start) (Y here.After-admit) (target here.After-last_instruction-last))
     (c.put_trailer.ensures
+    ∙ ap (λ k. put c.args.book.used (trailer_bytes (trailer_with v c.in-Some.found.place (length c.args.instruction.now) k)) c.args.journal.now) c.from.ensures
     ∙ ap (λ j. put c.args.book.used (trailer_bytes (trailer_with v j (length c.args.instruction.now) 3)) c.args.journal.now) (finds here.In-Some).place
     ∙ ap (λ e. put c.args.book.used e c.args.journal.now) (sym (entry-is (R here.Start) v c.args.instruction.now (Y here.After-admit)))))
 

@@ -97,4 +97,6 @@ returns c =
     let here = goal.at.returns c in
     admitted_step (S here.Start) (R here.Start) c.requires.sound (E here.Start) (free here.Start) (R' here.Start) (made here.Else-is_some) (grown here.Start) (spent here.Start) c.in_ok-admit.ensures refl (sum_stays here.Start)
     (c.add_block.ensures (R here.Start) (sound-filled c.requires.sound))
-    (c.put_trailer.ensures ∙ ap (λ n. put c.args.book.used (trailer_bytes (trailer_with c.args.vip.0 n 0 1)) c.args.journal.now) (counted here.After-blocks_of-blocks))
+    (c.put_trailer.ensures
+    ∙ ap (λ k. put c.args.book.used (trailer_bytes (trailer_with c.args.vip.0 c.blocks_of-blocks.result.count 0 k)) c.args.journal.now) c.from.ensures
+    ∙ ap (λ n. put c.args.book.used (trailer_bytes (trailer_with c.args.vip.0 n 0 1)) c.args.journal.now) (counted here.After-blocks_of-blocks))

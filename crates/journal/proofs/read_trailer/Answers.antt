@@ -1,8 +1,7 @@
 -- `journal::read_trailer` meets its contract: each field is the number that stands there, and four bytes hold less than 2^32.
-use mathlib.Core.Path.{◌∙◌}
 use Rattle.fields.specs.Bytes.{Bytes}
 use Rattle.fields.proofs.Le.{le_lt}
-use Rattle.journal.proofs.Trailers.{fields_at, trailer-at}
+use Rattle.journal.proofs.Trailers.{trailer-at}
 use Rattle.journal.proofs.read_trailer.Goals as goal
 use Rattle.journal.proofs.read_trailer.Goals.{After-eight}
 
@@ -18,10 +17,5 @@ overflow_cast-len c = record { fits = rw c.four-len.ensures (le_lt 4 _ _ (octets
 pub overflow_cast-kind : goal.overflow_cast-kind
 overflow_cast-kind c = record { fits = rw c.four-kind.ensures (le_lt 4 _ _ (octets (goal.at.overflow_cast-kind c).After-eight)) }
 
-pub returns-in_err-kind : goal.returns-in_err-kind
-returns-in_err-kind c =
-    rw c.from_residual.ensures (fields_at c.args.journal.now c.args.at, (trailer-at c.args.journal.now c.args.at c.requires, λ e q. c.in_err-kind.ensures e (c.four-kind.ensures ∙ q)))
-
 pub returns : goal.returns
-returns c =
-    cc (trailer-at c.args.journal.now c.args.at c.requires, c.in_ok-kind.ensures)
+returns c = cc (trailer-at c.args.journal.now c.args.at c.requires)

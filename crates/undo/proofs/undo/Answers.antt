@@ -1,20 +1,18 @@
 -- `undo::undo` meets its contract: the state holds a routine, and each answer is what taking back is at the tests made so far and the kind read.
-use mathlib.Core.Path.{◌≡◌, ap, ◌∙◌, refl}
+use mathlib.Core.Path.{◌≡◌, ap, ◌∙◌}
 use native.Mathlib.Omega.{arith}
-use Prim.Native.Nat.{◌+◌, ◌-◌, ◌≤◌, ◌<◌}
+use Prim.Native.Nat.{◌≤◌, ◌<◌}
 use Rattle.fields.specs.Outcome.{accepted}
 use Rattle.pod.specs.Values.{Routine}
-use Rattle.fields.specs.Parse.{ok}
-use Rattle.machine.specs.Trailer.{Trailer, trailer}
 use Rattle.machine.specs.Book.{State, held}
 use Rattle.machine.proofs.Held.{sound-held}
 use Rattle.book.specs.Says.{state}
 use Rattle.book.specs.Holding.{Sound}
-use Rattle.journal.specs.Says.{kind_of}
+use Rattle.journal.specs.Says.{kind_of, trailer_of}
 use Rattle.journal.specs.declared.Edit.TheVariants as edit
 use Rattle.undo.proofs.Entry as K
 use Rattle.undo.proofs.undo.Goals as goal
-use Rattle.undo.proofs.undo.Goals.{Else-used-eq0, Else-used-lt-TRAILER_SIZE, Start}
+use Rattle.undo.proofs.undo.Goals.{After-read_trailer-last, Else-used-eq0, Else-used-lt-TRAILER_SIZE, Start}
 
 -- the state at entry, and the routine that it holds
 module _ (s : Start) where
@@ -37,9 +35,8 @@ some c = omega (arith, c.if-used-eq0.false)
 enough : (c : Else-used-lt-TRAILER_SIZE) → 20 ≤ c.args.book.used
 enough c = omega (arith, c.if-used-lt-TRAILER_SIZE.false)
 
-last : (c : Else-used-lt-TRAILER_SIZE) {t : Trailer} → trailer c.args.journal.now (c.args.book.used - 20) ≡ ok t (c.args.book.used - 20 + 20)
-    → K.Last (S (goal.at.Else-used-lt-TRAILER_SIZE c).Start) (R (goal.at.Else-used-lt-TRAILER_SIZE c).Start) t
-last c e = let here = goal.at.Else-used-lt-TRAILER_SIZE c in record { sound = sound here.Start; none_open = c.requires.none_open; enough = enough c; is = e }
+last : (c : After-read_trailer-last) → K.Last (S (goal.at.After-read_trailer-last c).Start) (R (goal.at.After-read_trailer-last c).Start) (trailer_of c.read_trailer-last.result)
+last c = let here = goal.at.After-read_trailer-last c in record { sound = sound here.Start; none_open = c.requires.none_open; enough = enough here.Else-used-lt-TRAILER_SIZE; is = c.read_trailer-last.ensures }
 
 pub returns-then-used-eq0 : goal.returns-then-used-eq0
 returns-then-used-eq0 c = let here = goal.at.returns-then-used-eq0 c in K.nothing (S here.Start) (R here.Start) (sound here.Start) c.requires.none_open (omega (arith, c.if-used-eq0.true))
@@ -52,19 +49,19 @@ returns-then-used-lt-TRAILER_SIZE c =
 pub returns-in-Create : goal.returns-in-Create
 returns-in-Create c =
     let here = goal.at.returns-in-Create c in
-    c.undo_create.ensures (R here.Start) (holds here.Start) ∙ K.was_created (last here.Else-used-lt-TRAILER_SIZE c.in-Some.ensures) (ap kind_of c.in-Create.is)
+    c.undo_create.ensures (R here.Start) (holds here.Start) ∙ K.was_created (last here.After-read_trailer-last) (c.in-Some.ensures ∙ ap kind_of c.in-Create.is)
 
 pub returns-in-Remove : goal.returns-in-Remove
 returns-in-Remove c =
     let here = goal.at.returns-in-Remove c in
-    c.undo_remove.ensures (R here.Start) (holds here.Start) ∙ K.was_removed (last here.Else-used-lt-TRAILER_SIZE c.in-Some.ensures) (ap kind_of c.in-Remove.is)
+    c.undo_remove.ensures (R here.Start) (holds here.Start) ∙ K.was_removed (last here.After-read_trailer-last) (c.in-Some.ensures ∙ ap kind_of c.in-Remove.is)
 
 pub returns-in-Append : goal.returns-in-Append
 returns-in-Append c =
     let here = goal.at.returns-in-Append c in
-    c.undo_append.ensures (R here.Start) (holds here.Start) ∙ K.was_appended (last here.Else-used-lt-TRAILER_SIZE c.in-Some.ensures) (ap kind_of c.in-Append.is)
+    c.undo_append.ensures (R here.Start) (holds here.Start) ∙ K.was_appended (last here.After-read_trailer-last) (c.in-Some.ensures ∙ ap kind_of c.in-Append.is)
 
 pub returns-in_default : goal.returns-in_default
 returns-in_default c =
     let none = c.in_default.ensures in
-    K.other_kind (last (goal.at.returns-in_default c).Else-used-lt-TRAILER_SIZE none.1.0) (none.1.1 edit.Create) (none.1.1 edit.Remove) (none.1.1 edit.Append)
+    K.other_kind (last (goal.at.returns-in_default c).After-read_trailer-last) (none edit.Create) (none edit.Remove) (none edit.Append)
