@@ -66,7 +66,6 @@ impl Blocks<'_> {
     }
 
     // Pass after pass, each from where the last one's vips end: every pass but the last settles as many vips as the buffer holds.
-    #[inline(never)]
     fn passes(&self, b: &mut [u64]) -> bool
         requires { (0 < length b.old) × TopTwice (vips_of self.now) false }
         ensures { result ≡ repeats (vips_of self.now) }
@@ -103,7 +102,9 @@ impl Blocks<'_> {
     }
 }
 
-// Whether two of the `count` blocks from `start` share a vip. It says so of blocks that a walk accepted; of other bytes it says nothing.
+// Whether two of the `count` blocks from `start` share a vip. It says so of blocks that a walk accepted; of other bytes it says nothing. Not inlined: in the
+// walk over the blocks, which asks it only where vips do not rise, the two would share the registers, and both be slower.
+#[inline(never)]
 pub fn has_repeat(s: &[u8], start: usize, count: u32) -> bool
     ensures { (bs : List BasicBlock) (end : ℕ) → many block count s.now start ≡ ok bs end → result ≡ repeats (vips bs) }
 {

@@ -19,9 +19,9 @@ const TAIL_SIZE: usize = 21;
 // Why operands, or an instruction, are refused, and whether every register before the fault is sound. So it also says what append is refused, which asks a
 // register as soon as it has been read.
 #[derive(Clone, Copy, Debug, PartialEq, Eq)]
-struct Fault {
-    refusal: Refusal,
-    sound: bool,
+pub struct Fault {
+    pub refusal: Refusal,
+    pub sound: bool,
 }
 
 // A fault before the first register.
@@ -37,7 +37,7 @@ impl From<Refusal> for Fault {
 }
 
 // What is answered of operands, or of an instruction, that are passed over: whether every register is sound, and the offset past them; or the fault.
-type Asked = Result<(bool, usize), Fault>;
+pub type Asked = Result<(bool, usize), Fault>;
 
 // The operation with the name `name`, whose operand count stands at `at`.
 #[tactic(auto, unfolding(fields::specs::Parse::bind, fields::specs::Lists::choose, pod::specs::Layout::named))]
@@ -141,8 +141,8 @@ fn tail_past(s: &[u8], at: usize, sound: bool) -> Asked
     }
 }
 
-// The instruction at `at` is passed over, field by field.
-fn instruction_past(s: &[u8], at: usize) -> Asked
+// The instruction at `at` is passed over, field by field. It says both what a walk refuses and what append does.
+pub fn instruction_past(s: &[u8], at: usize) -> Asked
     ensures plain { of_asked result ≡ span (instruction s.now at) }
     ensures asked { when_asked result ≡ span (appended s.now at) }
 {
