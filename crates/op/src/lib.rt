@@ -307,6 +307,18 @@ fn bits_of(v: u64, n: usize) -> u64
     32 * (n as u64) + f * 55733 / 0x1_0000 % 32
 }
 
+// The code of the entry `found` where its key is the number `v`. Only an entry for names as long, of `n` bytes, may be asked.
+fn code_of(found: Slot, v: u64, n: usize) -> Option<u64>
+    requires { Entry n (bits n v) found }
+    ensures { IfSome result (λ code. (found.key ≡ v) × (found.code ≡ code)) }
+{
+    if found.key == v {
+        Some(found.code)
+    } else {
+        None
+    }
+}
+
 // Of the operation whose name is the lowest `n` bytes of `word`: its operand count and four times its number, where the table tells. It is pub for the fast
 // ways over an instruction, which have loaded the word. It is given no slice, so that a call costs little.
 pub fn fast_lookup(word: u64, n: usize) -> Option<u64>
@@ -316,12 +328,7 @@ pub fn fast_lookup(word: u64, n: usize) -> Option<u64>
         return None;
     }
     let v = low(word, n);
-    let found = slot_of(bits_of(v, n));
-    if found.key == v {
-        Some(found.code)
-    } else {
-        None
-    }
+    code_of(slot_of(bits_of(v, n)), v, n)
 }
 
 // Whether the bytes are well-formed UTF-8.

@@ -1,7 +1,8 @@
 -- The fast lookup: where the entry found has the name's own key, it is that of the name.
 use native.Mathlib.Omega.{arith}
-use mathlib.Core.Path.{◌≡◌, ap, subst, ◌∙◌}
+use mathlib.Core.Path.{◌≡◌, ap, subst, ◌∙◌, sym}
 use Prim.Native.Nat.{ℕ, ◌*◌, ◌/◌, ◌%◌, ◌^◌, ◌≤◌, ◌<◌}
+use Rattle.std.specs.Prelude.{IfSome, Option, None, Some}
 use Rattle.fields.specs.Parse.{le}
 use Rattle.op.specs.Packed.{bits, Entry}
 use Rattle.op.specs.declared.Slot.{Slot}
@@ -20,13 +21,22 @@ small c = omega (arith, c.low-v.ensures, low_below c.args.word c.args.n (short c
 at_bits : (n v h : ℕ) (r : Slot) → h ≡ bits n v → Entry (h / 32) h r → Entry n (bits n v) r
 at_bits n v h r e x = subst (λ k. Entry k (bits n v) r) (bits-long n v) (rw e at x)
 
+-- what holds of each code that may be answered, holds of the one that is
+told : (P Q : ℕ → Type 0) → ((n : ℕ) → P n → Q n) → (r : Option ℕ) → IfSome r P → IfSome r Q
+told P Q f None p = p
+told P Q f (Some n) p = f n p
+
 pub bits_of-requires : goal.bits_of-requires
 bits_of-requires c = (small c, omega (arith, short c))
 
-pub returns-then-found-v : goal.returns-then-found-v
-returns-then-found-v c s o b l e =
+pub code_of-requires : goal.code_of-requires
+code_of-requires c = at_bits _ _ _ _ c.bits_of.ensures c.slot_of.ensures
+
+pub returns : goal.returns
+returns c =
+    let here = (goal.at.returns c).After-low-v in
+    told _ _ (λ code q s o b l e.
     let n = c.args.n in
-    let here = (goal.at.returns-then-found-v c).After-low-v in
     let cut : c.low-v.result ≡ le 8 s o % 2 ^ (8 * n) = c.low-v.ensures ∙ ap (λ v. v % 2 ^ (8 * n)) e in
-    known s o n (bits n c.low-v.result) c.slot_of-found.result b l (short here) (c.if-found-v.true ∙ cut)
-    (at_bits _ _ _ _ c.bits_of.ensures c.slot_of-found.ensures)
+    rw (sym q.1) (known s o n (bits n c.low-v.result) c.slot_of.result b l (short here) (q.0 ∙ cut) (at_bits _ _ _ _ c.bits_of.ensures c.slot_of.ensures)))
+    c.code_of.result c.code_of.ensures
