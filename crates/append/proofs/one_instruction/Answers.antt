@@ -3,6 +3,8 @@ use Rattle.std.proofs.Common.{arith}
 use Rattle.append.proofs.Appends.{unread-exit, too_long, all_read}
 use Rattle.append.proofs.one_instruction.Goals as goal
 
+-- The `?` hands on what reading refuses, a crooked register among it; then the bytes are an instruction,
+-- and what is left is whether others come after it.
 pub returns-in_err-end : goal.returns-in_err-end
 returns-in_err-end c = unread-exit _ _ _ c.from_residual.ensures.1 c.in_err-end.ensures
 
