@@ -69,8 +69,6 @@ pub fn abandon(lent: Lent) -> Answered
     if lent.book.walk == CLOSED {
         return Err(Refusal::NoWalk);
     }
-    Ok(Book {
-        walk: CLOSED,
-        ..lent.book
-    })
+    let walk = CLOSED;
+    Ok(Book { walk, ..lent.book })
 }
