@@ -45,7 +45,7 @@ returns-in_err-inspect c =
 pub returns-then-copy-written : goal.returns-then-copy-written
 returns-then-copy-written c =
     let here = goal.at.returns-then-copy-written c in
-    let r = inspected here.In_ok-inspect in
+    let r = inspected (goal.at.returns-then-copy-written c).In_ok-inspect in
     sym (no_room (S here.Start) (C here.Start) (lent here.Else-not-is_lent) r.is (omega (arith, c.if-copy-written.true, r.sound.written)))
 
 pub put_masked-requires : goal.put_masked-requires
@@ -56,6 +56,6 @@ put_masked-requires c =
 pub returns : goal.returns
 returns c =
     let here = goal.at.returns c in
-    let r = inspected here.In_ok-inspect in
+    let r = inspected (goal.at.returns c).In_ok-inspect in
     ap₂ (λ (n : ℕ) (l : List ℕ). (accepted n, l)) r.sound.written (c.put_masked.ensures r.routine (sound-filled r.sound))
     ∙ sym (copied (S here.Start) (C here.Start) (lent here.Else-not-is_lent) r.is (omega (arith, c.if-copy-written.false, r.sound.written)))
