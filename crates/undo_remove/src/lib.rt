@@ -103,7 +103,9 @@ pub fn undo_remove(book: Book, image: &mut [u8], journal: &mut [u8], last: Trail
     let written = book.written as usize;
     let used = book.used as usize;
     let before = used - journal::TRAILER_SIZE;
-    entry_fits(image, written, &journal[..before], last)?;
+    // named, so that the goals are named for it and not for the call
+    let fits = entry_fits(image, written, &journal[..before], last);
+    fits?;
     let size = last.len as usize;
     let from = before - size;
     let more = charge::sum_of_block(&journal[from..before], 0, book.rates);
