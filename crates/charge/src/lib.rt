@@ -140,7 +140,9 @@ fn cents_of(sum: u64) -> u64
 fn charge_in_cents(lent: Lent, rates: Rates) -> Result<u64, Refusal>
     ensures { of_result result ≡ look_charge rates.rate (state_of lent.entry) }
 {
-    image::inspect(lent)?;
+    // named, so that the goals are named for it and not for the call
+    let held = image::inspect(lent);
+    held?;
     let mut table = [0; 49];
     fill(&mut table, rates);
     let blocks = image::blocks_of(lent.image);
