@@ -1,7 +1,8 @@
 // A list of calls, run on a book that is there, or on a file from its opening on.
 #![tactic(auto)]
 
-ghost use Rattle.std.specs.Prelude.{◌≡◌, ◌≤◌, true, List, ℕ, length, slice_index};
+ghost use Rattle.std.specs.Prelude.{◌≡◌, ◌≤◌, ◌/◌, true, List, ℕ, length, slice_index};
+ghost use Rattle.std.specs.Simd.{first_chunks};
 ghost use Rattle.book.specs.Says.{state, walk_outcome, leaves, hands};
 ghost use Rattle.book.specs.declared.Book.{Book as Prior};
 ghost use Rattle.machine.specs.CallList.{is_call_list, call_of, call_at, calls, told, told_step, nothing_told, ran, run_on};
@@ -143,6 +144,14 @@ fn call_in(
     )
 }
 
+// The words of the calls of a list: four for each call, from the first call to the last.
+fn words_of_calls(words: &[u64]) -> &[[u64; 4]]
+    ensures number { length result.now ≡ length words.now / 4 }
+    ensures fours { result.now ≡ first_chunks 4 (length words.now / 4) words.now }
+{
+    words.as_chunks::<4>().0
+}
+
 // The calls of a list on a book, each with the book that the one before it answered. What the last call answers tells of any call of a list: it is that of
 // the list that ends there. Every call inspects image and book anew; no other work grows with the list's length.
 fn run_calls(
@@ -155,7 +164,7 @@ fn run_calls(
     requires { is_call_list words.now bytes.now ≡ true }
     ensures { walk_outcome result image.new journal.new ≡ ran nothing_told (calls words.now bytes.now) (state image.old journal.old book) }
 {
-    let (calls, _) = words.as_chunks::<4>();
+    let calls = words_of_calls(words);
     let mut last = WalkAnswer {
         refusal: 0,
         book,
