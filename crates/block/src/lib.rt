@@ -58,8 +58,10 @@ fn is_bare(s: &[u8], at: usize) -> bool
         && fields::four(s, at + HEAD_SIZE + 8) == 0
 }
 
-// The block at `at` is walked over. A block without lists is passed at once: in a file of such blocks the calls below would be most of the time. Vips are
-// written as they are read and are no registers, so what was seen of the instructions is seen of the block.
+// The block at `at` is walked over. A block without lists is passed at once: in a file of such blocks the calls below would be most of the time. Inlined, so
+// that it is passed without a call in the run over a routine's blocks, which every call on a book makes. Vips are written as they are read and are no
+// registers, so what was seen of the instructions is seen of the block.
+#[inline(always)]
 #[tactic(auto, unfolding(fields::specs::Parse::bind))]
 pub fn block_skip(s: &[u8], at: usize) -> Parsed<Sight>
     ensures { of_read result ≡ walked block block_bytes block_sound s.now at }
